@@ -91,7 +91,10 @@ fn ends_far(word: Option<u32>) -> bool
 
 /// The fault of a line that needs the whole layout, where the areas of the source were laid out so.
 pub fn late_kind(what: &What, stand: Stand, pools: &[LaidPools]) -> Option<LineKind>
-    ensures { (all before rest : List LaidLine) (l : LaidLine) → late.AreWhole all pools.now → late.IsStand all before rest l what.now stand → result ≡ told_kind (layout.entry_kinds l.area l all ++ layout.literal_kinds l.area (taken l.extent) (pieces_of (l ∷ before)) (pieces_of rest)) }
+    ensures { (all before rest : List LaidLine) (l : LaidLine) → late.AreWhole all pools.now
+        → late.IsStand all before rest l what.now stand → result
+        ≡ told_kind (layout.entry_kinds l.area l all ++ layout.literal_kinds l.area
+        (taken l.extent) (pieces_of (l ∷ before)) (pieces_of rest)) }
 {
     literals_are_placed();
     match stand.area {

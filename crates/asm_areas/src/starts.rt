@@ -122,7 +122,8 @@ impl Starts {
         thumb: bool,
         exponent: Result<u32, LineKind>,
     ) -> Result<(), NoMemory>
-        ensures { OnOk result (IsSmall exponent → self.new ≡ self.old ++ begun name.now attributes.now thumb exponent ∷ []) }
+        ensures { OnOk result (IsSmall exponent → self.new
+            ≡ self.old ++ begun name.now attributes.now thumb exponent ∷ []) }
     {
         let name = name.try_clone(self.alloc)?;
         let attributes = attributes_word(attributes, or_two(exponent), thumb);
@@ -139,7 +140,8 @@ impl Starts {
         thumb: bool,
         exponent: Result<u32, LineKind>,
     ) -> Result<(), NoMemory>
-        ensures { OnOk result (IsSmall exponent → self.new ≡ with_area name.now attributes.now area thumb exponent self.old) }
+        ensures { OnOk result (IsSmall exponent → self.new
+            ≡ with_area name.now attributes.now area thumb exponent self.old) }
     {
         if self.is_next(area) {
             return self.begin(name, attributes, thumb, exponent);
@@ -156,7 +158,10 @@ impl Starts {
         thumb_area: bool,
         exponent: Result<u32, LineKind>,
     ) -> Result<(), NoMemory>
-        ensures { OnOk result ((all : List Statement) (l : LaidLine) (before : List LaidLine) → AreStarts all before self.old → IsLineOf all what.now area thumb_area exponent l before → AreStarts all (l ∷ before) self.new) }
+        ensures { OnOk result ((all : List Statement) (l : LaidLine) (before : List LaidLine)
+            → AreStarts all before self.old
+            → IsLineOf all what.now area thumb_area exponent l before
+            → AreStarts all (l ∷ before) self.new) }
     {
         match what {
             What::Directive(DirectiveLine::Area { name, attributes }) => {

@@ -41,7 +41,8 @@ impl States {
 
     /// Notes the state of an instruction, which counts where it is its area's first.
     fn run(&mut self, area: u32, thumb: bool) -> Result<(), NoMemory>
-        ensures { OnOk result ((k : ℕ) → state_in self.new k ≡ or_else (state_in self.old k) (if nat_eq area k then Some thumb else None)) }
+        ensures { OnOk result ((k : ℕ) → state_in self.new k
+            ≡ or_else (state_in self.old k) (if nat_eq area k then Some thumb else None)) }
     {
         if self.first.get(&area).is_none() {
             self.first.insert(area, thumb)?;
@@ -51,7 +52,9 @@ impl States {
 
     /// Notes a statement more, by its area and its state.
     pub fn note(&mut self, what: &What, area: Option<u32>, thumb: bool) -> Result<(), NoMemory>
-        ensures { OnOk result ((s : Statement) (before : List Statement) → AreStates before self.old → s.what ≡ what.now → before_of.area_behind (s ∷ before) ≡ area → before_of.thumb_behind before ≡ thumb → AreStates (s ∷ before) self.new) }
+        ensures { OnOk result ((s : Statement) (before : List Statement)
+            → AreStates before self.old → s.what ≡ what.now → before_of.area_behind (s ∷ before)
+            ≡ area → before_of.thumb_behind before ≡ thumb → AreStates (s ∷ before) self.new) }
     {
         if !is_instruction(what) {
             return Ok(());
@@ -64,7 +67,8 @@ impl States {
 
     /// Whether an area is one of Thumb code.
     pub fn is_thumb(&self, area: Option<u32>) -> bool
-        ensures { (all : List Statement) → AreStates all self.now → result ≡ layout.in_thumb_area area all }
+        ensures { (all : List Statement) → AreStates all self.now → result
+            ≡ layout.in_thumb_area area all }
     {
         match area {
             None => false,

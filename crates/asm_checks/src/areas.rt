@@ -145,7 +145,10 @@ fn named_kind(
     attributes: &AreaAttributes,
     exponent: Result<u32, LineKind>,
 ) -> Result<Option<LineKind>, NoMemory>
-    ensures told { IfOk result (λ told. told ≡ told_kind (layout.exponent_kinds exponent ++ layout.kind_if (areas_of.is_otherwise attributes.now exponent (areas_of.marks_in areas.old name.now)) BadOperand)) }
+    ensures told { IfOk result (λ told. told
+        ≡ told_kind (layout.exponent_kinds exponent ++ layout.kind_if
+        (areas_of.is_otherwise attributes.now exponent
+        (areas_of.marks_in areas.old name.now)) BadOperand)) }
     ensures noted { OnOk result (IsNoted name.now attributes.now exponent areas.old areas.new) }
 {
     let otherwise = is_otherwise(attributes, exponent, marks_in(areas, name));
@@ -163,8 +166,12 @@ pub fn area_kind(
     what: &What,
     exponent: Result<u32, LineKind>,
 ) -> Result<Option<LineKind>, NoMemory>
-    ensures told { IfOk result (λ told. (s : Names) (before : List LaidLine) → AreAreasOf before areas.old → IsExponent s what.now exponent → told ≡ told_kind (layout.area_kinds s what.now before)) }
-    ensures noted { IfOk result (λ told. (l : LaidLine) (before : List LaidLine) → AreAreasOf before areas.old → l.statement.what ≡ what.now → IsExponent l.seen what.now exponent → told ≡ None → AreAreasOf (l ∷ before) areas.new) }
+    ensures told { IfOk result (λ told. (s : Names) (before : List LaidLine)
+        → AreAreasOf before areas.old → IsExponent s what.now exponent → told
+        ≡ told_kind (layout.area_kinds s what.now before)) }
+    ensures noted { IfOk result (λ told. (l : LaidLine) (before : List LaidLine)
+        → AreAreasOf before areas.old → l.statement.what ≡ what.now
+        → IsExponent l.seen what.now exponent → told ≡ None → AreAreasOf (l ∷ before) areas.new) }
 {
     match what {
         What::Directive(DirectiveLine::Area { name, attributes }) => {

@@ -35,7 +35,9 @@ pub struct Checks {
 
 /// The fault of a name for an expression that depends on itself, or on one that does.
 fn circular_kind(circular: bool) -> Option<LineKind>
-    ensures { (settled : List (List ℕ)) (equals : List (List ℕ × Expr)) → IsCircular settled equals circular → result ≡ told_kind (layout.settled_kinds settled equals) }
+    ensures { (settled : List (List ℕ)) (equals : List (List ℕ × Expr))
+        → IsCircular settled equals circular → result
+        ≡ told_kind (layout.settled_kinds settled equals) }
 {
     kind_if(circular, LineKind::Forward)
 }
@@ -90,8 +92,10 @@ impl Checks {
         exponent: Result<u32, LineKind>,
         circular: bool,
     ) -> Result<Option<LineKind>, NoMemory>
-        ensures told { IfOk result (λ told. Tells (IsLine statement.now area thumb thumb_area exponent circular) self.old told) }
-        ensures behind { IfOk result (λ told. Keeps (IsLine statement.now area thumb thumb_area exponent circular) self.old self.new told) }
+        ensures told { IfOk result
+            (λ told. Tells (IsLine statement.now area thumb thumb_area exponent circular) self.old told) }
+        ensures behind { IfOk result
+            (λ told. Keeps (IsLine statement.now area thumb thumb_area exponent circular) self.old self.new told) }
     {
         self.contents = contents_from(&statement.what, self.contents);
         let here = first_told(

@@ -30,7 +30,8 @@ pub fn has_place(statement: &Statement) -> bool
 
 /// The name that a statement defines.
 pub fn own_name(statement: &Statement) -> Option<&Text>
-    ensures { layout.listed (option_copied result) ≡ layout.own_name (defined.defined_by statement.now) }
+    ensures { layout.listed (option_copied result)
+        ≡ layout.own_name (defined.defined_by statement.now) }
 {
     match (&statement.label, &statement.what) {
         (None, _) => None,

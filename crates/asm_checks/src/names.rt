@@ -24,8 +24,10 @@ fn was_there(alloc: Global, names: &mut NameSet, name: &Text) -> Result<bool, No
 
 /// Whether a name is in the set, where there is a name; from now on it is.
 fn is_again(alloc: Global, names: &mut NameSet, name: Option<&Text>) -> Result<bool, NoMemory>
-    ensures answer { IfOk result (λ again. again ≡ list_any (λ n. list_any (same n) names.old) (layout.listed (option_copied name.entry))) }
-    ensures more { OnOk result (HaveSame names.new (layout.listed (option_copied name.entry) ++ names.old)) }
+    ensures answer { IfOk result (λ again. again
+        ≡ list_any (λ n. list_any (same n) names.old) (layout.listed (option_copied name.entry))) }
+    ensures more { OnOk result
+        (HaveSame names.new (layout.listed (option_copied name.entry) ++ names.old)) }
 {
     match name {
         None => Ok(false),
@@ -39,8 +41,12 @@ pub fn is_repeated(
     names: &mut NameSet,
     statement: &Statement,
 ) -> Result<bool, NoMemory>
-    ensures told { IfOk result (λ repeated. (before : List Statement) → HaveSame names.old (layout.names_behind before) → repeated ≡ layout.is_repeated (layout.names_behind before) (layout.names_in statement.now)) }
-    ensures noted { OnOk result ((before : List Statement) → HaveSame names.old (layout.names_behind before) → HaveSame names.new (layout.names_behind (statement.now ∷ before))) }
+    ensures told { IfOk result (λ repeated. (before : List Statement)
+        → HaveSame names.old (layout.names_behind before) → repeated
+        ≡ layout.is_repeated (layout.names_behind before) (layout.names_in statement.now)) }
+    ensures noted { OnOk result ((before : List Statement)
+        → HaveSame names.old (layout.names_behind before)
+        → HaveSame names.new (layout.names_behind (statement.now ∷ before))) }
 {
     let own = is_again(alloc, names, own_name(statement))?;
     let imported = is_again(alloc, names, imported_name(statement))?;

@@ -42,7 +42,8 @@ fn is_free(what: &What) -> bool
 
 /// The fault of a statement before the first AREA.
 pub fn no_area_kind(area: Option<u32>, statement: &Statement) -> Option<LineKind>
-    ensures { result ≡ told_kind (layout.no_area_kinds area (defined_by statement.now) statement.now.what) }
+    ensures { result ≡ told_kind
+        (layout.no_area_kinds area (defined_by statement.now) statement.now.what) }
 {
     if area.is_some() {
         return None;
@@ -111,7 +112,8 @@ pub fn contents_kind(contents: Option<Contents>, thumb: bool, what: &What) -> Op
 
 /// The fault of an ENTRY in another state than its area's.
 pub fn state_kind(what: &What, area: Option<u32>, thumb: bool, thumb_area: bool) -> Option<LineKind>
-    ensures { (all : List Statement) → thumb_area ≡ layout.in_thumb_area area all → result ≡ told_kind (layout.state_kinds area thumb what.now all) }
+    ensures { (all : List Statement) → thumb_area ≡ layout.in_thumb_area area all → result
+        ≡ told_kind (layout.state_kinds area thumb what.now all) }
 {
     if area.is_none() {
         return None;

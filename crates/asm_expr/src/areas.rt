@@ -291,7 +291,8 @@ impl Written {
 
 /// The attributes that operands write.
 fn read_attributes(alloc: Global, text: &[u8], tokens: &[Token]) -> Result<Written, NoMemory>
-    ensures { IfOk result (λ written. IsWritten text.now (operands.operands_at text.now 0 tokens.now) written) }
+    ensures { IfOk result
+        (λ written. IsWritten text.now (operands.operands_at text.now 0 tokens.now) written) }
 {
     let mut written = Written {
         words: Vec::new(alloc),
@@ -330,7 +331,9 @@ pub fn attributes(
     text: &[u8],
     behind: Option<&[Token]>,
 ) -> Result<Result<AreaAttributes, LineKind>, NoMemory>
-    ensures { IfOk result (λ reading. ReadsBehind text.now (operands_behind text.now (option_copied behind.entry)) reading) }
+    ensures { IfOk result
+        (λ reading. ReadsBehind text.now
+        (operands_behind text.now (option_copied behind.entry)) reading) }
 {
     match behind {
         None => Ok(agreed(&[], Ok(None))),

@@ -167,7 +167,8 @@ fn reading(
     directive: Directive,
     tokens: &[Token],
 ) -> Result<Result<DirectiveLine, LineKind>, NoMemory>
-    ensures { IfOk result (λ line. says.Reads text.now (says.form_of_directive directive) tokens.now line) }
+    ensures { IfOk result
+        (λ line. says.Reads text.now (says.form_of_directive directive) tokens.now line) }
 {
     match directive {
         Directive::Area => area(alloc, text, tokens),

@@ -34,7 +34,8 @@ impl Model for KnownNames {
 
 /// Notes the place of a name that has none yet. An `Err` changes nothing.
 fn note(places: &mut IndexMap<Text, u32>, name: Text, place: u32) -> Result<(), NoMemory>
-    ensures ok { OnOk result ((q : List ℕ) → place_in places.new q ≡ or_number (place_in places.old q) name place q) }
+    ensures ok { OnOk result ((q : List ℕ) → place_in places.new q
+        ≡ or_number (place_in places.old q) name place q) }
     ensures err { OnErr result ((q : List ℕ) → place_in places.new q ≡ place_in places.old q) }
 {
     places.entry(name)?.or_insert(place);
@@ -50,9 +51,11 @@ fn put(
     place: u32,
 ) -> Result<(), NoMemory>
     ensures more { OnOk result (entries.new.items ≡ entries.old.items ++ entry ∷ []) }
-    ensures noted { OnOk result ((q : List ℕ) → place_in places.new q ≡ or_number (place_in places.old q) entry.name place q) }
+    ensures noted { OnOk result ((q : List ℕ) → place_in places.new q
+        ≡ or_number (place_in places.old q) entry.name place q) }
     ensures kept { OnErr result (entries.new.items ≡ entries.old.items) }
-    ensures unchanged { OnErr result ((q : List ℕ) → place_in places.new q ≡ place_in places.old q) }
+    ensures unchanged { OnErr result ((q : List ℕ) → place_in places.new q
+        ≡ place_in places.old q) }
 {
     let name = entry.name.try_clone(alloc)?;
     entries.push(entry)?;

@@ -63,7 +63,8 @@ fn later_named<'a>(later: Option<&'a KnownNames>, name: &Text) -> Option<&'a Lai
 
 /// The first entry with the name among the known ones.
 fn known_named<'a>(seen: &Seen<'a>, name: &Text) -> Option<&'a LaidName>
-    ensures { option_copied result ≡ named_in name.now (seen.now.names.now ++ one_entry (option_copied seen.now.own)) }
+    ensures { option_copied result
+        ≡ named_in name.now (seen.now.names.now ++ one_entry (option_copied seen.now.own)) }
 {
     let names = seen.names;
     if let Some(entry) = names.find(name) {

@@ -275,7 +275,8 @@ fn as_place(
 }
 
 fn of_numbers(op: BinaryOp, m: u32, n: u32) -> Result<Value, LineKind>
-    ensures { result ≡ meaning.truth_or (meaning.related op (nat_cmp m n)) (meaning.as_number (meaning.arithmetic op m n)) }
+    ensures { result ≡ meaning.truth_or (meaning.related op (nat_cmp m n))
+        (meaning.as_number (meaning.arithmetic op m n)) }
 {
     match related(op, m.cmp(&n)) {
         Some(truth) => Ok(Value::Truth(truth)),
@@ -289,7 +290,9 @@ fn of_strings(
     v: &Bytes,
     w: &Bytes,
 ) -> Result<Result<Value, LineKind>, NoMemory>
-    ensures { IfOk result (λ value. value ≡ meaning.truth_or (meaning.related op (slice_cmp nat_cmp v.now w.now)) (meaning.as_words (meaning.joined_strings op v.now w.now))) }
+    ensures { IfOk result (λ value. value
+        ≡ meaning.truth_or (meaning.related op (slice_cmp nat_cmp v.now w.now))
+        (meaning.as_words (meaning.joined_strings op v.now w.now))) }
 {
     match related(op, v.cmp(w)) {
         Some(truth) => Ok(Ok(Value::Truth(truth))),
@@ -305,7 +308,8 @@ pub fn binary(
     left: &Value,
     right: &Value,
 ) -> Result<Result<Value, LineKind>, NoMemory>
-    ensures { IfOk result (λ value. value ≡ meaning.binary (seen_names seen.now) op left.now right.now) }
+    ensures { IfOk result (λ value. value
+        ≡ meaning.binary (seen_names seen.now) op left.now right.now) }
 {
     match (left, right) {
         (Value::Number(m), Value::Number(n)) => Ok(of_numbers(op, *m, *n)),
@@ -371,7 +375,8 @@ fn string_length(words: &[u8]) -> Result<u32, LineKind>
 
 /// The string of one byte.
 fn string_of(alloc: Global, n: u32) -> Result<Result<Bytes, LineKind>, NoMemory>
-    ensures { IfOk result (λ words. meaning.unary_of unary.Character (value.Number n) ≡ meaning.as_words words) }
+    ensures { IfOk result (λ words. meaning.unary_of unary.Character (value.Number n)
+        ≡ meaning.as_words words) }
 {
     if n > 255 {
         return Ok(Err(LineKind::OutOfRange));

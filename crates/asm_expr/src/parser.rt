@@ -102,7 +102,8 @@ fn pop_tight(limit: u8, stack: &mut Vec<Held>) -> Option<Held>
 
 /// The operators of a level or tighter go out.
 fn settle(limit: u8, items: &mut Vec<ExprItem>, stack: &mut Vec<Held>) -> Result<(), NoMemory>
-    ensures { OnOk result ((items.new.items, reverse stack.new.items) ≡ parsing.settled limit items.old.items (reverse stack.old.items)) }
+    ensures { OnOk result ((items.new.items, reverse stack.new.items)
+        ≡ parsing.settled limit items.old.items (reverse stack.old.items)) }
 {
     'tops: loop {
         match pop_tight(limit, stack) {
@@ -137,7 +138,8 @@ impl Parser {
     }
 
     fn take_operand(&mut self, part: Part) -> Result<bool, NoMemory>
-        ensures { Takes (parsing.on_operand self.old.items.items (reverse self.old.stack.items) part) result (state_of self.new) }
+        ensures { Takes (parsing.on_operand self.old.items.items
+            (reverse self.old.stack.items) part) result (state_of self.new) }
     {
         match part {
             Part::Operand(item) => {
@@ -168,7 +170,8 @@ impl Parser {
     }
 
     fn take_name(&mut self, op: UnaryOp, part: Part) -> Result<bool, NoMemory>
-        ensures { Takes (parsing.on_name op self.old.items.items (reverse self.old.stack.items) part) result (state_of self.new) }
+        ensures { Takes (parsing.on_name op self.old.items.items
+            (reverse self.old.stack.items) part) result (state_of self.new) }
     {
         match part {
             Part::Operand(ExprItem::Name(name)) => {
@@ -182,7 +185,8 @@ impl Parser {
     }
 
     fn take_operator(&mut self, part: Part) -> Result<bool, NoMemory>
-        ensures { Takes (parsing.on_operator self.old.items.items (reverse self.old.stack.items) part) result (state_of self.new) }
+        ensures { Takes (parsing.on_operator self.old.items.items
+            (reverse self.old.stack.items) part) result (state_of self.new) }
     {
         match part {
             Part::Infix(op) => self.join(op),
@@ -193,7 +197,9 @@ impl Parser {
     }
 
     fn join(&mut self, op: BinaryOp) -> Result<bool, NoMemory>
-        ensures { Takes (Some (parsing.joined op (parsing.settled (grammar.level op) self.old.items.items (reverse self.old.stack.items)))) result (state_of self.new) }
+        ensures { Takes (Some
+            (parsing.joined op (parsing.settled (grammar.level op) self.old.items.items
+            (reverse self.old.stack.items)))) result (state_of self.new) }
     {
         settle(level(op), &mut self.items, &mut self.stack)?;
         self.stack.push(Held::Between(op))?;
@@ -202,7 +208,10 @@ impl Parser {
     }
 
     fn close(&mut self) -> Result<bool, NoMemory>
-        ensures { Takes (parsing.closed (parsing.settled 6 self.old.items.items (reverse self.old.stack.items)).0 (parsing.settled 6 self.old.items.items (reverse self.old.stack.items)).1) result (state_of self.new) }
+        ensures { Takes (parsing.closed
+            (parsing.settled 6 self.old.items.items (reverse self.old.stack.items)).0
+            (parsing.settled 6 self.old.items.items (reverse self.old.stack.items)).1) result
+            (state_of self.new) }
     {
         settle(6, &mut self.items, &mut self.stack)?;
         let Some(Held::Open) = self.stack.pop() else {
@@ -215,7 +224,9 @@ impl Parser {
     /// The items of what was read; None where it is no whole expression.
     #[tactic(auto, unfolding(crate::specs::Parsing::finished))]
     pub fn finish(self) -> Result<Option<Vec<ExprItem>>, NoMemory>
-        ensures { IfOk result (λ o. MatchOption o (parsing.finished (state_of self) ≡ None) (λ v. parsing.finished (state_of self) ≡ Some v.items)) }
+        ensures { IfOk result
+            (λ o. MatchOption o (parsing.finished (state_of self)
+            ≡ None) (λ v. parsing.finished (state_of self) ≡ Some v.items)) }
     {
         let Parser {
             due,

@@ -99,7 +99,8 @@ fn digit_value(c: u8) -> u8
 
 /// What the digits stand for; None above 2^32 - 1.
 fn digits_value(base: u8, digits: &[u8]) -> Option<u32>
-    ensures { result ≡ (if nat_lt (parts.digits_value base digits.now) (2 ^ 32) then Some (parts.digits_value base digits.now) else None) }
+    ensures { result ≡ (if nat_lt (parts.digits_value base digits.now) (2 ^ 32) then Some
+        (parts.digits_value base digits.now) else None) }
 {
     let mut value = 0u64;
     'digits: for c in digits {
@@ -113,7 +114,8 @@ fn digits_value(base: u8, digits: &[u8]) -> Option<u32>
 
 /// What a number stands for; None above 2^32 - 1.
 fn number_value(piece: &[u8]) -> Option<u32>
-    ensures { result ≡ (if nat_lt (parts.number_value piece.now) (2 ^ 32) then Some (parts.number_value piece.now) else None) }
+    ensures { result ≡ (if nat_lt (parts.number_value piece.now) (2 ^ 32) then Some
+        (parts.number_value piece.now) else None) }
 {
     if piece.len() < 2 {
         return digits_value(10, piece);

@@ -50,7 +50,8 @@ pub fn expression(
 
 /// The expression that consecutive tokens of the line spell; Syntax where they spell none.
 pub fn parse_expr(alloc: Global, line: &Flat, tokens: &[Token]) -> Result<Expr, Fault>
-    ensures { Told line.now.source line.now.number (grammar.ParsesTokens line.now.text tokens.now) result }
+    ensures { Told line.now.source line.now.number
+        (grammar.ParsesTokens line.now.text tokens.now) result }
 {
     match expression(alloc, line.text.as_slice(), tokens)? {
         Ok(expression) => Ok(expression),

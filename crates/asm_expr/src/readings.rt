@@ -164,7 +164,8 @@ fn some_expressions(
     text: &[u8],
     tokens: &[Token],
 ) -> Result<Result<List<Expr>, LineKind>, NoMemory>
-    ensures { IfOk result (λ all. says.Expressions text.now (operands.operands_at text.now 0 tokens.now) all) }
+    ensures { IfOk result
+        (λ all. says.Expressions text.now (operands.operands_at text.now 0 tokens.now) all) }
 {
     let mut so_far = Ok(List::from_vec(Vec::new(alloc)));
     let mut left = tokens;
@@ -185,7 +186,8 @@ pub fn expressions(
     text: &[u8],
     tokens: &[Token],
 ) -> Result<Result<List<Expr>, LineKind>, NoMemory>
-    ensures { IfOk result (λ all. says.SomeExpressions text.now (operands.operands text.now tokens.now) all) }
+    ensures { IfOk result
+        (λ all. says.SomeExpressions text.now (operands.operands text.now tokens.now) all) }
 {
     if tokens.is_empty() {
         return Ok(Err(LineKind::Syntax));
@@ -214,7 +216,8 @@ pub fn area(
     text: &[u8],
     tokens: &[Token],
 ) -> Result<Result<DirectiveLine, LineKind>, NoMemory>
-    ensures { IfOk result (λ line. says.Area text.now (operands.operands text.now tokens.now) line) }
+    ensures { IfOk result
+        (λ line. says.Area text.now (operands.operands text.now tokens.now) line) }
 {
     if tokens.is_empty() {
         return Ok(Err(LineKind::Syntax));
@@ -242,7 +245,8 @@ pub fn register(
     text: &[u8],
     tokens: &[Token],
 ) -> Result<Result<DirectiveLine, LineKind>, NoMemory>
-    ensures { IfOk result (λ line. says.Register text.now (says.register_alone text.now tokens.now) tokens.now line) }
+    ensures { IfOk result
+        (λ line. says.Register text.now (says.register_alone text.now tokens.now) tokens.now line) }
 {
     match register_alone(text, tokens) {
         Some(number) => Ok(Ok(DirectiveLine::Rn {
@@ -321,7 +325,8 @@ pub fn boundary(
     text: &[u8],
     tokens: &[Token],
 ) -> Result<Result<DirectiveLine, LineKind>, NoMemory>
-    ensures { IfOk result (λ line. says.Aligned text.now (operands.operands text.now tokens.now) line) }
+    ensures { IfOk result
+        (λ line. says.Aligned text.now (operands.operands text.now tokens.now) line) }
 {
     if tokens.is_empty() {
         return Ok(Ok(DirectiveLine::Align {
@@ -342,7 +347,9 @@ fn multiple_and_last(
     first: &[Token],
     tokens: &[Token],
 ) -> Result<Result<DirectiveLine, LineKind>, NoMemory>
-    ensures { IfOk result (λ line. says.Aligned text.now (first.now ∷ operands.operands_at text.now 0 tokens.now) line) }
+    ensures { IfOk result
+        (λ line. says.Aligned text.now
+        (first.now ∷ operands.operands_at text.now 0 tokens.now) line) }
 {
     let (second, behind) = first_operand(text, tokens);
     match behind {

@@ -49,7 +49,9 @@ fn on_value(
     op: UnaryOp,
     operand: Slot<'_>,
 ) -> Result<Result<Value, LineKind>, NoMemory>
-    ensures { IfOk result (λ value. value ≡ meaning.then_of (meaning.known (evaluating.operand_of operand.entry)) (meaning.unary_of op)) }
+    ensures { IfOk result (λ value. value
+        ≡ meaning.then_of (meaning.known (evaluating.operand_of operand.entry))
+        (meaning.unary_of op)) }
 {
     match known(alloc, operand)? {
         Ok(value) => unary(alloc, op, &value),
@@ -63,7 +65,8 @@ fn applied(
     op: UnaryOp,
     operand: Slot<'_>,
 ) -> Result<Result<Value, LineKind>, NoMemory>
-    ensures { IfOk result (λ value. value ≡ meaning.applied op (evaluating.operand_of operand.entry)) }
+    ensures { IfOk result (λ value. value
+        ≡ meaning.applied op (evaluating.operand_of operand.entry)) }
 {
     match (op, operand) {
         (UnaryOp::Size, Slot::Name(entry)) => Ok(size_of(entry)),
@@ -80,7 +83,10 @@ fn on_both(
     left: Slot<'_>,
     right: Slot<'_>,
 ) -> Result<Result<Value, LineKind>, NoMemory>
-    ensures { IfOk result (λ value. value ≡ meaning.on_both (meaning.known (evaluating.operand_of left.entry)) (meaning.known (evaluating.operand_of right.entry)) (meaning.binary (seen_names seen.now) op)) }
+    ensures { IfOk result (λ value. value
+        ≡ meaning.on_both (meaning.known (evaluating.operand_of left.entry))
+        (meaning.known (evaluating.operand_of right.entry))
+        (meaning.binary (seen_names seen.now) op)) }
 {
     match (known(alloc, left)?, known(alloc, right)?) {
         (Ok(left), Ok(right)) => binary(alloc, seen, op, &left, &right),
@@ -92,7 +98,8 @@ fn on_both(
 
 /// An item that is an operand.
 fn operand<'a>(alloc: Global, seen: &Seen<'a>, item: &'a ExprItem) -> Result<Slot<'a>, NoMemory>
-    ensures { IfOk result (λ slot. evaluating.operand_of slot ≡ meaning.operand_of_item (seen_names seen.now) item.now) }
+    ensures { IfOk result (λ slot. evaluating.operand_of slot
+        ≡ meaning.operand_of_item (seen_names seen.now) item.now) }
 {
     match item {
         ExprItem::Name(name) => Ok(Slot::Name(entry_named(seen, name))),
@@ -122,7 +129,8 @@ fn code_size(thumb: bool) -> u32
 
 /// An operator before the operand on the top.
 fn act_unary(alloc: Global, op: UnaryOp, stack: &mut Vec<Slot<'_>>) -> Result<(), NoMemory>
-    ensures { OnOk result (evaluating.operands_of stack.new.items ≡ evaluating.act_unary op (evaluating.operands_of stack.old.items)) }
+    ensures { OnOk result (evaluating.operands_of stack.new.items
+        ≡ evaluating.act_unary op (evaluating.operands_of stack.old.items)) }
 {
     let Some(top) = stack.pop() else {
         stack.push(Slot::Fault(LineKind::Syntax))?;
@@ -140,7 +148,8 @@ fn act_binary(
     op: BinaryOp,
     stack: &mut Vec<Slot<'_>>,
 ) -> Result<(), NoMemory>
-    ensures { OnOk result (evaluating.operands_of stack.new.items ≡ evaluating.act_binary (seen_names seen.now) op (evaluating.operands_of stack.old.items)) }
+    ensures { OnOk result (evaluating.operands_of stack.new.items
+        ≡ evaluating.act_binary (seen_names seen.now) op (evaluating.operands_of stack.old.items)) }
 {
     let Some(right) = stack.pop() else {
         stack.push(Slot::Fault(LineKind::Syntax))?;
@@ -162,7 +171,8 @@ fn act<'a>(
     item: &'a ExprItem,
     stack: &mut Vec<Slot<'a>>,
 ) -> Result<(), NoMemory>
-    ensures { OnOk result (evaluating.operands_of stack.new.items ≡ evaluating.act (seen_names seen.now) item.now (evaluating.operands_of stack.old.items)) }
+    ensures { OnOk result (evaluating.operands_of stack.new.items
+        ≡ evaluating.act (seen_names seen.now) item.now (evaluating.operands_of stack.old.items)) }
 {
     match item {
         ExprItem::Unary(op) => act_unary(alloc, *op, stack),
@@ -177,7 +187,8 @@ fn act<'a>(
 
 /// The operands that items leave.
 fn run<'a>(alloc: Global, seen: &Seen<'a>, items: &'a [ExprItem]) -> Result<Vec<Slot<'a>>, NoMemory>
-    ensures { IfOk result (λ stack. evaluating.operands_of stack.items ≡ evaluating.run (seen_names seen.now) items.now []) }
+    ensures { IfOk result (λ stack. evaluating.operands_of stack.items
+        ≡ evaluating.run (seen_names seen.now) items.now []) }
 {
     let mut stack = Vec::new(alloc);
     'items: for item in items {
@@ -188,7 +199,8 @@ fn run<'a>(alloc: Global, seen: &Seen<'a>, items: &'a [ExprItem]) -> Result<Vec<
 
 /// The value where one operand is left.
 fn ended(alloc: Global, stack: &mut Vec<Slot<'_>>) -> Result<Result<Value, LineKind>, NoMemory>
-    ensures { IfOk result (λ value. value ≡ evaluating.ended (evaluating.operands_of stack.old.items)) }
+    ensures { IfOk result (λ value. value
+        ≡ evaluating.ended (evaluating.operands_of stack.old.items)) }
 {
     let Some(top) = stack.pop() else {
         return Ok(Err(LineKind::Syntax));
@@ -205,7 +217,8 @@ fn value_of(
     seen: &Seen<'_>,
     items: &[ExprItem],
 ) -> Result<Result<Value, LineKind>, NoMemory>
-    ensures { IfOk result (λ value. value ≡ evaluating.ended (evaluating.run (seen_names seen.now) items.now [])) }
+    ensures { IfOk result (λ value. value
+        ≡ evaluating.ended (evaluating.run (seen_names seen.now) items.now [])) }
 {
     if let [item] = items {
         return known(alloc, operand(alloc, seen, item)?);

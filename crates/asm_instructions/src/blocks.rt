@@ -85,7 +85,8 @@ pub fn transfer_block(
     list: &RegisterList,
     user: bool,
 ) -> ArmInstr
-    ensures { Ok result ≡ forms.arm_instruction (context_of scene.now) (arm.TransferBlock condition load mode rn.now write_back list.now user) }
+    ensures { Ok result ≡ forms.arm_instruction (context_of scene.now)
+        (arm.TransferBlock condition load mode rn.now write_back list.now user) }
 {
     ArmInstr::TransferBlock {
         condition,

@@ -127,7 +127,8 @@ pub fn has_symbol(scene: &Scene<'_>, symbol: &Text) -> bool
 }
 
 fn place_displacement(scene: &Scene<'_>, symbol: &Text, plus: u32) -> Result<u32, LineKind>
-    ensures { result ≡ forms.branch_displacement (context_of scene.now) (Ok (value.Place symbol.now plus)) }
+    ensures { result ≡ forms.branch_displacement (context_of scene.now)
+        (Ok (value.Place symbol.now plus)) }
 {
     if has_symbol(scene, symbol) {
         return Ok(branch_from(scene, symbol, plus));
@@ -151,7 +152,8 @@ fn branch_by(
     link: bool,
     displacement: Result<u32, LineKind>,
 ) -> Result<ArmInstr, LineKind>
-    ensures { result ≡ and_then displacement (λ d. mapped (λ f. instr.Branch condition link f) (forms.branch_field d)) }
+    ensures { result ≡ and_then displacement
+        (λ d. mapped (λ f. instr.Branch condition link f) (forms.branch_field d)) }
 {
     let distance = displacement?;
     let field = branch_field(distance)?;
@@ -170,7 +172,8 @@ pub fn branch(
     target: &Expr,
 ) -> Result<Result<ArmInstr, LineKind>, NoMemory>
     requires { IsRead target.now }
-    ensures { IfOk result (λ i. i ≡ forms.arm_instruction (context_of scene.now) (arm.Branch condition link target.now)) }
+    ensures { IfOk result (λ i. i
+        ≡ forms.arm_instruction (context_of scene.now) (arm.Branch condition link target.now)) }
 {
     let value = value_there(alloc, scene, target)?;
     let displacement = branch_displacement(scene, value);
@@ -205,7 +208,8 @@ pub fn target_symbol(
     target: &Expr,
 ) -> Result<Option<Text>, NoMemory>
     requires { IsRead target.now }
-    ensures { IfOk result (λ s. s ≡ units.linked_symbol (context_of scene.now) (value_of (context_of scene.now) target.now)) }
+    ensures { IfOk result (λ s. s
+        ≡ units.linked_symbol (context_of scene.now) (value_of (context_of scene.now) target.now)) }
 {
     let value = value_there(alloc, scene, target)?;
     Ok(linked_symbol(scene, value))

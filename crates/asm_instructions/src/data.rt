@@ -29,7 +29,8 @@ pub fn data_with_number(
     rd: u8,
     number: Result<u32, LineKind>,
 ) -> Result<ArmInstr, LineKind>
-    ensures { result ≡ and_then number (immediates.data_immediate condition operation set_flags rn rd) }
+    ensures { result ≡ and_then number
+        (immediates.data_immediate condition operation set_flags rn rd) }
 {
     match number {
         Ok(number) => data_immediate(condition, operation, set_flags, rn, rd, number),
@@ -48,7 +49,9 @@ pub fn data_number(
     value: &Expr,
 ) -> Result<Result<ArmInstr, LineKind>, NoMemory>
     requires { IsRead value.now }
-    ensures { IfOk result (λ i. i ≡ forms.arm_instruction (context_of scene.now) (arm.DataImmediate condition operation set_flags rd.now rn.now value.now)) }
+    ensures { IfOk result (λ i. i
+        ≡ forms.arm_instruction (context_of scene.now)
+        (arm.DataImmediate condition operation set_flags rd.now rn.now value.now)) }
 {
     let first = register(scene, rn);
     let to = register(scene, rd);
@@ -65,7 +68,8 @@ fn data_with_shift(
     rm: u8,
     fields: Result<(ShiftKind, u8), LineKind>,
 ) -> Result<ArmInstr, LineKind>
-    ensures { result ≡ mapped (λ f. instr.DataShifted condition operation set_flags rn rd f.1 f.0 rm) fields }
+    ensures { result ≡ mapped
+        (λ f. instr.DataShifted condition operation set_flags rn rd f.1 f.0 rm) fields }
 {
     match fields {
         Ok((shift, amount)) => Ok(ArmInstr::DataShifted {
@@ -94,7 +98,9 @@ pub fn data_shifted(
     shift: &Shift,
 ) -> Result<Result<ArmInstr, LineKind>, NoMemory>
     requires { ShiftSaid shift.now }
-    ensures { IfOk result (λ i. i ≡ forms.arm_instruction (context_of scene.now) (arm.DataShifted condition operation set_flags rd.now rn.now rm.now shift.now)) }
+    ensures { IfOk result (λ i. i
+        ≡ forms.arm_instruction (context_of scene.now)
+        (arm.DataShifted condition operation set_flags rd.now rn.now rm.now shift.now)) }
 {
     let first = register(scene, rn);
     let to = register(scene, rd);
@@ -114,7 +120,8 @@ pub fn data_register_shifted(
     shift: ShiftKind,
     rs: &Register,
 ) -> ArmInstr
-    ensures { Ok result ≡ forms.arm_instruction (context_of scene.now) (arm.DataRegisterShifted condition operation set_flags rd.now rn.now rm.now shift rs.now) }
+    ensures { Ok result ≡ forms.arm_instruction (context_of scene.now)
+        (arm.DataRegisterShifted condition operation set_flags rd.now rn.now rm.now shift rs.now) }
 {
     ArmInstr::DataRegisterShifted {
         condition,
@@ -138,7 +145,8 @@ pub fn multiply(
     rs: &Register,
     rn: &Register,
 ) -> ArmInstr
-    ensures { Ok result ≡ forms.arm_instruction (context_of scene.now) (arm.Multiply condition accumulate set_flags rd.now rm.now rs.now rn.now) }
+    ensures { Ok result ≡ forms.arm_instruction (context_of scene.now)
+        (arm.Multiply condition accumulate set_flags rd.now rm.now rs.now rn.now) }
 {
     ArmInstr::Multiply {
         condition,
@@ -162,7 +170,8 @@ pub fn multiply_long(
     rm: &Register,
     rs: &Register,
 ) -> ArmInstr
-    ensures { Ok result ≡ forms.arm_instruction (context_of scene.now) (arm.MultiplyLong condition signed accumulate set_flags low.now high.now rm.now rs.now) }
+    ensures { Ok result ≡ forms.arm_instruction (context_of scene.now)
+        (arm.MultiplyLong condition signed accumulate set_flags low.now high.now rm.now rs.now) }
 {
     ArmInstr::MultiplyLong {
         condition,
@@ -184,7 +193,8 @@ pub fn swap(
     rm: &Register,
     rn: &Register,
 ) -> ArmInstr
-    ensures { Ok result ≡ forms.arm_instruction (context_of scene.now) (arm.Swap condition byte rd.now rm.now rn.now) }
+    ensures { Ok result ≡ forms.arm_instruction (context_of scene.now)
+        (arm.Swap condition byte rd.now rm.now rn.now) }
 {
     ArmInstr::Swap {
         condition,
@@ -201,7 +211,8 @@ fn status_with_number(
     fields: u8,
     number: Result<u32, LineKind>,
 ) -> Result<ArmInstr, LineKind>
-    ensures { result ≡ and_then number (λ n. immediates.status_of condition saved fields (immediates.immediate n)) }
+    ensures { result ≡ and_then number
+        (λ n. immediates.status_of condition saved fields (immediates.immediate n)) }
 {
     match number {
         Ok(number) => status_of(condition, saved, fields, number),
@@ -218,7 +229,9 @@ pub fn status_number(
     value: &Expr,
 ) -> Result<Result<ArmInstr, LineKind>, NoMemory>
     requires { IsRead value.now }
-    ensures { IfOk result (λ i. i ≡ forms.arm_instruction (context_of scene.now) (arm.WriteStatusImmediate condition saved fields value.now)) }
+    ensures { IfOk result (λ i. i
+        ≡ forms.arm_instruction (context_of scene.now)
+        (arm.WriteStatusImmediate condition saved fields value.now)) }
 {
     let number = number_there(alloc, scene, value)?;
     Ok(status_with_number(condition, saved, fields, number))

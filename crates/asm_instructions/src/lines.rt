@@ -26,7 +26,9 @@ use sdt_word::Condition;
 use std::alloc::Global;
 
 fn interrupt_by(condition: Condition, number: Result<u32, LineKind>) -> Result<ArmInstr, LineKind>
-    ensures { result ≡ and_then number (λ n. if nat_lt n (2 ^ 24) then Ok (instr.SoftwareInterrupt condition n) else Err OutOfRange) }
+    ensures { result ≡ and_then number
+        (λ n. if nat_lt n (2 ^ 24) then Ok (instr.SoftwareInterrupt condition n)
+        else Err OutOfRange) }
 {
     let number = number?;
     if number < 0x0100_0000 {
@@ -42,7 +44,9 @@ fn interrupt(
     number: &Expr,
 ) -> Result<Result<ArmInstr, LineKind>, NoMemory>
     requires { IsRead number.now }
-    ensures { IfOk result (λ i. i ≡ forms.arm_instruction (context_of scene.now) (arm.SoftwareInterrupt condition number.now)) }
+    ensures { IfOk result (λ i. i
+        ≡ forms.arm_instruction (context_of scene.now)
+        (arm.SoftwareInterrupt condition number.now)) }
 {
     let number = number_there(alloc, scene, number)?;
     Ok(interrupt_by(condition, number))
@@ -248,7 +252,8 @@ pub fn arm_instruction(
     line: &ArmLine,
 ) -> Result<Result<ArmInstr, LineKind>, NoMemory>
     requires { ArmSaid line.now }
-    ensures { IfOk result (λ i. (c : Context) → Shows scene.now c → i ≡ forms.arm_instruction c line.now) }
+    ensures { IfOk result (λ i. (c : Context) → Shows scene.now c → i
+        ≡ forms.arm_instruction c line.now) }
 {
     instruction_there(alloc, scene, line)
 }
@@ -270,7 +275,8 @@ pub fn branch_symbol(
     line: &ArmLine,
 ) -> Result<Option<Text>, NoMemory>
     requires { ArmSaid line.now }
-    ensures { IfOk result (λ s. (c : Context) → Shows scene.now c → s ≡ units.branch_symbol c line.now) }
+    ensures { IfOk result (λ s. (c : Context) → Shows scene.now c → s
+        ≡ units.branch_symbol c line.now) }
 {
     symbol_there(alloc, scene, line)
 }
@@ -292,7 +298,8 @@ pub fn link_symbol(
     line: &ThumbLine,
 ) -> Result<Option<Text>, NoMemory>
     requires { ThumbSaid line.now }
-    ensures { IfOk result (λ s. (c : Context) → Shows scene.now c → s ≡ units.link_symbol c line.now) }
+    ensures { IfOk result (λ s. (c : Context) → Shows scene.now c → s
+        ≡ units.link_symbol c line.now) }
 {
     link_there(alloc, scene, line)
 }

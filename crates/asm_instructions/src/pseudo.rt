@@ -157,7 +157,9 @@ fn moved_literal(
     value: &Expr,
 ) -> Result<Result<List<ArmInstr>, LineKind>, NoMemory>
     requires { IsRead value.now }
-    ensures { IfOk result (λ list. list ≡ forms.pseudo_instructions (context_of scene.now) None (pseudo.LoadConstant condition rd.now value.now)) }
+    ensures { IfOk result (λ list. list
+        ≡ forms.pseudo_instructions (context_of scene.now) None
+        (pseudo.LoadConstant condition rd.now value.now)) }
 {
     let to = register(scene, rd);
     let number = number_there(alloc, scene, value)?;
@@ -175,7 +177,11 @@ fn loaded_literal(
     condition: Condition,
     rd: &Register,
 ) -> Result<Result<List<ArmInstr>, LineKind>, NoMemory>
-    ensures { IfOk result (λ list. list ≡ mapped (λ o. forms.one (instr.TransferImmediate condition true o.0 false false true 15 (contexts.register (context_of scene.now) rd.now) o.1)) (contexts.offset_below 4096 (contexts.from_pc (context_of scene.now) word))) }
+    ensures { IfOk result (λ list. list
+        ≡ mapped (λ o. forms.one
+        (instr.TransferImmediate condition true o.0 false false true 15
+        (contexts.register (context_of scene.now) rd.now) o.1))
+        (contexts.offset_below 4096 (contexts.from_pc (context_of scene.now) word))) }
 {
     let to = register(scene, rd);
     let distance = from_pc(scene, word);
@@ -191,7 +197,9 @@ fn load_literal(
     value: &Expr,
 ) -> Result<Result<List<ArmInstr>, LineKind>, NoMemory>
     requires { IsRead value.now }
-    ensures { IfOk result (λ list. list ≡ forms.pseudo_instructions (context_of scene.now) word (pseudo.LoadConstant condition rd.now value.now)) }
+    ensures { IfOk result (λ list. list
+        ≡ forms.pseudo_instructions (context_of scene.now) word
+        (pseudo.LoadConstant condition rd.now value.now)) }
 {
     match word {
         None => moved_literal(alloc, scene, condition, rd, value),
@@ -205,7 +213,9 @@ fn address_at(
     rd: u8,
     label: Result<u32, LineKind>,
 ) -> Result<ArmInstr, LineKind>
-    ensures { result ≡ and_then label (λ at. forms.address_instruction condition rd (contexts.from_pc (context_of scene.now) at)) }
+    ensures { result ≡ and_then label
+        (λ at. forms.address_instruction condition rd
+        (contexts.from_pc (context_of scene.now) at)) }
 {
     match label {
         Ok(at) => address_instruction(condition, rd, from_pc(scene, at)),
@@ -221,7 +231,9 @@ fn address(
     target: &Expr,
 ) -> Result<Result<List<ArmInstr>, LineKind>, NoMemory>
     requires { IsRead target.now }
-    ensures { IfOk result (λ list. list ≡ forms.pseudo_instructions (context_of scene.now) None (pseudo.Address condition rd.now target.now)) }
+    ensures { IfOk result (λ list. list
+        ≡ forms.pseudo_instructions (context_of scene.now) None
+        (pseudo.Address condition rd.now target.now)) }
 {
     let to = register(scene, rd);
     let value = value_there(alloc, scene, target)?;
@@ -235,7 +247,8 @@ fn long_address_at(
     rd: u8,
     label: Result<u32, LineKind>,
 ) -> Result<[ArmInstr; 2], LineKind>
-    ensures { result ≡ and_then label (λ at. forms.long_address condition rd (contexts.from_pc (context_of scene.now) at)) }
+    ensures { result ≡ and_then label
+        (λ at. forms.long_address condition rd (contexts.from_pc (context_of scene.now) at)) }
 {
     match label {
         Ok(at) => long_address(condition, rd, from_pc(scene, at)),
@@ -251,7 +264,9 @@ fn far_address(
     target: &Expr,
 ) -> Result<Result<List<ArmInstr>, LineKind>, NoMemory>
     requires { IsRead target.now }
-    ensures { IfOk result (λ list. list ≡ forms.pseudo_instructions (context_of scene.now) None (pseudo.LongAddress condition rd.now target.now)) }
+    ensures { IfOk result (λ list. list
+        ≡ forms.pseudo_instructions (context_of scene.now) None
+        (pseudo.LongAddress condition rd.now target.now)) }
 {
     let to = register(scene, rd);
     let value = value_there(alloc, scene, target)?;
@@ -282,7 +297,8 @@ fn instructions_there(
     line: &PseudoLine,
 ) -> Result<Result<List<ArmInstr>, LineKind>, NoMemory>
     requires { PseudoSaid line.now }
-    ensures { IfOk result (λ list. list ≡ forms.pseudo_instructions (context_of scene.now) word line.now) }
+    ensures { IfOk result (λ list. list
+        ≡ forms.pseudo_instructions (context_of scene.now) word line.now) }
 {
     match line {
         PseudoLine::LoadConstant {
@@ -313,7 +329,8 @@ pub fn pseudo_instructions(
     line: &PseudoLine,
 ) -> Result<Result<List<ArmInstr>, LineKind>, NoMemory>
     requires { PseudoSaid line.now }
-    ensures { IfOk result (λ list. (c : Context) → Shows scene.now c → list ≡ forms.pseudo_instructions c word line.now) }
+    ensures { IfOk result (λ list. (c : Context) → Shows scene.now c → list
+        ≡ forms.pseudo_instructions c word line.now) }
 {
     instructions_there(alloc, scene, word, line)
 }

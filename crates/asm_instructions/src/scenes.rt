@@ -64,7 +64,8 @@ fn is_hidden(name: &[u8]) -> bool
 
 /// Whether a symbol may have the name: it is that of a label or an import, and of no local label.
 pub fn may_have_symbol(names: &KnownNames, name: &Text) -> bool
-    ensures { result ≡ (contexts.is_symbol_entry (named_in name.now names.now) && not (labels.is_hidden name.now)) }
+    ensures { result ≡ (contexts.is_symbol_entry (named_in name.now names.now) && not
+        (labels.is_hidden name.now)) }
 {
     if is_symbol_entry(names.find(name)) {
         return !is_hidden(name.as_slice());

@@ -78,7 +78,9 @@ fn shifted(
     amount: &Expr,
 ) -> Result<Result<(ShiftKind, u8), LineKind>, NoMemory>
     requires { IsRead amount.now }
-    ensures { IfOk result (λ f. f ≡ and_then (number_in (context_of scene.now) amount.now) (λ n. mapped (λ a. (kind, a)) (forms.amount_field kind n))) }
+    ensures { IfOk result (λ f. f
+        ≡ and_then (number_in (context_of scene.now) amount.now)
+        (λ n. mapped (λ a. (kind, a)) (forms.amount_field kind n))) }
 {
     let number = number_there(alloc, scene, amount)?;
     Ok(shift_by(kind, number))

@@ -87,7 +87,8 @@ fn place_displacement(
     symbol: &Text,
     plus: u32,
 ) -> Result<u32, LineKind>
-    ensures { result ≡ forms.thumb_displacement link (context_of scene.now) (Ok (value.Place symbol.now plus)) }
+    ensures { result ≡ forms.thumb_displacement link (context_of scene.now)
+        (Ok (value.Place symbol.now plus)) }
 {
     if can_branch(link, scene, symbol) {
         return Ok(thumb_from(scene, symbol, plus));
@@ -121,7 +122,9 @@ fn field_to(
     requires read { IsRead target.now }
     requires positive { 0 < limit }
     requires narrow { limit ≤ 2 ^ 22 }
-    ensures is { IfOk result (λ f. f ≡ and_then (forms.thumb_displacement link (context_of scene.now) (value_of (context_of scene.now) target.now)) (forms.half_words limit)) }
+    ensures is { IfOk result (λ f. f
+        ≡ and_then (forms.thumb_displacement link (context_of scene.now)
+        (value_of (context_of scene.now) target.now)) (forms.half_words limit)) }
     ensures below { IfOk result (λ f. IfOk f (λ field. field < limit)) }
 {
     let value = value_there(alloc, scene, target)?;
@@ -138,7 +141,9 @@ pub fn branch_conditional(
     target: &Expr,
 ) -> Said
     requires { IsRead target.now }
-    ensures { IfOk result (λ i. i ≡ forms.thumb_instruction (context_of scene.now) (thumb.BranchConditional condition target.now)) }
+    ensures { IfOk result (λ i. i
+        ≡ forms.thumb_instruction (context_of scene.now)
+        (thumb.BranchConditional condition target.now)) }
 {
     match field_to(alloc, scene, false, 256, target)? {
         Ok(field) => {
@@ -151,7 +156,8 @@ pub fn branch_conditional(
 
 pub fn branch(alloc: Global, scene: &Scene<'_>, target: &Expr) -> Said
     requires { IsRead target.now }
-    ensures { IfOk result (λ i. i ≡ forms.thumb_instruction (context_of scene.now) (thumb.Branch target.now)) }
+    ensures { IfOk result (λ i. i
+        ≡ forms.thumb_instruction (context_of scene.now) (thumb.Branch target.now)) }
 {
     match field_to(alloc, scene, false, 0x800, target)? {
         Ok(field) => {
@@ -165,7 +171,8 @@ pub fn branch(alloc: Global, scene: &Scene<'_>, target: &Expr) -> Said
 /// BL: both halves.
 pub fn branch_link(alloc: Global, scene: &Scene<'_>, target: &Expr) -> Said
     requires { IsRead target.now }
-    ensures { IfOk result (λ i. i ≡ forms.thumb_instruction (context_of scene.now) (thumb.BranchLink target.now)) }
+    ensures { IfOk result (λ i. i
+        ≡ forms.thumb_instruction (context_of scene.now) (thumb.BranchLink target.now)) }
 {
     match field_to(alloc, scene, true, 0x40_0000, target)? {
         Ok(field) => Ok(Ok(ThumbCode::Pair((field / 0x800) as u16, (field % 0x800) as u16))),
@@ -175,7 +182,8 @@ pub fn branch_link(alloc: Global, scene: &Scene<'_>, target: &Expr) -> Said
 
 pub fn software_interrupt(alloc: Global, scene: &Scene<'_>, number: &Expr) -> Said
     requires { IsRead number.now }
-    ensures { IfOk result (λ i. i ≡ forms.thumb_instruction (context_of scene.now) (thumb.SoftwareInterrupt number.now)) }
+    ensures { IfOk result (λ i. i
+        ≡ forms.thumb_instruction (context_of scene.now) (thumb.SoftwareInterrupt number.now)) }
 {
     let number = number_there(alloc, scene, number)?;
     match offset_below(1, 256, number) {

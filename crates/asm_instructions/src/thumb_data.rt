@@ -57,7 +57,9 @@ pub fn shift_immediate(
     amount: &Expr,
 ) -> Said
     requires { IsRead amount.now }
-    ensures { IfOk result (λ i. i ≡ forms.thumb_instruction (context_of scene.now) (thumb.ShiftImmediate shift rd.now rs.now amount.now)) }
+    ensures { IfOk result (λ i. i
+        ≡ forms.thumb_instruction (context_of scene.now)
+        (thumb.ShiftImmediate shift rd.now rs.now amount.now)) }
 {
     let number = number_there(alloc, scene, amount)?;
     match both(low_two(scene, rd, rs), amount_of(shift, number)) {
@@ -77,7 +79,8 @@ pub fn data_register(
     rd: &Register,
     rs: &Register,
 ) -> Result<ThumbCode, LineKind>
-    ensures { result ≡ forms.thumb_instruction (context_of scene.now) (thumb.DataRegister operation rd.now rs.now) }
+    ensures { result ≡ forms.thumb_instruction (context_of scene.now)
+        (thumb.DataRegister operation rd.now rs.now) }
 {
     match low_two(scene, rd, rs) {
         Ok((rd, rs)) => Ok(ThumbCode::One(ThumbInstr::DataRegister { operation, rs, rd })),
@@ -143,7 +146,8 @@ pub fn high_register(
     rd: &Register,
     rs: &Register,
 ) -> ThumbCode
-    ensures { Ok result ≡ forms.thumb_instruction (context_of scene.now) (thumb.HighRegister operation rd.now rs.now) }
+    ensures { Ok result ≡ forms.thumb_instruction (context_of scene.now)
+        (thumb.HighRegister operation rd.now rs.now) }
 {
     let to = register(scene, rd);
     let from = register(scene, rs);
@@ -207,7 +211,9 @@ pub fn add_subtract(
     operand: &ThumbOperand,
 ) -> Said
     requires { ThumbOperandSaid operand.now }
-    ensures { IfOk result (λ i. i ≡ forms.thumb_instruction (context_of scene.now) (thumb.AddSubtract subtract rd.now rs.now operand.now)) }
+    ensures { IfOk result (λ i. i
+        ≡ forms.thumb_instruction (context_of scene.now)
+        (thumb.AddSubtract subtract rd.now rs.now operand.now)) }
 {
     match operand {
         ThumbOperand::Register(rn) => match low_three(scene, rd, rs, rn) {
@@ -240,7 +246,8 @@ fn adding(subtract: bool) -> ImmediateOperation
 }
 
 fn added(subtract: bool, rd: u8, number: u32) -> Result<ThumbInstr, LineKind>
-    ensures { result ≡ mapped (λ t. instr.DataImmediate (forms.adding t.0) rd t.1) (forms.summed 1 256 subtract number) }
+    ensures { result ≡ mapped (λ t. instr.DataImmediate (forms.adding t.0) rd t.1)
+        (forms.summed 1 256 subtract number) }
 {
     let (subtract, immediate) = summed(1, 256, subtract, number)?;
     let operation = adding(subtract);
@@ -252,7 +259,8 @@ fn added(subtract: bool, rd: u8, number: u32) -> Result<ThumbInstr, LineKind>
 }
 
 fn taken(operation: ImmediateOperation, rd: u8, number: u32) -> Result<ThumbInstr, LineKind>
-    ensures { result ≡ mapped (λ i. instr.DataImmediate operation rd i) (forms.immediate_below 1 256 number) }
+    ensures { result ≡ mapped (λ i. instr.DataImmediate operation rd i)
+        (forms.immediate_below 1 256 number) }
 {
     let immediate = immediate_below(1, 256, number)?;
     Ok(ThumbInstr::DataImmediate {
@@ -321,7 +329,9 @@ pub fn data_immediate(
     value: &Expr,
 ) -> Said
     requires { IsRead value.now }
-    ensures { IfOk result (λ i. i ≡ forms.thumb_instruction (context_of scene.now) (thumb.DataImmediate operation rd.now value.now)) }
+    ensures { IfOk result (λ i. i
+        ≡ forms.thumb_instruction (context_of scene.now)
+        (thumb.DataImmediate operation rd.now value.now)) }
 {
     let number = number_there(alloc, scene, value)?;
     Ok(one(immediate_by(operation, register(scene, rd), number)))
@@ -335,7 +345,9 @@ pub fn load_address(
     offset: &Expr,
 ) -> Said
     requires { IsRead offset.now }
-    ensures { IfOk result (λ i. i ≡ forms.thumb_instruction (context_of scene.now) (thumb.LoadAddress stack rd.now offset.now)) }
+    ensures { IfOk result (λ i. i
+        ≡ forms.thumb_instruction (context_of scene.now)
+        (thumb.LoadAddress stack rd.now offset.now)) }
 {
     let number = number_there(alloc, scene, offset)?;
     match both(low(scene, rd), words_of(number)) {
@@ -354,7 +366,8 @@ fn words_of(number: Result<u32, LineKind>) -> Result<u8, LineKind>
 
 pub fn adjust_stack(alloc: Global, scene: &Scene<'_>, subtract: bool, offset: &Expr) -> Said
     requires { IsRead offset.now }
-    ensures { IfOk result (λ i. i ≡ forms.thumb_instruction (context_of scene.now) (thumb.AdjustStack subtract offset.now)) }
+    ensures { IfOk result (λ i. i
+        ≡ forms.thumb_instruction (context_of scene.now) (thumb.AdjustStack subtract offset.now)) }
 {
     let number = number_there(alloc, scene, offset)?;
     Ok(one(stack_sum(subtract, number)))

@@ -117,7 +117,8 @@ fn instruction_there(alloc: Global, scene: &Scene<'_>, line: &ThumbLine) -> Said
 /// far pc stands behind the start of the area.
 pub fn thumb_instruction(alloc: Global, scene: &Scene<'_>, line: &ThumbLine) -> Said
     requires { ThumbSaid line.now }
-    ensures { IfOk result (λ i. (c : Context) → Shows scene.now c → i ≡ forms.thumb_instruction c line.now) }
+    ensures { IfOk result (λ i. (c : Context) → Shows scene.now c → i
+        ≡ forms.thumb_instruction c line.now) }
 {
     instruction_there(alloc, scene, line)
 }
@@ -196,7 +197,8 @@ pub fn thumb_pseudo_instruction(
     line: &PseudoLine,
 ) -> Result<Result<ThumbInstr, LineKind>, NoMemory>
     requires { PseudoSaid line.now }
-    ensures { IfOk result (λ i. (c : Context) → Shows scene.now c → i ≡ forms.thumb_pseudo c word line.now) }
+    ensures { IfOk result (λ i. (c : Context) → Shows scene.now c → i
+        ≡ forms.thumb_pseudo c word line.now) }
 {
     pseudo_there(alloc, scene, word, line)
 }

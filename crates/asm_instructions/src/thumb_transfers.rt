@@ -63,7 +63,8 @@ pub fn load_literal(
     address: &LiteralAddress,
 ) -> Said
     requires { LiteralSaid address.now }
-    ensures { IfOk result (λ i. i ≡ forms.thumb_instruction (context_of scene.now) (thumb.LoadLiteral rd.now address.now)) }
+    ensures { IfOk result (λ i. i
+        ≡ forms.thumb_instruction (context_of scene.now) (thumb.LoadLiteral rd.now address.now)) }
 {
     let at = literal_at(alloc, scene, address)?;
     match both(low(scene, rd), at) {
@@ -80,7 +81,8 @@ pub fn transfer_register(
     rn: &Register,
     ro: &Register,
 ) -> Result<ThumbCode, LineKind>
-    ensures { result ≡ forms.thumb_instruction (context_of scene.now) (thumb.TransferRegister load byte rd.now rn.now ro.now) }
+    ensures { result ≡ forms.thumb_instruction (context_of scene.now)
+        (thumb.TransferRegister load byte rd.now rn.now ro.now) }
 {
     match low_three(scene, rd, rn, ro) {
         Ok(((rd, rn), ro)) => Ok(ThumbCode::One(ThumbInstr::TransferRegister {
@@ -101,7 +103,8 @@ pub fn transfer_signed(
     rn: &Register,
     ro: &Register,
 ) -> Result<ThumbCode, LineKind>
-    ensures { result ≡ forms.thumb_instruction (context_of scene.now) (thumb.TransferSigned kind rd.now rn.now ro.now) }
+    ensures { result ≡ forms.thumb_instruction (context_of scene.now)
+        (thumb.TransferSigned kind rd.now rn.now ro.now) }
 {
     match low_three(scene, rd, rn, ro) {
         Ok(((rd, rn), ro)) => Ok(ThumbCode::One(ThumbInstr::TransferSigned { kind, ro, rn, rd })),
@@ -188,7 +191,9 @@ pub fn transfer_immediate(
     offset: &Expr,
 ) -> Said
     requires { IsRead offset.now }
-    ensures { IfOk result (λ i. i ≡ forms.thumb_instruction (context_of scene.now) (thumb.TransferImmediate load byte rd.now rn.now offset.now)) }
+    ensures { IfOk result (λ i. i
+        ≡ forms.thumb_instruction (context_of scene.now)
+        (thumb.TransferImmediate load byte rd.now rn.now offset.now)) }
 {
     let number = number_there(alloc, scene, offset)?;
     let with = register(scene, rd);
@@ -205,7 +210,9 @@ pub fn transfer_half(
     offset: &Expr,
 ) -> Said
     requires { IsRead offset.now }
-    ensures { IfOk result (λ i. i ≡ forms.thumb_instruction (context_of scene.now) (thumb.TransferHalf load rd.now rn.now offset.now)) }
+    ensures { IfOk result (λ i. i
+        ≡ forms.thumb_instruction (context_of scene.now)
+        (thumb.TransferHalf load rd.now rn.now offset.now)) }
 {
     let number = number_there(alloc, scene, offset)?;
     match both(low_two(scene, rd, rn), offset_below(2, 32, number)) {
@@ -227,7 +234,9 @@ pub fn transfer_stack(
     offset: &Expr,
 ) -> Said
     requires { IsRead offset.now }
-    ensures { IfOk result (λ i. i ≡ forms.thumb_instruction (context_of scene.now) (thumb.TransferStack load rd.now offset.now)) }
+    ensures { IfOk result (λ i. i
+        ≡ forms.thumb_instruction (context_of scene.now)
+        (thumb.TransferStack load rd.now offset.now)) }
 {
     let number = number_there(alloc, scene, offset)?;
     match both(low(scene, rd), offset_below(4, 256, number)) {
@@ -267,7 +276,8 @@ fn link_bit(load: bool) -> u16
 }
 
 pub fn push_pop(scene: &Scene<'_>, load: bool, list: &RegisterList) -> Result<ThumbCode, LineKind>
-    ensures { result ≡ forms.thumb_instruction (context_of scene.now) (thumb.PushPop load list.now) }
+    ensures { result ≡ forms.thumb_instruction (context_of scene.now)
+        (thumb.PushPop load list.now) }
 {
     match listed(link_bit(load), bits_of(scene, list)) {
         Ok((link, list)) => Ok(ThumbCode::One(ThumbInstr::PushPop { load, link, list })),
@@ -290,7 +300,8 @@ pub fn transfer_multiple(
     rn: &Register,
     list: &RegisterList,
 ) -> Result<ThumbCode, LineKind>
-    ensures { result ≡ forms.thumb_instruction (context_of scene.now) (thumb.TransferMultiple load rn.now list.now) }
+    ensures { result ≡ forms.thumb_instruction (context_of scene.now)
+        (thumb.TransferMultiple load rn.now list.now) }
 {
     match both(low(scene, rn), low_list(bits_of(scene, list))) {
         Ok((rn, list)) => Ok(ThumbCode::One(ThumbInstr::TransferMultiple { load, rn, list })),

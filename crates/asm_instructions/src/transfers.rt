@@ -53,7 +53,9 @@ fn based(
     indexing: Indexing,
     number: Result<u32, LineKind>,
 ) -> Result<ArmInstr, LineKind>
-    ensures { result ≡ and_then number (λ n. mapped (λ o. instr.TransferImmediate condition (forms.is_before indexing) o.0 byte (forms.writes_back indexing) load rn rd o.1) (contexts.offset_below 4096 n)) }
+    ensures { result ≡ and_then number
+        (λ n. mapped (λ o. instr.TransferImmediate condition (forms.is_before indexing) o.0 byte
+        (forms.writes_back indexing) load rn rd o.1) (contexts.offset_below 4096 n)) }
 {
     let number = number?;
     let (up, offset) = offset_below(4096, number)?;
@@ -78,7 +80,9 @@ pub fn behind_pc(
     rd: u8,
     distance: u32,
 ) -> Result<ArmInstr, LineKind>
-    ensures { result ≡ mapped (λ o. instr.TransferImmediate condition true o.0 byte false load 15 rd o.1) (contexts.offset_below 4096 distance) }
+    ensures { result ≡ mapped
+        (λ o. instr.TransferImmediate condition true o.0 byte false load 15 rd o.1)
+        (contexts.offset_below 4096 distance) }
 {
     let (up, offset) = offset_below(4096, distance)?;
     Ok(ArmInstr::TransferImmediate {
@@ -102,7 +106,9 @@ fn at_label(
     rd: u8,
     label: Result<u32, LineKind>,
 ) -> Result<ArmInstr, LineKind>
-    ensures { result ≡ and_then label (λ at. mapped (λ o. instr.TransferImmediate condition true o.0 byte false load 15 rd o.1) (contexts.offset_below 4096 (contexts.from_pc (context_of scene.now) at))) }
+    ensures { result ≡ and_then label
+        (λ at. mapped (λ o. instr.TransferImmediate condition true o.0 byte false load 15 rd o.1)
+        (contexts.offset_below 4096 (contexts.from_pc (context_of scene.now) at))) }
 {
     match label {
         Ok(at) => behind_pc(condition, load, byte, rd, from_pc(scene, at)),
@@ -120,7 +126,8 @@ fn transfer_at(
     address: &Address,
 ) -> Result<Result<ArmInstr, LineKind>, NoMemory>
     requires { AddressSaid address.now }
-    ensures { IfOk result (λ i. i ≡ forms.transfer_at (context_of scene.now) condition load byte rd address.now) }
+    ensures { IfOk result (λ i. i
+        ≡ forms.transfer_at (context_of scene.now) condition load byte rd address.now) }
 {
     match address {
         Address::Based {
@@ -150,7 +157,9 @@ pub fn transfer(
     address: &Address,
 ) -> Result<Result<ArmInstr, LineKind>, NoMemory>
     requires { AddressSaid address.now }
-    ensures { IfOk result (λ i. i ≡ forms.arm_instruction (context_of scene.now) (arm.TransferImmediate condition load byte rd.now address.now)) }
+    ensures { IfOk result (λ i. i
+        ≡ forms.arm_instruction (context_of scene.now)
+        (arm.TransferImmediate condition load byte rd.now address.now)) }
 {
     let with = register(scene, rd);
     transfer_at(alloc, scene, condition, load, byte, with, address)
@@ -167,7 +176,9 @@ fn with_shift(
     rm: u8,
     fields: Result<(ShiftKind, u8), LineKind>,
 ) -> Result<ArmInstr, LineKind>
-    ensures { result ≡ mapped (λ f. instr.TransferShifted condition (forms.is_before indexing) (not subtract) byte (forms.writes_back indexing) load rn rd f.1 f.0 rm) fields }
+    ensures { result ≡ mapped
+        (λ f. instr.TransferShifted condition (forms.is_before indexing) (not subtract) byte
+        (forms.writes_back indexing) load rn rd f.1 f.0 rm) fields }
 {
     let (shift, amount) = fields?;
     Ok(ArmInstr::TransferShifted {
@@ -199,7 +210,9 @@ pub fn transfer_shifted(
     shift: &Shift,
 ) -> Result<Result<ArmInstr, LineKind>, NoMemory>
     requires { ShiftSaid shift.now }
-    ensures { IfOk result (λ i. i ≡ forms.arm_instruction (context_of scene.now) (arm.TransferShifted condition load byte rd.now rn.now indexing subtract rm.now shift.now)) }
+    ensures { IfOk result (λ i. i
+        ≡ forms.arm_instruction (context_of scene.now)
+        (arm.TransferShifted condition load byte rd.now rn.now indexing subtract rm.now shift.now)) }
 {
     let base = register(scene, rn);
     let with = register(scene, rd);
@@ -219,7 +232,10 @@ fn half_by_number(
     indexing: Indexing,
     number: Result<u32, LineKind>,
 ) -> Result<ArmInstr, LineKind>
-    ensures { result ≡ and_then number (λ n. mapped (λ o. instr.TransferHalf condition (forms.is_before indexing) o.0 true (forms.writes_back indexing) load rn rd (o.1 / 16) kind (o.1 % 16)) (contexts.offset_below 256 n)) }
+    ensures { result ≡ and_then number
+        (λ n. mapped (λ o. instr.TransferHalf condition (forms.is_before indexing) o.0 true
+        (forms.writes_back indexing) load rn rd (o.1 / 16) kind (o.1 % 16))
+        (contexts.offset_below 256 n)) }
 {
     let number = number?;
     let (up, offset) = offset_below(256, number)?;
@@ -248,7 +264,8 @@ fn half_by_register(
     subtract: bool,
     rm: u8,
 ) -> ArmInstr
-    ensures { result ≡ instr.TransferHalf condition (forms.is_before indexing) (not subtract) false (forms.writes_back indexing) load rn rd 0 kind rm }
+    ensures { result ≡ instr.TransferHalf condition (forms.is_before indexing) (not subtract) false
+        (forms.writes_back indexing) load rn rd 0 kind rm }
 {
     ArmInstr::TransferHalf {
         condition,
@@ -277,7 +294,8 @@ fn half_at(
     offset: &HalfOffset,
 ) -> Result<Result<ArmInstr, LineKind>, NoMemory>
     requires { HalfOffsetSaid offset.now }
-    ensures { IfOk result (λ i. i ≡ forms.half_at (context_of scene.now) condition load kind rd rn indexing offset.now) }
+    ensures { IfOk result (λ i. i
+        ≡ forms.half_at (context_of scene.now) condition load kind rd rn indexing offset.now) }
 {
     match offset {
         HalfOffset::Number { offset } => {
@@ -303,7 +321,9 @@ pub fn transfer_half(
     offset: &HalfOffset,
 ) -> Result<Result<ArmInstr, LineKind>, NoMemory>
     requires { HalfOffsetSaid offset.now }
-    ensures { IfOk result (λ i. i ≡ forms.arm_instruction (context_of scene.now) (arm.TransferHalf condition load kind rd.now rn.now indexing offset.now)) }
+    ensures { IfOk result (λ i. i
+        ≡ forms.arm_instruction (context_of scene.now)
+        (arm.TransferHalf condition load kind rd.now rn.now indexing offset.now)) }
 {
     let with = register(scene, rd);
     let base = register(scene, rn);

@@ -59,7 +59,8 @@ pub fn value_of(
     e: &Expr,
 ) -> Result<Result<Value, LineKind>, NoMemory>
     requires { IsRead e.now }
-    ensures { IfOk result (λ value. (c : Context) → Shows scene.now c → value ≡ contexts.value_of c e.now) }
+    ensures { IfOk result (λ value. (c : Context) → Shows scene.now c → value
+        ≡ contexts.value_of c e.now) }
 {
     value_there(alloc, scene, e)
 }
@@ -71,7 +72,8 @@ pub fn number_in(
     e: &Expr,
 ) -> Result<Result<u32, LineKind>, NoMemory>
     requires { IsRead e.now }
-    ensures { IfOk result (λ number. (c : Context) → Shows scene.now c → number ≡ contexts.number_in c e.now) }
+    ensures { IfOk result (λ number. (c : Context) → Shows scene.now c → number
+        ≡ contexts.number_in c e.now) }
 {
     number_there(alloc, scene, e)
 }

@@ -63,7 +63,8 @@ fn pseudo_alignment(line: &PseudoLine, thumb: bool) -> u32
 
 fn directive_alignment(line: &DirectiveLine, thumb: bool, pool: u32) -> u32
     requires { IsAlignment pool }
-    ensures alignment { (literals : List Value) → pool ≡ aligned_for literals → result ≡ extents.directive_alignment thumb literals line.now }
+    ensures alignment { (literals : List Value) → pool ≡ aligned_for literals → result
+        ≡ extents.directive_alignment thumb literals line.now }
     ensures small { IsAlignment result }
 {
     match line {
@@ -78,7 +79,8 @@ fn directive_alignment(line: &DirectiveLine, thumb: bool, pool: u32) -> u32
 /// The alignment of a statement, by that of a pool that would stand there.
 fn alignment(what: &What, thumb: bool, pool: u32) -> u32
     requires { IsAlignment pool }
-    ensures alignment { (literals : List Value) → pool ≡ aligned_for literals → result ≡ extents.alignment thumb literals what.now }
+    ensures alignment { (literals : List Value) → pool ≡ aligned_for literals → result
+        ≡ extents.alignment thumb literals what.now }
     ensures small { IsAlignment result }
 {
     match what {
@@ -151,7 +153,8 @@ impl Areas {
     /// The offset of a statement in its area.
     pub fn start(&self, what: &What, thumb: bool) -> u32
         requires { ArePlaceable self.now }
-        ensures { (pieces : List Piece) → IsBehind pieces self.now.ends → result ≡ aligned_end self.now.current pieces thumb what.now }
+        ensures { (pieces : List Piece) → IsBehind pieces self.now.ends → result
+            ≡ aligned_end self.now.current pieces thumb what.now }
     {
         let pool = self.ends.pool_alignment(self.current);
         self.ends.start(self.current, alignment(what, thumb, pool))

@@ -50,7 +50,8 @@ fn declared_entry(
 
 /// The entry of the name that a statement imports.
 fn add_imported(alloc: Global, names: &mut KnownNames, what: &What) -> Result<(), NoMemory>
-    ensures { OnOk result (names.new ≡ names.old ++ labels.declared_imports (labels.imported_in what.now)) }
+    ensures { OnOk result (names.new
+        ≡ names.old ++ labels.declared_imports (labels.imported_in what.now)) }
 {
     match imported_name(what) {
         None => Ok(()),

@@ -104,7 +104,8 @@ fn load_number(thumb: bool, number: u32) -> Extent
 }
 
 fn load_place(thumb: bool, literal: Value) -> Extent
-    ensures { extent_of_code result ≡ capped (if thumb then Loading 2 literal else Loading 4 literal) }
+    ensures { extent_of_code result
+        ≡ capped (if thumb then Loading 2 literal else Loading 4 literal) }
 {
     load(thumb, literal)
 }
@@ -134,7 +135,8 @@ fn pseudo_extent(
     line: &PseudoLine,
 ) -> Result<Result<Extent, LineKind>, NoMemory>
     requires { PseudoSaid line.now }
-    ensures { IfOk result (λ extent. coded extent ≡ all_capped (extents.pseudo_extent (seen_names seen.now) line.now)) }
+    ensures { IfOk result (λ extent. coded extent
+        ≡ all_capped (extents.pseudo_extent (seen_names seen.now) line.now)) }
 {
     match line {
         PseudoLine::LoadConstant { value, .. } => {
@@ -170,8 +172,10 @@ fn is_string(value: &Result<Value, LineKind>) -> bool
 /// The bytes and marks of operands of DCB.
 fn byte_counts(alloc: Global, seen: &Seen<'_>, operands: &[Expr]) -> Result<Counted, NoMemory>
     requires { AllRead operands.now }
-    ensures bytes { IfOk result (λ counted. counted.bytes ≡ min (extents.byte_counts (seen_names seen.now) operands.now) most_bytes) }
-    ensures strings { IfOk result (λ counted. counted.strings.items ≡ marks (seen_names seen.now) operands.now) }
+    ensures bytes { IfOk result (λ counted. counted.bytes
+        ≡ min (extents.byte_counts (seen_names seen.now) operands.now) most_bytes) }
+    ensures strings { IfOk result (λ counted. counted.strings.items
+        ≡ marks (seen_names seen.now) operands.now) }
 {
     let mut bytes: u32 = 0;
     let mut strings = Vec::new(alloc);
@@ -192,7 +196,8 @@ fn byte_counts(alloc: Global, seen: &Seen<'_>, operands: &[Expr]) -> Result<Coun
 /// What operands of DCB take up.
 fn bytes_taken(alloc: Global, seen: &Seen<'_>, operands: &[Expr]) -> Result<Taken, NoMemory>
     requires { AllRead operands.now }
-    ensures { IfOk result (λ taken. IsTaken (seen_names seen.now) (kinds.Directive (lines.Dcb operands.now)) taken) }
+    ensures { IfOk result
+        (λ taken. IsTaken (seen_names seen.now) (kinds.Directive (lines.Dcb operands.now)) taken) }
 {
     let counted = byte_counts(alloc, seen, operands)?;
     let Counted { bytes, strings } = counted;
@@ -257,7 +262,8 @@ fn padding(
     boundary: &Boundary,
 ) -> Result<Result<Extent, LineKind>, NoMemory>
     requires { BoundaryRead boundary.now }
-    ensures { IfOk result (λ extent. coded extent ≡ all_capped (extents.padding (seen_names seen.now) boundary.now)) }
+    ensures { IfOk result (λ extent. coded extent
+        ≡ all_capped (extents.padding (seen_names seen.now) boundary.now)) }
 {
     match boundary {
         Boundary::Word => Ok(Ok(Extent::Padding {
@@ -278,7 +284,8 @@ fn padding(
 
 fn directive_extent(alloc: Global, seen: &Seen<'_>, line: &DirectiveLine) -> Result<Taken, NoMemory>
     requires { DirectiveSaid line.now }
-    ensures { IfOk result (λ taken. IsTaken (seen_names seen.now) (kinds.Directive line.now) taken) }
+    ensures { IfOk result
+        (λ taken. IsTaken (seen_names seen.now) (kinds.Directive line.now) taken) }
 {
     match line {
         DirectiveLine::Entry => Ok(plainly(alloc, Ok(entry(seen.thumb)))),

@@ -63,7 +63,8 @@ fn equal_with(
     name: &Text,
     value: Result<Value, LineKind>,
 ) -> Result<Equated, NoMemory>
-    ensures entry { IfOk result (λ equal. equal.entry ≡ Some (entry_of_equal declared.now area name.now value)) }
+    ensures entry { IfOk result (λ equal. equal.entry
+        ≡ Some (entry_of_equal declared.now area name.now value)) }
     ensures known { IfOk result (λ equal. equal.known ≡ is_value value) }
 {
     match value {
@@ -87,7 +88,9 @@ fn equal_there(
     defines: &Defines<'_>,
 ) -> Result<Equated, NoMemory>
     requires { DefinedRead (defined_of defines.now) }
-    ensures { IfOk result (λ equal. IsEquated declared.now seen.now.area (seen_names seen.now) (defined_of defines.now) equal) }
+    ensures { IfOk result
+        (λ equal. IsEquated declared.now seen.now.area (seen_names seen.now)
+        (defined_of defines.now) equal) }
 {
     match defines {
         Defines::Equal(name, e) => {
@@ -107,7 +110,8 @@ pub fn unsized_entry(
     statement: &Statement,
     spot: &Spot,
 ) -> Result<Option<LaidName>, NoMemory>
-    ensures { IfOk result (λ entry. entry ≡ unsized_entry (labels.defined_by statement.now) spot.now) }
+    ensures { IfOk result (λ entry. entry
+        ≡ unsized_entry (labels.defined_by statement.now) spot.now) }
 {
     let defines = defined_by(statement);
     own_entry(
@@ -131,7 +135,9 @@ pub fn find(
     statement: &Statement,
 ) -> Result<Found, NoMemory>
     requires { IsSaid statement.now }
-    ensures { IfOk result (λ found. Finds declared.now names.now (option_copied own.entry) spot.now statement.now found) }
+    ensures { IfOk result
+        (λ found. Finds declared.now names.now
+        (option_copied own.entry) spot.now statement.now found) }
 {
     let seen = Seen {
         names,

@@ -164,7 +164,8 @@ impl Laying {
     ) -> Result<Result<Placed, LineKind>, NoMemory>
         requires there { IsThere spot.now.area self.old.areas.ends }
         requires extent { IsExtent (extent_of_code extent) }
-        ensures { laying.Puts statement.now spot.now (Ok extent) (Ok map) own equal strings self.old self.new result }
+        ensures { laying.Puts statement.now spot.now (Ok extent)
+            (Ok map) own equal strings self.old self.new result }
     {
         let placed = self.areas.ends.place(spot.area, extent)?;
         match placed {
@@ -205,7 +206,8 @@ impl Laying {
     ) -> Result<Result<Placed, LineKind>, NoMemory>
         requires there { IsThere spot.now.area self.old.areas.ends }
         requires extent { IsExtent (extent_of_code extent) }
-        ensures { laying.Puts statement.now spot.now (Ok extent) map own equal strings self.old self.new result }
+        ensures { laying.Puts statement.now spot.now
+            (Ok extent) map own equal strings self.old self.new result }
     {
         match map {
             Err(kind) => Ok(Err(kind)),

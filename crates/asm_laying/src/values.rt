@@ -88,7 +88,8 @@ fn given_there(
     seen: &Seen<'_>,
 ) -> Result<Result<u32, LineKind>, NoMemory>
     requires { GivenSaid given.now }
-    ensures { IfOk result (λ number. number ≡ said_number (seen_names seen.now) (kinds.Directive (lines.Rn given.now))) }
+    ensures { IfOk result (λ number. number
+        ≡ said_number (seen_names seen.now) (kinds.Directive (lines.Rn given.now))) }
 {
     match given {
         RnOperand::Register(_) => Ok(Ok(0)),
@@ -102,7 +103,8 @@ fn directive_number(
     seen: &Seen<'_>,
 ) -> Result<Result<u32, LineKind>, NoMemory>
     requires { DirectiveSaid line.now }
-    ensures { IfOk result (λ number. number ≡ said_number (seen_names seen.now) (kinds.Directive line.now)) }
+    ensures { IfOk result (λ number. number
+        ≡ said_number (seen_names seen.now) (kinds.Directive line.now)) }
 {
     match line {
         DirectiveLine::Area { attributes, .. } => exponent_there(alloc, &attributes.align, seen),

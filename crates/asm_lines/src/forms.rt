@@ -95,7 +95,8 @@ fn based_len(rest: &[u8]) -> usize
 
 /// `_` and digits of a base up to 9.
 fn digits_len(rest: &[u8], base: u8) -> usize
-    ensures value { result ≡ lengths.behind_len (λ c. c == 95) (prefix_len (forms.is_digit_of base)) rest.now }
+    ensures value { result
+        ≡ lengths.behind_len (λ c. c == 95) (prefix_len (forms.is_digit_of base)) rest.now }
     ensures within { result ≤ length rest.now }
 {
     let Some((first, digits)) = rest.split_first() else {
@@ -123,7 +124,8 @@ fn zero_x_len(rest: &[u8]) -> usize
 
 /// `x` and hexadecimal digits.
 fn x_len(rest: &[u8]) -> usize
-    ensures value { result ≡ lengths.behind_len (λ c. c == 120) (prefix_len forms.is_hex_digit) rest.now }
+    ensures value { result
+        ≡ lengths.behind_len (λ c. c == 120) (prefix_len forms.is_hex_digit) rest.now }
     ensures within { result ≤ length rest.now }
 {
     let Some((first, digits)) = rest.split_first() else {
@@ -230,7 +232,8 @@ fn short_len(rest: &[u8]) -> usize
 
 /// F or B, and one digit or two.
 fn way_len(rest: &[u8]) -> usize
-    ensures value { result ≡ lengths.behind_len (λ c. c == 70 || c == 66) lengths.short_len rest.now }
+    ensures value { result
+        ≡ lengths.behind_len (λ c. c == 70 || c == 66) lengths.short_len rest.now }
     ensures within { result ≤ length rest.now }
 {
     let Some((first, digits)) = rest.split_first() else {

@@ -189,7 +189,9 @@ fn begin(text: &[u8], count: usize) -> &[u8]
 /// The tokens of a line, where it has tokens; None where it has none. A name may be too long.
 pub fn scan(alloc: Global, text: &[u8]) -> Result<Option<Vec<Token>>, NoMemory>
     requires { length text.now < 2 ^ 32 }
-    ensures { IfOk result (λ found. MatchOption found (model.NoTokens text.now) (λ v. model.Tokens text.now v.items)) }
+    ensures { IfOk result
+        (λ found. MatchOption found (model.NoTokens text.now)
+        (λ v. model.Tokens text.now v.items)) }
 {
     let mut list = Vec::new(alloc);
     let mut due = first_due(text);

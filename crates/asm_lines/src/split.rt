@@ -42,7 +42,8 @@ pub fn split_lines(alloc: Global, source: &Text, text: &[u8]) -> Result<List<Lin
 }
 
 fn line_of(alloc: Global, source: &Text, number: u32, text: &[u8]) -> Result<Line, NoMemory>
-    ensures { IfOk result (λ line. line ≡ record { source = source.now; number = number; text = text.now }) }
+    ensures { IfOk result (λ line. line
+        ≡ record { source = source.now; number = number; text = text.now }) }
 {
     let source = source.try_clone(alloc)?;
     let text = Bytes::from_slice(alloc, text)?;

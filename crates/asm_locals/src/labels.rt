@@ -142,7 +142,8 @@ impl Nearest {
 
     fn clear(&mut self)
         ensures way { self.new.way ≡ self.old.way }
-        ensures none { length self.old.table.items ≡ 100 → IsTable self.new.table.items (λ n. None) }
+        ensures none { length self.old.table.items ≡ 100
+            → IsTable self.new.table.items (λ n. None) }
     {
         self.table.fill(None);
     }
@@ -150,7 +151,8 @@ impl Nearest {
     /// Forgets the labels of a stretch, where a line begins one.
     pub fn begin(&mut self, begins: bool)
         ensures way { self.new.way ≡ self.old.way }
-        ensures begun { (labels : ℕ → Option ℕ) → IsTable self.old.table.items labels → IsTable self.new.table.items (begun begins labels) }
+        ensures begun { (labels : ℕ → Option ℕ) → IsTable self.old.table.items labels
+            → IsTable self.new.table.items (begun begins labels) }
     {
         if begins {
             self.clear();
@@ -160,7 +162,8 @@ impl Nearest {
     /// A statement's label, where it has one.
     pub fn add(&mut self, number: Option<usize>, statement: u64)
         ensures way { self.new.way ≡ self.old.way }
-        ensures noted { (labels : ℕ → Option ℕ) → IsTable self.old.table.items labels → IsTable self.new.table.items (noted number statement labels) }
+        ensures noted { (labels : ℕ → Option ℕ) → IsTable self.old.table.items labels
+            → IsTable self.new.table.items (noted number statement labels) }
     {
         if let Some(number) = number
             && number < self.table.len()

@@ -137,7 +137,8 @@ fn name_attributes(
     attributes: &mut AreaAttributes,
     labels: &Nearest,
 ) -> Result<(), NoMemory>
-    ensures { OnOk result (attributes.new ≡ naming.named_attributes (found labels.now) attributes.old) }
+    ensures { OnOk result (attributes.new
+        ≡ naming.named_attributes (found labels.now) attributes.old) }
 {
     match &mut attributes.align {
         None => Ok(()),

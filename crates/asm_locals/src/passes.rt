@@ -23,7 +23,10 @@ fn name_back(
 ) -> Result<(), NoMemory>
     requires { labels.old.way ≡ way.Back }
     ensures way { labels.new.way ≡ way.Back }
-    ensures named { OnOk result ((before : List Statement) → length before ≡ at → IsTable labels.old.table.items (label_behind before) → IsTable labels.new.table.items (label_behind (statement.old ∷ before)) × (statement.new ≡ named_back before statement.old)) }
+    ensures named { OnOk result ((before : List Statement) → length before ≡ at
+        → IsTable labels.old.table.items (label_behind before)
+        → IsTable labels.new.table.items (label_behind (statement.old ∷ before))
+        × (statement.new ≡ named_back before statement.old)) }
 {
     labels.begin(begins_stretch(&statement.what));
     labels.add(local_number(statement), at);
@@ -55,7 +58,10 @@ fn name_ahead(
 ) -> Result<(), NoMemory>
     requires { labels.old.way ≡ way.Forth }
     ensures way { labels.new.way ≡ way.Forth }
-    ensures named { OnOk result ((rest : List Statement) → IsTable labels.old.table.items (label_ahead (suc at) rest) → IsTable labels.new.table.items (label_ahead at (statement.old ∷ rest)) × (statement.new ≡ named_ahead at statement.old rest)) }
+    ensures named { OnOk result ((rest : List Statement)
+        → IsTable labels.old.table.items (label_ahead (suc at) rest)
+        → IsTable labels.new.table.items (label_ahead at (statement.old ∷ rest))
+        × (statement.new ≡ named_ahead at statement.old rest)) }
 {
     let local = local_number(statement);
     let begins = begins_stretch(&statement.what);

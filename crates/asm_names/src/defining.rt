@@ -53,7 +53,8 @@ pub fn own_entry(
     thumb: bool,
     map: u32,
 ) -> Result<Option<LaidName>, NoMemory>
-    ensures { IfOk result (λ entry. entry ≡ own_entry (defined_of defines.now) area offset size thumb map) }
+    ensures { IfOk result (λ entry. entry
+        ≡ own_entry (defined_of defines.now) area offset size thumb map) }
 {
     match defines {
         Defines::Label(name) => {

@@ -23,7 +23,8 @@ pub struct Due<'a> {
 }
 
 fn push_due<'a>(dues: &mut Vec<Due<'a>>, line: &PlacedLine<'a>) -> Result<(), NoMemory>
-    ensures { OnOk result (map owed_of dues.new.items ≡ map owed_of dues.old.items ++ owed_in line.now) }
+    ensures { OnOk result (map owed_of dues.new.items
+        ≡ map owed_of dues.old.items ++ owed_in line.now) }
 {
     let line = *line;
     if let Defines::Equal(name, value) = defined_by(line.statement) {
@@ -44,7 +45,8 @@ pub fn dues_of<'a>(alloc: Global, lines: &[PlacedLine<'a>]) -> Result<Vec<Due<'a
 }
 
 fn equals_of<'a>(alloc: Global, dues: &[Due<'a>]) -> Result<Vec<Equal<'a>>, NoMemory>
-    ensures pairs { IfOk result (λ equals. pairs_of equals.items ≡ map (λ d. equal_pair (owed_of d)) dues.now) }
+    ensures pairs { IfOk result (λ equals. pairs_of equals.items
+        ≡ map (λ d. equal_pair (owed_of d)) dues.now) }
     ensures count { IfOk result (λ equals. length equals.items ≡ length dues.now) }
 {
     let mut equals = Vec::new(alloc);
@@ -60,7 +62,8 @@ fn equals_of<'a>(alloc: Global, dues: &[Due<'a>]) -> Result<Vec<Equal<'a>>, NoMe
 /// The places of names for expressions, each behind those that its expression mentions. More of them than numbers count
 /// as want of memory.
 pub fn places_of(alloc: Global, dues: &[Due<'_>]) -> Result<Vec<u32>, NoMemory>
-    ensures { IfOk result (λ places. IsOrder (map (λ d. equal_pair (owed_of d)) dues.now) places.items) }
+    ensures { IfOk result
+        (λ places. IsOrder (map (λ d. equal_pair (owed_of d)) dues.now) places.items) }
 {
     if dues.len() > 0xFFFF_FFFF {
         return Err(NoMemory);

@@ -27,7 +27,8 @@ pub fn number_of(index: &IndexMap<&[u8], u32>, name: &Text) -> u32
 
 /// Gives a name a number, in the place of the one that it had.
 fn put<'a>(index: &mut IndexMap<&'a [u8], u32>, name: &'a Text, number: u32) -> Result<(), NoMemory>
-    ensures { OnOk result ((q : List ℕ) → number_in index.new q ≡ (if same q name.now then Some number else number_in index.old q)) }
+    ensures { OnOk result ((q : List ℕ) → number_in index.new q
+        ≡ (if same q name.now then Some number else number_in index.old q)) }
 {
     index.insert(name.as_slice(), number)?;
     Ok(())

@@ -29,7 +29,8 @@ fn has_value(entry: Option<&LaidName>) -> bool
 
 /// A name; where it has no value, a place with this symbol.
 fn kept(alloc: Global, seen: &Seen<'_>, name: &Text) -> Result<ExprItem, NoMemory>
-    ensures { IfOk result (λ kept. kept ≡ at_line.kept_name (seen_names seen.now) (ExprItem.Name name.now)) }
+    ensures { IfOk result (λ kept. kept
+        ≡ at_line.kept_name (seen_names seen.now) (ExprItem.Name name.now)) }
 {
     let symbol = name.try_clone(alloc)?;
     if has_value(entry_named(seen, name)) {
@@ -65,7 +66,8 @@ fn kept_before(
     operator: Option<UnaryOp>,
     item: &ExprItem,
 ) -> Result<ExprItem, NoMemory>
-    ensures { IfOk result (λ kept. kept ≡ steps.kept_before (seen_names seen.now) operator item.now) }
+    ensures { IfOk result (λ kept. kept
+        ≡ steps.kept_before (seen_names seen.now) operator item.now) }
 {
     match operator {
         Some(UnaryOp::Size) => item_copy(alloc, item),

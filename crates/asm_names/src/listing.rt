@@ -33,7 +33,8 @@ fn entry_in(
     known: &KnownNames,
     line: &PlacedLine<'_>,
 ) -> Result<Option<LaidName>, NoMemory>
-    ensures { IfOk result (λ entry. one_entry entry ≡ own_entries known.now line.now (definition_in line.now.statement.now)) }
+    ensures { IfOk result (λ entry. one_entry entry
+        ≡ own_entries known.now line.now (definition_in line.now.statement.now)) }
 {
     match defined_by(line.statement) {
         Defines::Equal(name, _) => entry_named(alloc, known, name),

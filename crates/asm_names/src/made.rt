@@ -123,7 +123,8 @@ fn known_entry(
     name: &Text,
     value: Value,
 ) -> Result<LaidName, NoMemory>
-    ensures { IfOk result (λ entry. entry ≡ entries.equal_entry declared.now area name.now (Ok value)) }
+    ensures { IfOk result (λ entry. entry
+        ≡ entries.equal_entry declared.now area name.now (Ok value)) }
 {
     match value {
         Value::Place { symbol, plus } => {

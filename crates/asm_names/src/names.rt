@@ -20,7 +20,8 @@ pub fn final_names(
     lines: &[PlacedLine<'_>],
     declared: &KnownNames,
 ) -> Result<KnownNames, NoMemory>
-    ensures { (statements : List Statement) → IsSource statements lines.now declared.now → IfOk result (λ names. names ≡ laying.final_names (laying.laid statements)) }
+    ensures { (statements : List Statement) → IsSource statements lines.now declared.now
+        → IfOk result (λ names. names ≡ laying.final_names (laying.laid statements)) }
 {
     let dues = dues_of(alloc, lines)?;
     let places = places_of(alloc, dues.as_slice())?;

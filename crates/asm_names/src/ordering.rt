@@ -31,7 +31,8 @@ fn marks_of(
     known: &[bool],
 ) -> Result<Vec<bool>, NoMemory>
     requires { IsWithin index.now (length known.now) }
-    ensures { IfOk result (λ marks. marks.items ≡ map (λ e. is_known_name index.now known.now e.name.now) equals.now) }
+    ensures { IfOk result (λ marks. marks.items
+        ≡ map (λ e. is_known_name index.now known.now e.name.now) equals.now) }
 {
     let mut marks = Vec::new(alloc);
     for equal in equals {
@@ -63,7 +64,8 @@ fn searched(
 /// its definitions that can be evaluated.
 pub fn order_of(alloc: Global, equals: &[Equal<'_>]) -> Result<Order, NoMemory>
     requires { length equals.now < 2 ^ 32 }
-    ensures settled { IfOk result (λ order. order.settled.items ≡ map (λ e. is_settled (pairs_of equals.now) e.name.now) equals.now) }
+    ensures settled { IfOk result (λ order. order.settled.items
+        ≡ map (λ e. is_settled (pairs_of equals.now) e.name.now) equals.now) }
     ensures places { IfOk result (λ order. IsOrder (pairs_of equals.now) order.places.items) }
 {
     let index = index_of(alloc, equals)?;

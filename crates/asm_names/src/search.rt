@@ -100,7 +100,10 @@ fn look_at(
     requires within { IsWithin index.now (length known.now) }
     requires lists { length waits.old.items ≡ length known.now }
     requires waiting { CanBeLookedAt (pairs_of equals.now) waiting }
-    ensures { OnOk result (Looked (unknown_from index.now known.now waiting.item (drop waiting.item (items_at (pairs_of equals.now) waiting.equal))) waiting.equal waits.old.items waits.new.items places.old.items places.new.items) }
+    ensures { OnOk result
+        (Looked (unknown_from index.now known.now waiting.item
+        (drop waiting.item (items_at
+        (pairs_of equals.now) waiting.equal))) waiting.equal waits.old.items waits.new.items places.old.items places.new.items) }
 {
     let value = equals[waiting.equal as usize].value;
     let items = value.items.as_slice();

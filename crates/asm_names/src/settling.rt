@@ -36,7 +36,8 @@ fn entry_at(
     dues: &[Due<'_>],
     place: u32,
 ) -> Result<Option<LaidName>, NoMemory>
-    ensures { IfOk result (λ entry. IsEntryAt known.now declared.now (slice_get (map owed_of dues.now) place) entry) }
+    ensures { IfOk result
+        (λ entry. IsEntryAt known.now declared.now (slice_get (map owed_of dues.now) place) entry) }
 {
     match dues.get(place as usize) {
         None => Ok(None),
@@ -52,7 +53,8 @@ pub fn settled(
     dues: &[Due<'_>],
     places: &[u32],
 ) -> Result<KnownNames, NoMemory>
-    ensures { IfOk result (λ known. Settles declared.now (map owed_of dues.now) first places.now known) }
+    ensures { IfOk result
+        (λ known. Settles declared.now (map owed_of dues.now) first places.now known) }
 {
     let mut known = first;
     'places: for place in places {

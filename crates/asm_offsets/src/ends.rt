@@ -61,7 +61,8 @@ impl Ends {
     pub fn add_area(&mut self) -> Result<(), NoMemory>
         ensures more { OnOk result (self.new ≡ self.old ++ nothing ∷ []) }
         ensures kept { OnErr result (self.new ≡ self.old) }
-        ensures behind { (before : List Piece) → IsBehind before self.old → IsBehind before self.new }
+        ensures behind { (before : List Piece) → IsBehind before self.old
+            → IsBehind before self.new }
     {
         self.areas.push(AreaEnd::new(self.alloc))?;
         Ok(())
@@ -71,7 +72,8 @@ impl Ends {
     pub fn start(&self, area: Option<u32>, alignment: u32) -> u32
         requires there { IsThere area self.now }
         requires alignment { IsAlignment alignment }
-        ensures { (before : List Piece) → IsBehind before self.now → result ≡ start_behind area before alignment }
+        ensures { (before : List Piece) → IsBehind before self.now → result
+            ≡ start_behind area before alignment }
     {
         match area {
             None => 0,
@@ -82,7 +84,8 @@ impl Ends {
     /// The alignment of a pool that is the area's next statement.
     pub fn pool_alignment(&self, area: Option<u32>) -> u32
         requires there { IsThere area self.now }
-        ensures { (before : List Piece) → IsBehind before self.now → result ≡ pool_alignment_behind area before }
+        ensures { (before : List Piece) → IsBehind before self.now → result
+            ≡ pool_alignment_behind area before }
     {
         match area {
             None => 1,
@@ -98,7 +101,8 @@ impl Ends {
     ) -> Result<Result<Placed, TooLarge>, NoMemory>
         requires there { IsThere area self.old }
         requires extent { IsExtent (extent_of_code extent) }
-        ensures places { (before : List Piece) → IsBehind before self.old → Places area (extent_of_code extent) before self.new result }
+        ensures places { (before : List Piece) → IsBehind before self.old
+            → Places area (extent_of_code extent) before self.new result }
         ensures keeps { Keeps self.old self.new result }
     {
         match area {
@@ -110,7 +114,8 @@ impl Ends {
     /// Places the pool at the end of each area.
     pub fn finish(self) -> Result<Vec<LaidPools>, NoMemory>
         ensures each { IfOk result (λ laid. laid.items ≡ map finished self) }
-        ensures laid { IfOk result (λ laid. (all : List Piece) → IsBehind all self → AreLaid all laid.items) }
+        ensures laid { IfOk result (λ laid. (all : List Piece) → IsBehind all self
+            → AreLaid all laid.items) }
     {
         let Ends { alloc, areas } = self;
         let laid = finish_all(alloc, areas)?;

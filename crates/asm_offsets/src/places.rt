@@ -38,7 +38,8 @@ pub fn pool_alignment(pools: &Pools) -> u32
 
 fn alignment_of(extent: &Extent, pools: &Pools) -> u32
     requires { IsExtent (extent_of_code extent.now) }
-    ensures alignment { result ≡ offsets.alignment_of pools.now.waiting (extent_of_code extent.now) }
+    ensures alignment { result
+        ≡ offsets.alignment_of pools.now.waiting (extent_of_code extent.now) }
     ensures some { 1 ≤ result }
     ensures small { result ≤ 4 }
 {

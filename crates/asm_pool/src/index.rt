@@ -20,7 +20,8 @@ pub fn find(index: &BTreeMap<Value, u32>, literal: &Value) -> Option<u32>
 
 /// Gives a literal a number, in the place of the one that it had.
 fn put(index: &mut BTreeMap<Value, u32>, literal: Value, number: u32) -> Result<(), NoMemory>
-    ensures ok { OnOk result ((q : Literal) → number_in index.new q ≡ (if same_literal literal q then Some number else number_in index.old q)) }
+    ensures ok { OnOk result ((q : Literal) → number_in index.new q
+        ≡ (if same_literal literal q then Some number else number_in index.old q)) }
     ensures err { OnErr result ((q : Literal) → number_in index.new q ≡ number_in index.old q) }
 {
     index.insert(literal, number)?;
@@ -36,9 +37,11 @@ pub fn add(
     number: u32,
 ) -> Result<(), NoMemory>
     ensures more { OnOk result (literals.new.items ≡ literals.old.items ++ literal.now ∷ []) }
-    ensures numbers { OnOk result ((q : Literal) → number_in index.new q ≡ (if same_literal literal.now q then Some number else number_in index.old q)) }
+    ensures numbers { OnOk result ((q : Literal) → number_in index.new q
+        ≡ (if same_literal literal.now q then Some number else number_in index.old q)) }
     ensures kept { OnErr result (literals.new.items ≡ literals.old.items) }
-    ensures unchanged { OnErr result ((q : Literal) → number_in index.new q ≡ number_in index.old q) }
+    ensures unchanged { OnErr result ((q : Literal) → number_in index.new q
+        ≡ number_in index.old q) }
 {
     let entry = literal.try_clone(alloc)?;
     let key = literal.try_clone(alloc)?;

@@ -58,7 +58,8 @@ fn place(
 ) -> Result<(), NoMemory>
     requires within { length offsets.old.items ≤ length literals.now }
     requires room { offset + 4 * length literals.now < 2 ^ 32 }
-    ensures ok { OnOk result (offsets.new.items ≡ offsets.old.items ++ offsets_from offset (drop (length offsets.old.items) literals.now)) }
+    ensures ok { OnOk result (offsets.new.items
+        ≡ offsets.old.items ++ offsets_from offset (drop (length offsets.old.items) literals.now)) }
     ensures err { OnErr result (offsets.new.items ≡ offsets.old.items) }
 {
     let waiting = &literals[offsets.len()..];
@@ -89,7 +90,8 @@ impl Pools {
     /// The number of a literal's entry.
     pub fn note(&mut self, literal: &Value) -> Result<u32, NoMemory>
         requires { length self.old.placed + length self.old.waiting < 2 ^ 24 }
-        ensures ok { IfOk result (λ number. (number, self.new) ≡ pooled.noted literal.now self.old) }
+        ensures ok { IfOk result (λ number. (number, self.new)
+            ≡ pooled.noted literal.now self.old) }
         ensures err { OnErr result (self.new ≡ self.old) }
     {
         match find(&self.index, literal) {

@@ -87,7 +87,8 @@ fn sum_kind(
     rs: &Register,
     operand: &ThumbOperand,
 ) -> Option<LineKind>
-    ensures { result ≡ told_of scope.now (rd.now ∷ rs.now ∷ registers.operand_registers operand.now) }
+    ensures { result ≡ told_of scope.now
+        (rd.now ∷ rs.now ∷ registers.operand_registers operand.now) }
 {
     match operand {
         ThumbOperand::Register(rn) => three(scope, rd, rs, rn),
@@ -161,7 +162,9 @@ fn is_pc(number: Option<u8>) -> bool
 }
 
 fn row_kind(known: &NameMap<u8>, line: &ThumbLine) -> Option<LineKind>
-    ensures { result ≡ told_kind (layout.kind_if (not (registers.has_row (registers.number_of known.now) line.now)) BadOperand) }
+    ensures { result ≡ told_kind
+        (layout.kind_if (not
+        (registers.has_row (registers.number_of known.now) line.now)) BadOperand) }
 {
     kind_if(!has_row(known, line), LineKind::BadOperand)
 }

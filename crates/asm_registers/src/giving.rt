@@ -59,7 +59,8 @@ pub fn note(
     name: &Text,
     register: Result<u8, LineKind>,
 ) -> Result<(), NoMemory>
-    ensures { OnOk result ((q : List ℕ) → registers.register_in q known.new ≡ registers.register_in q (known.old ++ registers.with_register name.now register)) }
+    ensures { OnOk result ((q : List ℕ) → registers.register_in q known.new
+        ≡ registers.register_in q (known.old ++ registers.with_register name.now register)) }
 {
     match (register, register_in(known, name)) {
         (Err(_), _) => Ok(()),
@@ -79,7 +80,8 @@ fn give(
     register: Result<u8, LineKind>,
 ) -> Result<Option<LineKind>, NoMemory>
     ensures told { IfOk result (λ told. told ≡ told_kind (fault_kinds register)) }
-    ensures noted { OnOk result ((q : List ℕ) → registers.register_in q known.new ≡ registers.register_in q (known.old ++ registers.with_register name.now register)) }
+    ensures noted { OnOk result ((q : List ℕ) → registers.register_in q known.new
+        ≡ registers.register_in q (known.old ++ registers.with_register name.now register)) }
 {
     note(alloc, known, name, register)?;
     Ok(fault_of(register))
@@ -92,8 +94,11 @@ pub fn given_kind(
     statement: &Statement,
     number: Result<u32, LineKind>,
 ) -> Result<Option<LineKind>, NoMemory>
-    ensures told { IfOk result (λ told. (s : Names) → IsGiven s statement.now.what number → told ≡ told_kind (registers.given_kinds s (defined_by statement.now))) }
-    ensures noted { OnOk result ((s : Names) → IsGiven s statement.now.what number → (q : List ℕ) → registers.register_in q known.new ≡ registers.register_in q (known.old ++ registers.named_by s (defined_by statement.now))) }
+    ensures told { IfOk result (λ told. (s : Names) → IsGiven s statement.now.what number → told
+        ≡ told_kind (registers.given_kinds s (defined_by statement.now))) }
+    ensures noted { OnOk result ((s : Names) → IsGiven s statement.now.what number → (q : List ℕ)
+        → registers.register_in q known.new
+        ≡ registers.register_in q (known.old ++ registers.named_by s (defined_by statement.now))) }
 {
     match (&statement.label, &statement.what) {
         (Some(name), What::Directive(DirectiveLine::Rn { register })) => {
@@ -116,7 +121,8 @@ fn register_name(statement: &Statement) -> Option<&Text>
 
 /// Notes that the name which a statement gives a register is one.
 fn note_name(alloc: Global, all: &mut NameSet, statement: &Statement) -> Result<(), NoMemory>
-    ensures { OnOk result (HaveSame all.new (registers.register_name (defined_by statement.now) ++ all.old)) }
+    ensures { OnOk result
+        (HaveSame all.new (registers.register_name (defined_by statement.now) ++ all.old)) }
 {
     match register_name(statement) {
         None => Ok(()),
@@ -129,7 +135,8 @@ fn note_name(alloc: Global, all: &mut NameSet, statement: &Statement) -> Result<
 
 /// All names for registers of a source.
 pub fn register_names(alloc: Global, statements: &[Statement]) -> Result<NameSet, NoMemory>
-    ensures { IfOk result (λ all. HaveSame all (registers.register_names (reversed statements.now []))) }
+    ensures { IfOk result
+        (λ all. HaveSame all (registers.register_names (reversed statements.now []))) }
 {
     let mut all = NameSet::new(alloc);
     let mut left = statements;

@@ -40,7 +40,8 @@ pub fn items_kind(scope: &Scope<'_>, items: &[ListItem]) -> Option<LineKind>
 
 /// Whether a range falls.
 fn falls(known: &NameMap<u8>, first: &Register, last: &Register) -> bool
-    ensures { result ≡ registers.falls (registers.number_of known.now first.now) (registers.number_of known.now last.now) }
+    ensures { result ≡ registers.falls (registers.number_of known.now first.now)
+        (registers.number_of known.now last.now) }
 {
     match (number_of(known, first), number_of(known, last)) {
         (Some(first), Some(last)) => last < first,

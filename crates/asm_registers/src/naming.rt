@@ -30,7 +30,8 @@ pub struct Scope<'a> {
 
 /// Why a name stands for no register.
 fn no_register(scope: &Scope<'_>, name: &Text) -> LineKind
-    ensures { result ≡ registers.no_register scope.now.all.now name.now (named_in name.now scope.now.declared.now) }
+    ensures { result ≡ registers.no_register scope.now.all.now name.now
+        (named_in name.now scope.now.declared.now) }
 {
     if scope.declared.find(name).is_none() {
         return LineKind::UnknownWord;
@@ -43,7 +44,10 @@ fn no_register(scope: &Scope<'_>, name: &Text) -> LineKind
 
 /// The fault of a name.
 fn name_kind(scope: &Scope<'_>, name: &Text) -> Option<LineKind>
-    ensures { result ≡ told_kind (registers.kinds_unless (registers.register_in name.now scope.now.known.now) (registers.no_register scope.now.all.now name.now (named_in name.now scope.now.declared.now))) }
+    ensures { result ≡ told_kind
+        (registers.kinds_unless (registers.register_in name.now scope.now.known.now)
+        (registers.no_register scope.now.all.now name.now
+        (named_in name.now scope.now.declared.now))) }
 {
     if register_in(scope.known, name).is_some() {
         return None;
@@ -53,7 +57,8 @@ fn name_kind(scope: &Scope<'_>, name: &Text) -> Option<LineKind>
 
 /// The fault of a register before others, of which this is told.
 pub fn with_rest(scope: &Scope<'_>, register: &Register, rest: Option<LineKind>) -> Option<LineKind>
-    ensures { (rs : List Register) → rest ≡ told_of scope.now rs → result ≡ told_of scope.now (register.now ∷ rs) }
+    ensures { (rs : List Register) → rest ≡ told_of scope.now rs → result
+        ≡ told_of scope.now (register.now ∷ rs) }
 {
     match register {
         Register::Number(_) => rest,

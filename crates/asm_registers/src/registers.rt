@@ -31,7 +31,8 @@ impl Registers {
     /// Before the first line. All names for registers of the source are known as such from the start. The allocator is
     /// kept for `check`.
     pub fn new(alloc: Global, statements: &[Statement]) -> Result<Registers, NoMemory>
-        ensures { IfOk result (λ r. AreRegisters (registers.register_names (reversed statements.now [])) [] r) }
+        ensures { IfOk result
+            (λ r. AreRegisters (registers.register_names (reversed statements.now [])) [] r) }
     {
         let all = register_names(alloc, statements)?;
         Ok(Registers {
@@ -51,8 +52,14 @@ impl Registers {
         number: Result<u32, LineKind>,
         declared: &KnownNames,
     ) -> Result<Option<LineKind>, NoMemory>
-        ensures told { IfOk result (λ told. (names : List (List ℕ)) (l : LaidLine) (before : List LaidLine) → AreRegisters names before self.old → IsLine statement.now thumb number declared.now l → told ≡ told_kind (registers.register_kinds names l before)) }
-        ensures behind { IfOk result (λ told. (names : List (List ℕ)) (l : LaidLine) (before : List LaidLine) → AreRegisters names before self.old → IsLine statement.now thumb number declared.now l → told ≡ None → AreRegisters names (l ∷ before) self.new) }
+        ensures told { IfOk result
+            (λ told. (names : List (List ℕ)) (l : LaidLine) (before : List LaidLine)
+            → AreRegisters names before self.old → IsLine statement.now thumb number declared.now l
+            → told ≡ told_kind (registers.register_kinds names l before)) }
+        ensures behind { IfOk result
+            (λ told. (names : List (List ℕ)) (l : LaidLine) (before : List LaidLine)
+            → AreRegisters names before self.old → IsLine statement.now thumb number declared.now l
+            → told ≡ None → AreRegisters names (l ∷ before) self.new) }
     {
         let named = self.named(statement, declared);
         let operand = operand_kind(thumb, &self.known, &statement.what);
@@ -62,7 +69,9 @@ impl Registers {
 
     /// The fault of the names among a statement's registers.
     fn named(&self, statement: &Statement, declared: &KnownNames) -> Option<LineKind>
-        ensures { result ≡ told_kind (registers.names_kinds self.now.all declared.now self.now.known (registers.registers_of statement.now.what)) }
+        ensures { result ≡ told_kind
+            (registers.names_kinds self.now.all declared.now self.now.known
+            (registers.registers_of statement.now.what)) }
     {
         let scope = Scope {
             all: &self.all,
@@ -81,7 +90,9 @@ impl Registers {
 
     /// The number of a register, where its name stands for one behind the lines so far.
     pub fn number_of(&self, register: &Register) -> Option<u8>
-        ensures { (names : List (List ℕ)) (before : List LaidLine) → AreRegisters names before self.now → result ≡ registers.number_of (registers.registers_behind before) register.now }
+        ensures { (names : List (List ℕ)) (before : List LaidLine)
+            → AreRegisters names before self.now → result
+            ≡ registers.number_of (registers.registers_behind before) register.now }
     {
         number_of(&self.known, register)
     }

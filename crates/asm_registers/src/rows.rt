@@ -20,13 +20,16 @@ fn is_low(known: &NameMap<u8>, register: &Register) -> bool
 }
 
 fn two_low(known: &NameMap<u8>, a: &Register, b: &Register) -> bool
-    ensures { result ≡ registers.is_low (registers.number_of known.now) a.now && registers.is_low (registers.number_of known.now) b.now }
+    ensures { result ≡ registers.is_low (registers.number_of known.now) a.now && registers.is_low
+        (registers.number_of known.now) b.now }
 {
     is_low(known, a) && is_low(known, b)
 }
 
 fn three_low(known: &NameMap<u8>, a: &Register, b: &Register, c: &Register) -> bool
-    ensures { result ≡ registers.is_low (registers.number_of known.now) a.now && (registers.is_low (registers.number_of known.now) b.now && registers.is_low (registers.number_of known.now) c.now) }
+    ensures { result ≡ registers.is_low (registers.number_of known.now) a.now &&
+        (registers.is_low (registers.number_of known.now) b.now && registers.is_low
+        (registers.number_of known.now) c.now) }
 {
     is_low(known, a) && two_low(known, b, c)
 }
@@ -39,7 +42,8 @@ fn has_sum(subtract: bool, number: u8) -> bool
 }
 
 fn is_sum_base(known: &NameMap<u8>, subtract: bool, register: &Register) -> bool
-    ensures { result ≡ registers.if_known (registers.has_sum subtract) (registers.number_of known.now register.now) }
+    ensures { result ≡ registers.if_known (registers.has_sum subtract)
+        (registers.number_of known.now register.now) }
 {
     match number_of(known, register) {
         None => true,
@@ -54,7 +58,8 @@ fn adds(
     rs: &Register,
     operand: &ThumbOperand,
 ) -> bool
-    ensures { result ≡ registers.has_row (registers.number_of known.now) (thumb.AddSubtract subtract rd.now rs.now operand.now) }
+    ensures { result ≡ registers.has_row (registers.number_of known.now)
+        (thumb.AddSubtract subtract rd.now rs.now operand.now) }
 {
     match operand {
         ThumbOperand::Register(rn) => three_low(known, rd, rs, rn),
@@ -74,7 +79,9 @@ fn adjusts(operation: ImmediateOperation) -> bool
 }
 
 fn has_immediate(known: &NameMap<u8>, operation: ImmediateOperation, rd: &Register) -> bool
-    ensures { result ≡ registers.if_known (λ d. nat_lt d 8 || d == 13 && registers.adjusts operation) (registers.number_of known.now rd.now) }
+    ensures { result ≡ registers.if_known
+        (λ d. nat_lt d 8 || d == 13 && registers.adjusts operation)
+        (registers.number_of known.now rd.now) }
 {
     match number_of(known, rd) {
         None => true,
@@ -90,7 +97,8 @@ fn has_base(load: bool, byte: bool, number: u8) -> bool
 }
 
 fn is_base(known: &NameMap<u8>, load: bool, byte: bool, register: &Register) -> bool
-    ensures { result ≡ registers.if_known (registers.has_base load byte) (registers.number_of known.now register.now) }
+    ensures { result ≡ registers.if_known (registers.has_base load byte)
+        (registers.number_of known.now register.now) }
 {
     match number_of(known, register) {
         None => true,
@@ -108,7 +116,8 @@ fn is_listed(more: u8, number: u8) -> bool
 }
 
 fn has_one(known: &NameMap<u8>, more: u8, register: &Register) -> bool
-    ensures { result ≡ registers.if_known (registers.is_listed more) (registers.number_of known.now register.now) }
+    ensures { result ≡ registers.if_known (registers.is_listed more)
+        (registers.number_of known.now register.now) }
 {
     match number_of(known, register) {
         None => true,
@@ -137,7 +146,8 @@ fn has_item(known: &NameMap<u8>, more: u8, item: &ListItem) -> bool
 }
 
 fn has_items(known: &NameMap<u8>, more: u8, items: &[ListItem]) -> bool
-    ensures { result ≡ list_all (registers.has_item more (registers.number_of known.now)) items.now }
+    ensures { result ≡ list_all
+        (registers.has_item more (registers.number_of known.now)) items.now }
 {
     items.iter().all(|item| has_item(known, more, item))
 }

@@ -44,7 +44,8 @@ impl<V: Copy> NameMap<V> {
     pub fn add(&mut self, alloc: Global, name: &Text, value: V) -> Result<(), NoMemory>
         requires { found_in name.now self.old ≡ None }
         ensures more { OnOk result (self.new ≡ self.old ++ (name.now, value) ∷ []) }
-        ensures found { OnOk result ((q : List ℕ) → found_in q self.new ≡ (if same q name.now then Some value else found_in q self.old)) }
+        ensures found { OnOk result ((q : List ℕ) → found_in q self.new
+            ≡ (if same q name.now then Some value else found_in q self.old)) }
     {
         let name = name.try_clone(alloc)?;
         self.entries.insert(name, value)?;

@@ -89,7 +89,8 @@ fn is_quoted(standing: Standing) -> bool
 /// Ends the piece so far.
 fn end_piece(alloc: Global, piece: &mut Vec<u8>, pieces: &mut Vec<Text>) -> Result<(), NoMemory>
     ensures empty { OnOk result (piece.new.items ≡ []) }
-    ensures more { OnOk result (pieces.new.items ≡ pieces.old.items ++ model.trimmed piece.old.items ∷ []) }
+    ensures more { OnOk result (pieces.new.items
+        ≡ pieces.old.items ++ model.trimmed piece.old.items ∷ []) }
 {
     let text = Text::from_slice(alloc, trimmed(piece.as_slice()))?;
     pieces.push(text)?;
@@ -105,7 +106,8 @@ fn take_byte(
     piece: &mut Vec<u8>,
     pieces: &mut Vec<Text>,
 ) -> Result<(), NoMemory>
-    ensures { OnOk result (Takes (first, standing) pieces.old.items piece.old.items pieces.new.items piece.new.items) }
+    ensures { OnOk result
+        (Takes (first, standing) pieces.old.items piece.old.items pieces.new.items piece.new.items) }
 {
     if first == b',' && !is_quoted(standing) {
         end_piece(alloc, piece, pieces)?;

@@ -129,7 +129,8 @@ fn effect_outside(innermost: Opening, operation: Operation) -> Effect
 
 /// What a line does to the innermost opening.
 fn effect_of(innermost: Opening, operation: Option<Operation>) -> Effect
-    ensures { (os : List Opening) → model.behind_line innermost os operation ≡ applied result innermost os }
+    ensures { (os : List Opening) → model.behind_line innermost os operation
+        ≡ applied result innermost os }
 {
     let Some(operation) = operation else {
         return Effect::Nothing;
@@ -142,7 +143,8 @@ fn effect_of(innermost: Opening, operation: Option<Operation>) -> Effect
 
 /// Takes the next opening to be the innermost, where there is one.
 fn close(innermost: &mut Opening, outer: &mut Vec<Opening>) -> Behind
-    ensures { model.closed (reverse outer.old.items) ≡ behind_shown result innermost.new (reverse outer.new.items) }
+    ensures { model.closed (reverse outer.old.items)
+        ≡ behind_shown result innermost.new (reverse outer.new.items) }
 {
     match outer.pop() {
         None => Behind::Closes,
@@ -155,7 +157,8 @@ fn close(innermost: &mut Opening, outer: &mut Vec<Opening>) -> Behind
 
 /// Notes the ELSE of the innermost opening, or tells that it is the outermost's.
 fn turn(innermost: &mut Opening, outer: &[Opening]) -> Behind
-    ensures { model.turned (reverse outer.now) ≡ behind_shown result innermost.new (reverse outer.now) }
+    ensures { model.turned (reverse outer.now)
+        ≡ behind_shown result innermost.new (reverse outer.now) }
 {
     if outer.is_empty() {
         return Behind::Turns;
@@ -170,7 +173,8 @@ fn put(
     innermost: &mut Opening,
     outer: &mut Vec<Opening>,
 ) -> Result<Behind, NoMemory>
-    ensures { IfOk result (Puts effect innermost.old outer.old.items innermost.new outer.new.items) }
+    ensures { IfOk result
+        (Puts effect innermost.old outer.old.items innermost.new outer.new.items) }
 {
     match effect {
         Effect::Nothing => Ok(Behind::Stays),
@@ -187,7 +191,8 @@ fn put(
 
 /// The effect of the line on what is open.
 fn pass(line: &Line, innermost: &mut Opening, outer: &mut Vec<Opening>) -> Result<Behind, NoMemory>
-    ensures { IfOk result (Passes line.now innermost.old outer.old.items innermost.new outer.new.items) }
+    ensures { IfOk result
+        (Passes line.now innermost.old outer.old.items innermost.new outer.new.items) }
 {
     let effect = effect_of(*innermost, raw_operation(line));
     put(effect, innermost, outer)
@@ -200,7 +205,8 @@ pub fn skip(
     visits: usize,
     lines: &[Line],
 ) -> Result<Skipping, NoMemory>
-    ensures { IfOk result (λ s. Shows s visits lines.now (model.skipped opening [] visits lines.now)) }
+    ensures { IfOk result
+        (λ s. Shows s visits lines.now (model.skipped opening [] visits lines.now)) }
 {
     let mut innermost = opening;
     let mut outer = Vec::new(alloc);

@@ -35,7 +35,8 @@ fn is_name(text: &[u8]) -> bool
 
 /// A parameter's name behind its dollar.
 fn dollar_name(text: &[u8]) -> Option<&[u8]>
-    ensures { MatchOption result (model.dollar_name text.now ≡ None) (λ name. model.dollar_name text.now ≡ Some name.now) }
+    ensures { MatchOption result (model.dollar_name text.now
+        ≡ None) (λ name. model.dollar_name text.now ≡ Some name.now) }
 {
     let Some((first, rest)) = text.split_first() else {
         return None;
@@ -150,7 +151,8 @@ fn inner(text: &[u8]) -> &[u8]
 
 /// A name, or a name between bars without them.
 pub fn name_of(text: &[u8]) -> Option<&[u8]>
-    ensures { MatchOption result (as_name text.now ≡ None) (λ name. as_name text.now ≡ Some name.now) }
+    ensures { MatchOption result (as_name text.now ≡ None) (λ name. as_name text.now
+        ≡ Some name.now) }
 {
     if is_name(text) {
         return Some(text);

@@ -118,7 +118,8 @@ fn put(
     rest: &[u8],
     out: &mut Vec<u8>,
 ) -> Result<Option<usize>, NoMemory>
-    ensures { IfOk result (PutsByte tables.now 0 (first, standing) rest.now out.old.items out.new.items) }
+    ensures { IfOk result
+        (PutsByte tables.now 0 (first, standing) rest.now out.old.items out.new.items) }
 {
     if first == b'$' && takes_dollar(standing) {
         return dollar(alloc, tables, rest, out);
@@ -137,7 +138,8 @@ fn pass(
     rest: &[u8],
     out: &mut Vec<u8>,
 ) -> Result<Option<usize>, NoMemory>
-    ensures { IfOk result (PutsByte tables.now dropped (first, standing) rest.now out.old.items out.new.items) }
+    ensures { IfOk result
+        (PutsByte tables.now dropped (first, standing) rest.now out.old.items out.new.items) }
 {
     if dropped == 0 {
         return put(alloc, tables, first, standing, rest, out);
@@ -159,7 +161,9 @@ pub fn first_of(text: &[u8], at: usize) -> Option<(u8, &[u8])>
 
 /// A line's text after substitution; None where nothing has one of its names.
 pub fn substitute(alloc: Global, tables: &Tables, text: &[u8]) -> Result<Option<Vec<u8>>, NoMemory>
-    ensures { IfOk result (λ found. MatchOption found (Fails tables.now text.now) (λ v. Gives tables.now text.now v.items)) }
+    ensures { IfOk result
+        (λ found. MatchOption found (Fails tables.now text.now)
+        (λ v. Gives tables.now text.now v.items)) }
 {
     let mut out = Vec::new(alloc);
     let mut standing = Standing::Open;

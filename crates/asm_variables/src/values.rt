@@ -291,7 +291,8 @@ pub fn known_number(
     operand: &Result<Expr, LineKind>,
 ) -> Result<Option<u32>, NoMemory>
     requires { WasRead operand.now }
-    ensures { IfOk result (λ number. Values state.now (λ s. number ≡ model.known_number s operand.now)) }
+    ensures { IfOk result
+        (λ number. Values state.now (λ s. number ≡ model.known_number s operand.now)) }
 {
     Ok(as_number(value_with(alloc, state, Sight::Numbers, operand)?))
 }

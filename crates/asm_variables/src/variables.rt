@@ -48,7 +48,8 @@ fn append_value(value: &Value, out: &mut Vec<u8>) -> Result<(), NoMemory>
 impl Tables {
     /// The value of a variable; a local hides a global.
     pub fn variable(&self, name: &Text) -> Option<&Value>
-        ensures { (s : State) → HasTables self.now s → option_copied result ≡ model.variable s name.now }
+        ensures { (s : State) → HasTables self.now s → option_copied result
+            ≡ model.variable s name.now }
     {
         if let Some(value) = self.locals.get(name) {
             return Some(value);
