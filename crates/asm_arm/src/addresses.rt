@@ -62,7 +62,8 @@ fn with_sign(
     subtract: bool,
     tokens: &[Token],
 ) -> Result<Result<(bool, Register), LineKind>, NoMemory>
-    ensures { IfOk result (λ signed. signed ≡ says.mapped (λ rm. (subtract, rm)) (operands.register text.now tokens.now)) }
+    ensures { IfOk result (λ signed. signed
+        ≡ says.mapped (λ rm. (subtract, rm)) (operands.register text.now tokens.now)) }
 {
     match register(alloc, text, tokens)? {
         Ok(rm) => Ok(Ok((subtract, rm))),
@@ -102,7 +103,8 @@ fn number_offset(
     text: &[u8],
     tokens: &[Token],
 ) -> Result<Result<Offset, LineKind>, NoMemory>
-    ensures { IfOk result (λ offset. says.Expression text.now (λ v. offset_is.Number v) tokens.now offset) }
+    ensures { IfOk result
+        (λ offset. says.Expression text.now (λ v. offset_is.Number v) tokens.now offset) }
 {
     match expression(alloc, text, tokens)? {
         Ok(value) => Ok(Ok(Offset::Number(value))),
@@ -138,7 +140,8 @@ fn any_offset(
     tokens: &[Token],
     shift: Option<&[Token]>,
 ) -> Result<Result<Offset, LineKind>, NoMemory>
-    ensures { IfOk result (λ offset. addresses.ReadsOffset text.now tokens.now (option_copied shift.entry) offset) }
+    ensures { IfOk result
+        (λ offset. addresses.ReadsOffset text.now tokens.now (option_copied shift.entry) offset) }
 {
     let Some(shift) = shift else {
         return plain_offset(alloc, text, tokens);
@@ -164,7 +167,9 @@ fn at(
     tokens: &[Token],
     shift: Option<&[Token]>,
 ) -> Result<Result<Addressed, LineKind>, NoMemory>
-    ensures { IfOk result (λ address. addresses.ReadsAt text.now indexing base.now tokens.now (option_copied shift.entry) address) }
+    ensures { IfOk result
+        (λ address. addresses.ReadsAt text.now indexing base.now tokens.now
+        (option_copied shift.entry) address) }
 {
     let offset = any_offset(alloc, text, tokens, shift)?;
     let rn = register(alloc, text, base)?;
@@ -185,7 +190,9 @@ fn bare_base(
     indexing: Indexing,
     base: &[Token],
 ) -> Result<Result<Addressed, LineKind>, NoMemory>
-    ensures { IfOk result (λ address. address ≡ says.mapped (λ rn. addresses.at indexing rn offset_is.Absent) (operands.register text.now base.now)) }
+    ensures { IfOk result (λ address. address
+        ≡ says.mapped (λ rn. addresses.at indexing rn offset_is.Absent)
+        (operands.register text.now base.now)) }
 {
     match register(alloc, text, base)? {
         Ok(rn) => Ok(Ok(Addressed {
@@ -205,7 +212,8 @@ fn scaled_at(
     shifts: bool,
     operands: (&[Token], &[Token], &[Token]),
 ) -> Result<Result<Addressed, LineKind>, NoMemory>
-    ensures { IfOk result (λ address. addresses.ReadsScaledAt text.now indexing shifts operands.entry.0.now operands.entry.1.now operands.entry.2.now address) }
+    ensures { IfOk result
+        (λ address. addresses.ReadsScaledAt text.now indexing shifts operands.entry.0.now operands.entry.1.now operands.entry.2.now address) }
 {
     if shifts {
         return at(
@@ -228,7 +236,8 @@ fn inside(
     shifts: bool,
     cut: Cut<'_>,
 ) -> Result<Result<Addressed, LineKind>, NoMemory>
-    ensures { IfOk result (λ address. addresses.ReadsInside text.now indexing shifts (cut_of cut.entry) address) }
+    ensures { IfOk result
+        (λ address. addresses.ReadsInside text.now indexing shifts (cut_of cut.entry) address) }
 {
     match cut {
         Cut::One(base) => bare_base(alloc, text, indexing, base),
@@ -299,7 +308,9 @@ pub fn after(
     tokens: &[Token],
     shift: Option<&[Token]>,
 ) -> Result<Result<Addressed, LineKind>, NoMemory>
-    ensures { IfOk result (λ address. addresses.ReadsAfter text.now brackets.now tokens.now (option_copied shift.entry) address) }
+    ensures { IfOk result
+        (λ address. addresses.ReadsAfter text.now brackets.now tokens.now
+        (option_copied shift.entry) address) }
 {
     match base(text, brackets) {
         None => Ok(Err(LineKind::Syntax)),

@@ -87,7 +87,8 @@ fn data_of(
     registers: Result<(Register, Register), LineKind>,
     second: Result<Second, LineKind>,
 ) -> Result<What, LineKind>
-    ensures { result ≡ says.on_both (λ p z. lines.data_line process.condition process.operation process.set_flags p.0 p.1 z) registers second }
+    ensures { result ≡ says.on_both
+        (λ p z. lines.data_line process.condition process.operation process.set_flags p.0 p.1 z) registers second }
 {
     match both(registers, second) {
         Ok(((rd, rn), second)) => Ok(data_line(process, rd, rn, second)),
@@ -103,7 +104,8 @@ fn data(
     registers: Result<(Register, Register), LineKind>,
     second: (&[Token], Option<&[Token]>),
 ) -> Said
-    ensures { IfOk result (λ said. lines.ReadsData text.now process.condition process.operation process.set_flags registers second.entry.0.now (option_copied second.entry.1) said) }
+    ensures { IfOk result
+        (λ said. lines.ReadsData text.now process.condition process.operation process.set_flags registers second.entry.0.now (option_copied second.entry.1) said) }
 {
     let second = second_operand(alloc, text, second.0, second.1)?;
     Ok(data_of(process, registers, second))
@@ -124,7 +126,10 @@ fn move_line(
     rd: &[Token],
     second: (&[Token], Option<&[Token]>),
 ) -> Said
-    ensures { IfOk result (λ said. lines.ReadsData text.now process.condition process.operation process.set_flags (operands.both (operands.register text.now rd.now) lines.absent) second.entry.0.now (option_copied second.entry.1) said) }
+    ensures { IfOk result
+        (λ said. lines.ReadsData text.now process.condition process.operation process.set_flags
+        (operands.both (operands.register text.now rd.now) lines.absent) second.entry.0.now
+        (option_copied second.entry.1) said) }
 {
     let rd = register(alloc, text, rd)?;
     data(alloc, text, process, both(rd, no_register()), second)
@@ -138,7 +143,10 @@ fn comparison_line(
     rn: &[Token],
     second: (&[Token], Option<&[Token]>),
 ) -> Said
-    ensures { IfOk result (λ said. lines.ReadsData text.now process.condition process.operation process.set_flags (operands.both lines.absent (operands.register text.now rn.now)) second.entry.0.now (option_copied second.entry.1) said) }
+    ensures { IfOk result
+        (λ said. lines.ReadsData text.now process.condition process.operation process.set_flags
+        (operands.both lines.absent (operands.register text.now rn.now)) second.entry.0.now
+        (option_copied second.entry.1) said) }
 {
     let rn = register(alloc, text, rn)?;
     data(alloc, text, process, both(no_register(), rn), second)
@@ -152,14 +160,18 @@ fn sum_line(
     registers: (&[Token], &[Token]),
     second: (&[Token], Option<&[Token]>),
 ) -> Said
-    ensures { IfOk result (λ said. lines.ReadsData text.now process.condition process.operation process.set_flags (operands.two_registers text.now registers.entry.0.now registers.entry.1.now) second.entry.0.now (option_copied second.entry.1) said) }
+    ensures { IfOk result
+        (λ said. lines.ReadsData text.now process.condition process.operation process.set_flags
+        (operands.two_registers text.now registers.entry.0.now registers.entry.1.now) second.entry.0.now (option_copied second.entry.1) said) }
 {
     let registers = two_registers(alloc, text, registers.0, registers.1)?;
     data(alloc, text, process, registers, second)
 }
 
 fn moves(alloc: Global, text: &[u8], process: Process, cut: Cut<'_>) -> Said
-    ensures { IfOk result (λ said. lines.ReadsMove text.now process.condition process.operation process.set_flags (cut_of cut.entry) said) }
+    ensures { IfOk result
+        (λ said. lines.ReadsMove text.now process.condition process.operation process.set_flags
+        (cut_of cut.entry) said) }
 {
     match cut {
         Cut::Two(rd, second) => move_line(alloc, text, process, rd, (second, None)),
@@ -171,7 +183,8 @@ fn moves(alloc: Global, text: &[u8], process: Process, cut: Cut<'_>) -> Said
 }
 
 fn comparisons(alloc: Global, text: &[u8], process: Process, cut: Cut<'_>) -> Said
-    ensures { IfOk result (λ said. lines.ReadsComparison text.now process.condition process.operation process.set_flags (cut_of cut.entry) said) }
+    ensures { IfOk result
+        (λ said. lines.ReadsComparison text.now process.condition process.operation process.set_flags (cut_of cut.entry) said) }
 {
     match cut {
         Cut::Two(rn, second) => comparison_line(alloc, text, process, rn, (second, None)),
@@ -183,7 +196,9 @@ fn comparisons(alloc: Global, text: &[u8], process: Process, cut: Cut<'_>) -> Sa
 }
 
 fn sums(alloc: Global, text: &[u8], process: Process, cut: Cut<'_>) -> Said
-    ensures { IfOk result (λ said. lines.ReadsSum text.now process.condition process.operation process.set_flags (cut_of cut.entry) said) }
+    ensures { IfOk result
+        (λ said. lines.ReadsSum text.now process.condition process.operation process.set_flags
+        (cut_of cut.entry) said) }
 {
     match cut {
         Cut::Three(rd, rn, second) => sum_line(alloc, text, process, (rd, rn), (second, None)),
@@ -195,7 +210,10 @@ fn sums(alloc: Global, text: &[u8], process: Process, cut: Cut<'_>) -> Said
 }
 
 fn data_words(alloc: Global, text: &[u8], process: Process, tokens: &[Token]) -> Said
-    ensures { IfOk result (λ said. lines.ReadsShape text.now process.condition process.operation process.set_flags (words.shape_of process.operation) (operands.cut (model.operands text.now tokens.now)) said) }
+    ensures { IfOk result
+        (λ said. lines.ReadsShape text.now process.condition process.operation process.set_flags
+        (words.shape_of process.operation)
+        (operands.cut (model.operands text.now tokens.now)) said) }
 {
     let cut = cut_operands(text, tokens);
     match shape_of(process.operation) {
@@ -212,7 +230,8 @@ fn data_words(alloc: Global, text: &[u8], process: Process, tokens: &[Token]) ->
 }
 
 fn multiply(alloc: Global, text: &[u8], condition: Condition, set_flags: bool, cut: Cut<'_>) -> Said
-    ensures { IfOk result (λ said. said ≡ lines.multiply text.now condition false set_flags (cut_of cut.entry)) }
+    ensures { IfOk result (λ said. said
+        ≡ lines.multiply text.now condition false set_flags (cut_of cut.entry)) }
 {
     match cut {
         Cut::Three(rd, rm, rs) => {
@@ -240,7 +259,8 @@ fn multiply_accumulate(
     set_flags: bool,
     cut: Cut<'_>,
 ) -> Said
-    ensures { IfOk result (λ said. said ≡ lines.multiply text.now condition true set_flags (cut_of cut.entry)) }
+    ensures { IfOk result (λ said. said
+        ≡ lines.multiply text.now condition true set_flags (cut_of cut.entry)) }
 {
     match cut {
         Cut::Four(rd, rm, rs, rn) => {
@@ -271,7 +291,8 @@ fn multiplication(
     set_flags: bool,
     cut: Cut<'_>,
 ) -> Said
-    ensures { IfOk result (λ said. said ≡ lines.multiply text.now condition accumulate set_flags (cut_of cut.entry)) }
+    ensures { IfOk result (λ said. said
+        ≡ lines.multiply text.now condition accumulate set_flags (cut_of cut.entry)) }
 {
     if accumulate {
         return multiply_accumulate(alloc, text, condition, set_flags, cut);
@@ -289,7 +310,9 @@ pub struct LongProduct {
 }
 
 fn multiply_long(alloc: Global, text: &[u8], word: LongProduct, cut: Cut<'_>) -> Said
-    ensures { IfOk result (λ said. said ≡ lines.multiply_long text.now word.condition word.signed word.accumulate word.set_flags (cut_of cut.entry)) }
+    ensures { IfOk result (λ said. said
+        ≡ lines.multiply_long text.now word.condition word.signed word.accumulate word.set_flags
+        (cut_of cut.entry)) }
 {
     match cut {
         Cut::Four(low, high, rm, rs) => {
@@ -388,7 +411,9 @@ fn status_value(
     fields: Result<(bool, u8), LineKind>,
     tokens: &[Token],
 ) -> Said
-    ensures { IfOk result (λ said. lines.ReadsStatusValue text.now condition fields tokens.now (operands.without_first text.now lines.hash tokens.now) said) }
+    ensures { IfOk result
+        (λ said. lines.ReadsStatusValue text.now condition fields tokens.now
+        (operands.without_first text.now lines.hash tokens.now) said) }
 {
     match without_first(text, b"#", tokens) {
         Some(number) => {
@@ -419,7 +444,8 @@ fn status_value(
 }
 
 fn write_status(alloc: Global, text: &[u8], condition: Condition, cut: Cut<'_>) -> Said
-    ensures { IfOk result (λ said. lines.ReadsWriteStatus text.now condition (cut_of cut.entry) said) }
+    ensures { IfOk result
+        (λ said. lines.ReadsWriteStatus text.now condition (cut_of cut.entry) said) }
 {
     match cut {
         Cut::Two(fields, value) => {
@@ -430,7 +456,9 @@ fn write_status(alloc: Global, text: &[u8], condition: Condition, cut: Cut<'_>) 
 }
 
 fn branch(alloc: Global, text: &[u8], condition: Condition, link: bool, tokens: &[Token]) -> Said
-    ensures { IfOk result (λ said. says.Expression text.now (λ e. what.Arm (line.Branch condition link e)) tokens.now said) }
+    ensures { IfOk result
+        (λ said. says.Expression text.now
+        (λ e. what.Arm (line.Branch condition link e)) tokens.now said) }
 {
     match expression(alloc, text, tokens)? {
         Ok(target) => Ok(Ok(What::Arm(ArmLine::Branch {
@@ -444,7 +472,8 @@ fn branch(alloc: Global, text: &[u8], condition: Condition, link: bool, tokens: 
 
 /// A number, before which # may stand.
 pub fn numbered<'a>(text: &[u8], tokens: &'a [Token]) -> &'a [Token]
-    ensures { result.now ≡ lines.numbered tokens.now (operands.without_first text.now lines.hash tokens.now) }
+    ensures { result.now
+        ≡ lines.numbered tokens.now (operands.without_first text.now lines.hash tokens.now) }
 {
     match without_first(text, b"#", tokens) {
         Some(number) => number,
@@ -453,7 +482,9 @@ pub fn numbered<'a>(text: &[u8], tokens: &'a [Token]) -> &'a [Token]
 }
 
 fn interrupt(alloc: Global, text: &[u8], condition: Condition, tokens: &[Token]) -> Said
-    ensures { IfOk result (λ said. says.Expression text.now (λ e. what.Arm (line.SoftwareInterrupt condition e)) tokens.now said) }
+    ensures { IfOk result
+        (λ said. says.Expression text.now
+        (λ e. what.Arm (line.SoftwareInterrupt condition e)) tokens.now said) }
 {
     match expression(alloc, text, tokens)? {
         Ok(number) => Ok(Ok(What::Arm(ArmLine::SoftwareInterrupt { condition, number }))),
@@ -480,7 +511,8 @@ fn address_line(condition: Condition, long: bool, rd: Register, target: Expr) ->
 }
 
 fn address(alloc: Global, text: &[u8], condition: Condition, long: bool, cut: Cut<'_>) -> Said
-    ensures { IfOk result (λ said. lines.ReadsAddress text.now condition long (cut_of cut.entry) said) }
+    ensures { IfOk result
+        (λ said. lines.ReadsAddress text.now condition long (cut_of cut.entry) said) }
 {
     match cut {
         Cut::Two(rd, target) => {

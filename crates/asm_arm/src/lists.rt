@@ -113,7 +113,8 @@ fn items(
     text: &[u8],
     tokens: &[Token],
 ) -> Result<Result<List<ListItem>, LineKind>, NoMemory>
-    ensures { IfOk result (λ all. all ≡ lists.items text.now (model.operands_at text.now 0 tokens.now)) }
+    ensures { IfOk result (λ all. all
+        ≡ lists.items text.now (model.operands_at text.now 0 tokens.now)) }
 {
     let mut so_far = Ok(List::from_vec(Vec::new(alloc)));
     let mut left = tokens;

@@ -102,7 +102,8 @@ fn with_two<'a>(
     second: &'a [Token],
     tokens: &'a [Token],
 ) -> Cut<'a>
-    ensures { cut_of result ≡ operands.cut (first.now ∷ second.now ∷ model.operands_at text.now 0 tokens.now) }
+    ensures { cut_of result
+        ≡ operands.cut (first.now ∷ second.now ∷ model.operands_at text.now 0 tokens.now) }
 {
     let (third, behind) = first_operand(text, tokens);
     match behind {
@@ -119,7 +120,8 @@ fn with_three<'a>(
     third: &'a [Token],
     tokens: &'a [Token],
 ) -> Cut<'a>
-    ensures { cut_of result ≡ operands.cut (first.now ∷ second.now ∷ third.now ∷ model.operands_at text.now 0 tokens.now) }
+    ensures { cut_of result
+        ≡ operands.cut (first.now ∷ second.now ∷ third.now ∷ model.operands_at text.now 0 tokens.now) }
 {
     let (fourth, behind) = first_operand(text, tokens);
     match behind {
@@ -215,7 +217,8 @@ pub fn between<'a>(
 
 /// A name as a register.
 fn named(alloc: Global, name: &[u8]) -> Result<Register, NoMemory>
-    ensures { IfOk result (λ register. register ≡ operands.named name.now (registers.register_named name.now)) }
+    ensures { IfOk result (λ register. register
+        ≡ operands.named name.now (registers.register_named name.now)) }
 {
     match register_named(name) {
         Some(number) => Ok(Register::Number(number)),
@@ -275,7 +278,8 @@ pub fn three_registers(
     second: &[Token],
     third: &[Token],
 ) -> Result<Result<((Register, Register), Register), LineKind>, NoMemory>
-    ensures { IfOk result (λ three. three ≡ operands.three_registers text.now first.now second.now third.now) }
+    ensures { IfOk result (λ three. three
+        ≡ operands.three_registers text.now first.now second.now third.now) }
 {
     let two = two_registers(alloc, text, first, second)?;
     let third = register(alloc, text, third)?;
@@ -299,7 +303,8 @@ fn amount(
     kind: ShiftKind,
     tokens: &[Token],
 ) -> Result<Result<Scale, LineKind>, NoMemory>
-    ensures { IfOk result (λ shift. says.Expression text.now (λ a. scale.By kind a) tokens.now shift) }
+    ensures { IfOk result
+        (λ shift. says.Expression text.now (λ a. scale.By kind a) tokens.now shift) }
 {
     match expression(alloc, text, tokens)? {
         Ok(amount) => Ok(Ok(Scale::By { kind, amount })),
@@ -314,7 +319,8 @@ fn register_amount(
     kind: ShiftKind,
     tokens: &[Token],
 ) -> Result<Result<Scale, LineKind>, NoMemory>
-    ensures { IfOk result (λ shift. shift ≡ says.mapped (λ rs. scale.Register kind rs) (operands.register text.now tokens.now)) }
+    ensures { IfOk result (λ shift. shift
+        ≡ says.mapped (λ rs. scale.Register kind rs) (operands.register text.now tokens.now)) }
 {
     match register(alloc, text, tokens)? {
         Ok(rs) => Ok(Ok(Scale::Register { kind, rs })),
@@ -382,7 +388,8 @@ fn number_operand(
     text: &[u8],
     tokens: &[Token],
 ) -> Result<Result<Second, LineKind>, NoMemory>
-    ensures { IfOk result (λ operand. says.Expression text.now (λ v. second.Number v) tokens.now operand) }
+    ensures { IfOk result
+        (λ operand. says.Expression text.now (λ v. second.Number v) tokens.now operand) }
 {
     match expression(alloc, text, tokens)? {
         Ok(value) => Ok(Ok(Second::Number(value))),
@@ -417,7 +424,8 @@ pub fn second_operand(
     tokens: &[Token],
     shift: Option<&[Token]>,
 ) -> Result<Result<Second, LineKind>, NoMemory>
-    ensures { IfOk result (λ operand. operands.ReadsSecond text.now tokens.now (option_copied shift.entry) operand) }
+    ensures { IfOk result
+        (λ operand. operands.ReadsSecond text.now tokens.now (option_copied shift.entry) operand) }
 {
     let Some(shift) = shift else {
         return plain_operand(alloc, text, tokens);

@@ -49,7 +49,8 @@ fn sourced<W: Drop>(
 
 /// The statement of a line.
 pub fn statement(alloc: Global, line: &Flat, read: Labelled) -> Result<Said, NoMemory>
-    ensures { IfOk result (λ said. said ≡ model.mapped (λ p. says.statement line.now p.0 p.1) read) }
+    ensures { IfOk result (λ said. said
+        ≡ model.mapped (λ p. says.statement line.now p.0 p.1) read) }
 {
     match sourced(alloc, line, read)? {
         Err(kind) => Ok(Err(kind)),
@@ -129,7 +130,8 @@ fn read_operation(
     operation: Token,
     tokens: &[Token],
 ) -> Result<Labelled, NoMemory>
-    ensures { IfOk result (λ read. IsOperationRead says.ReadsArm text.now label operation tokens.now read) }
+    ensures { IfOk result
+        (λ read. IsOperationRead says.ReadsArm text.now label operation tokens.now read) }
 {
     let label = label_field(alloc, LabelNeed::Optional, text, label)?;
     let word = operation_named(piece_of(text, operation));
@@ -145,7 +147,8 @@ fn with_operation(
     operation: Token,
     tokens: &[Token],
 ) -> Result<Said, NoMemory>
-    ensures { IfOk result (λ said. says.SaysOperation says.ReadsArm line.now label operation tokens.now said) }
+    ensures { IfOk result
+        (λ said. says.SaysOperation says.ReadsArm line.now label operation tokens.now said) }
 {
     let read = read_operation(alloc, line.text.as_slice(), label, operation, tokens)?;
     statement(alloc, line, read)
@@ -153,7 +156,8 @@ fn with_operation(
 
 /// What a line without a directive says.
 fn words(alloc: Global, line: &Flat, sentence: Sentence<'_>) -> Result<Said, NoMemory>
-    ensures { IfOk result (λ said. says.SaysInstruction says.ReadsArm line.now (sentence_of sentence.entry) said) }
+    ensures { IfOk result
+        (λ said. says.SaysInstruction says.ReadsArm line.now (sentence_of sentence.entry) said) }
 {
     match sentence.operation {
         Some(operation) => {

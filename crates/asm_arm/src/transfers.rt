@@ -38,7 +38,8 @@ pub struct Transfer {
 
 /// A transfer with a number as its offset.
 fn immediate_transfer(word: Transfer, rd: Register, address: Address) -> What
-    ensures { result ≡ what.Arm (line.TransferImmediate word.condition word.load word.byte rd address) }
+    ensures { result ≡ what.Arm
+        (line.TransferImmediate word.condition word.load word.byte rd address) }
 {
     What::Arm(ArmLine::TransferImmediate {
         condition: word.condition,
@@ -56,7 +57,8 @@ fn transfer_line(
     rd: Register,
     address: Addressed,
 ) -> Result<What, NoMemory>
-    ensures { IfOk result (λ said. said ≡ lines.transfer_line word.condition word.load word.byte rd address) }
+    ensures { IfOk result (λ said. said
+        ≡ lines.transfer_line word.condition word.load word.byte rd address) }
 {
     let Addressed {
         rn,
@@ -107,7 +109,8 @@ fn transferred(
     rd: &[Token],
     address: Result<Addressed, LineKind>,
 ) -> Said
-    ensures { IfOk result (λ said. said ≡ lines.transferred text.now word.condition word.load word.byte rd.now address) }
+    ensures { IfOk result (λ said. said
+        ≡ lines.transferred text.now word.condition word.load word.byte rd.now address) }
 {
     let rd = register(alloc, text, rd)?;
     match both(rd, address) {
@@ -121,7 +124,8 @@ fn constant_line(
     rd: Result<Register, LineKind>,
     value: Result<Expr, LineKind>,
 ) -> Result<What, LineKind>
-    ensures { result ≡ says.on_both (λ rd x. what.Pseudo (pseudo.LoadConstant condition rd x)) rd value }
+    ensures { result ≡ says.on_both
+        (λ rd x. what.Pseudo (pseudo.LoadConstant condition rd x)) rd value }
 {
     match both(rd, value) {
         Ok((rd, value)) => Ok(What::Pseudo(PseudoLine::LoadConstant {
@@ -135,7 +139,9 @@ fn constant_line(
 
 /// A number that is loaded.
 fn constant(alloc: Global, text: &[u8], word: Transfer, rd: &[Token], tokens: &[Token]) -> Said
-    ensures { IfOk result (λ said. lines.ReadsConstant text.now word.condition (word.load && lines.is_plain word.byte word.translated) rd.now tokens.now said) }
+    ensures { IfOk result
+        (λ said. lines.ReadsConstant text.now word.condition
+        (word.load && lines.is_plain word.byte word.translated) rd.now tokens.now said) }
 {
     if !word.load {
         return Ok(Err(LineKind::Syntax));
@@ -153,7 +159,9 @@ fn constant(alloc: Global, text: &[u8], word: Transfer, rd: &[Token], tokens: &[
 
 /// A label that is loaded from or stored to.
 fn label(alloc: Global, text: &[u8], word: Transfer, rd: &[Token], tokens: &[Token]) -> Said
-    ensures { IfOk result (λ said. lines.ReadsLabel text.now word.condition word.load (lines.is_plain word.byte word.translated) rd.now tokens.now said) }
+    ensures { IfOk result
+        (λ said. lines.ReadsLabel text.now word.condition word.load
+        (lines.is_plain word.byte word.translated) rd.now tokens.now said) }
 {
     if word.byte {
         return Ok(Err(LineKind::Syntax));
@@ -177,7 +185,8 @@ fn label(alloc: Global, text: &[u8], word: Transfer, rd: &[Token], tokens: &[Tok
 
 /// A transfer with one operand behind Rd, in brackets.
 fn in_brackets(alloc: Global, text: &[u8], word: Transfer, rd: &[Token], tokens: &[Token]) -> Said
-    ensures { IfOk result (λ said. lines.ReadsBased text.now word.condition word.load word.byte word.translated rd.now tokens.now said) }
+    ensures { IfOk result
+        (λ said. lines.ReadsBased text.now word.condition word.load word.byte word.translated rd.now tokens.now said) }
 {
     let address = before(alloc, text, true, tokens)?;
     let address = before_as(text, word.translated, tokens, address);
@@ -192,7 +201,8 @@ fn constant_or_label(
     rd: &[Token],
     tokens: &[Token],
 ) -> Said
-    ensures { IfOk result (λ said. lines.ReadsOther text.now word.condition word.load word.byte word.translated rd.now tokens.now (operands.without_first text.now lines.equals tokens.now) said) }
+    ensures { IfOk result
+        (λ said. lines.ReadsOther text.now word.condition word.load word.byte word.translated rd.now tokens.now (operands.without_first text.now lines.equals tokens.now) said) }
 {
     match without_first(text, b"=", tokens) {
         Some(number) => constant(alloc, text, word, rd, number),
@@ -202,7 +212,8 @@ fn constant_or_label(
 
 /// A transfer with one operand behind Rd.
 fn place(alloc: Global, text: &[u8], word: Transfer, rd: &[Token], tokens: &[Token]) -> Said
-    ensures { IfOk result (λ said. lines.ReadsPlace text.now word.condition word.load word.byte word.translated rd.now tokens.now (operands.without_first text.now lines.bracket tokens.now) said) }
+    ensures { IfOk result
+        (λ said. lines.ReadsPlace text.now word.condition word.load word.byte word.translated rd.now tokens.now (operands.without_first text.now lines.bracket tokens.now) said) }
 {
     match without_first(text, b"[", tokens) {
         Some(_) => in_brackets(alloc, text, word, rd, tokens),
@@ -219,7 +230,8 @@ fn moved(
     brackets: &[Token],
     offset: (&[Token], Option<&[Token]>),
 ) -> Said
-    ensures { IfOk result (λ said. lines.ReadsMoved text.now word.condition word.load word.byte word.translated rd.now brackets.now offset.entry.0.now (option_copied offset.entry.1) said) }
+    ensures { IfOk result
+        (λ said. lines.ReadsMoved text.now word.condition word.load word.byte word.translated rd.now brackets.now offset.entry.0.now (option_copied offset.entry.1) said) }
 {
     let address = after(alloc, text, brackets, offset.0, offset.1)?;
     let address = after_as(word.translated, address);
@@ -227,7 +239,9 @@ fn moved(
 }
 
 pub fn word_transfer(alloc: Global, text: &[u8], word: Transfer, cut: Cut<'_>) -> Said
-    ensures { IfOk result (λ said. lines.ReadsTransfer text.now word.condition word.load word.byte word.translated (cut_of cut.entry) said) }
+    ensures { IfOk result
+        (λ said. lines.ReadsTransfer text.now word.condition word.load word.byte word.translated
+        (cut_of cut.entry) said) }
 {
     match cut {
         Cut::Two(rd, address) => place(alloc, text, word, rd, address),
@@ -249,7 +263,8 @@ pub struct HalfTransfer {
 
 /// A transfer of a half-word or a signed byte, from its address.
 fn half_line(alloc: Global, word: HalfTransfer, rd: Register, address: Addressed) -> Said
-    ensures { IfOk result (λ said. said ≡ lines.half_line word.condition word.load word.kind rd address) }
+    ensures { IfOk result (λ said. said
+        ≡ lines.half_line word.condition word.load word.kind rd address) }
 {
     let Addressed {
         rn,
@@ -277,7 +292,8 @@ fn half_moved(
     rd: &[Token],
     address: Result<Addressed, LineKind>,
 ) -> Said
-    ensures { IfOk result (λ said. said ≡ lines.half_moved text.now word.condition word.load word.kind rd.now address) }
+    ensures { IfOk result (λ said. said
+        ≡ lines.half_moved text.now word.condition word.load word.kind rd.now address) }
 {
     let rd = register(alloc, text, rd)?;
     match both(rd, address) {
@@ -293,7 +309,9 @@ fn half_before(
     rd: &[Token],
     tokens: &[Token],
 ) -> Said
-    ensures { IfOk result (λ said. lines.ReadsHalf text.now word.condition word.load word.kind (operands.two rd.now tokens.now) said) }
+    ensures { IfOk result
+        (λ said. lines.ReadsHalf text.now word.condition word.load word.kind
+        (operands.two rd.now tokens.now) said) }
 {
     let address = before(alloc, text, false, tokens)?;
     half_moved(alloc, text, word, rd, address)
@@ -307,14 +325,18 @@ fn half_after(
     brackets: &[Token],
     tokens: &[Token],
 ) -> Said
-    ensures { IfOk result (λ said. lines.ReadsHalf text.now word.condition word.load word.kind (operands.three rd.now brackets.now tokens.now) said) }
+    ensures { IfOk result
+        (λ said. lines.ReadsHalf text.now word.condition word.load word.kind
+        (operands.three rd.now brackets.now tokens.now) said) }
 {
     let address = after(alloc, text, brackets, tokens, None)?;
     half_moved(alloc, text, word, rd, address)
 }
 
 pub fn transfer_half(alloc: Global, text: &[u8], word: HalfTransfer, cut: Cut<'_>) -> Said
-    ensures { IfOk result (λ said. lines.ReadsHalf text.now word.condition word.load word.kind (cut_of cut.entry) said) }
+    ensures { IfOk result
+        (λ said. lines.ReadsHalf text.now word.condition word.load word.kind
+        (cut_of cut.entry) said) }
 {
     match cut {
         Cut::Two(rd, address) => half_before(alloc, text, word, rd, address),
@@ -331,7 +353,8 @@ pub fn block(
     mode: BlockMode,
     cut: Cut<'_>,
 ) -> Said
-    ensures { IfOk result (λ said. said ≡ lines.block text.now condition load mode (cut_of cut.entry)) }
+    ensures { IfOk result (λ said. said
+        ≡ lines.block text.now condition load mode (cut_of cut.entry)) }
 {
     match cut {
         Cut::Two(base, list) => {

@@ -59,7 +59,9 @@ fn call_fault(
     depth: Depth,
 ) -> Option<LineKind>
     requires { count ≡ length (arguments words.behind.now) }
-    ensures { result ≡ told_kind (prototypes.call_kinds prototype.now (words_shown words.entry) ++ model.depth_kinds (depth_of depth)) }
+    ensures { result ≡ told_kind
+        (prototypes.call_kinds prototype.now (words_shown words.entry) ++ model.depth_kinds
+        (depth_of depth)) }
 {
     first_told(arguments_fault(prototype, words, count), depth_fault(depth))
 }
@@ -84,7 +86,9 @@ fn put_argument(
     parameter: &Parameter,
     text: Option<&Text>,
 ) -> Result<(), NoMemory>
-    ensures { OnOk result (PutsRow parameter.now.name (argument_text parameter.now (option_copied text.entry)) map.old map.new) }
+    ensures { OnOk result
+        (PutsRow parameter.now.name
+        (argument_text parameter.now (option_copied text.entry)) map.old map.new) }
 {
     let value = argument_for(alloc, parameter, text)?;
     let name = parameter.name.try_clone(alloc)?;

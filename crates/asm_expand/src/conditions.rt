@@ -49,7 +49,8 @@ pub fn skip_from(
 
 /// What follows an IF.
 fn branch(alloc: Global, state: &mut Expansion, at: Place, truth: bool) -> Result<Next, NoMemory>
-    ensures says { IfOk result (λ next. Says at state.old state.new next (λ s l ls. model.branch l s ls truth)) }
+    ensures says { IfOk result
+        (λ next. Says at state.old state.new next (λ s l ls. model.branch l s ls truth)) }
     ensures visits { state.new.visits ≤ state.old.visits }
     ensures flats { state.new.flats.items ≡ state.old.flats.items }
 {
@@ -67,7 +68,8 @@ fn turn_around(
     at: Place,
     truth: bool,
 ) -> Result<Next, NoMemory>
-    ensures says { IfOk result (λ next. Says at state.old state.new next (λ s l ls. model.loop l s ls truth)) }
+    ensures says { IfOk result
+        (λ next. Says at state.old state.new next (λ s l ls. model.loop l s ls truth)) }
     ensures visits { state.new.visits ≤ state.old.visits }
     ensures flats { state.new.flats.items ≡ state.old.flats.items }
 {

@@ -100,7 +100,8 @@ fn defined(
 /// Whether one of the parameters has the name of another, or that of the label's.
 #[tactic(auto, using(crate::proofs::DefiningLemmas::repeated_label))]
 fn is_repeated(alloc: Global, prototype: &Prototype) -> Result<bool, NoMemory>
-    ensures { IfOk result (λ b. b ≡ prototypes.is_repeated (prototypes.parameter_names prototype.now)) }
+    ensures { IfOk result (λ b. b
+        ≡ prototypes.is_repeated (prototypes.parameter_names prototype.now)) }
 {
     let mut seen = IndexSet::new(alloc);
     if has_twice(alloc, prototype.parameters.as_slice(), &mut seen)? {
@@ -149,7 +150,8 @@ fn has_twice(
 /// Whether a name of a prototype is beyond the limit.
 #[tactic(auto, using(crate::proofs::DefiningLemmas::long_names))]
 fn has_long(prototype: &Prototype) -> bool
-    ensures { result ≡ (prototypes.is_long prototype.now.name || list_any prototypes.is_long (prototypes.parameter_names prototype.now)) }
+    ensures { result ≡ (prototypes.is_long prototype.now.name || list_any prototypes.is_long
+        (prototypes.parameter_names prototype.now)) }
 {
     if is_long(prototype.name.as_slice()) {
         return true;
@@ -231,7 +233,8 @@ fn prototype_on(
 
 /// What a MACRO says, whose prototype is the next line.
 pub fn definition(alloc: Global, state: &mut Expansion, at: Place) -> Result<Next, NoMemory>
-    ensures says { IfOk result (λ next. Says at state.old state.new next (λ s l ls. model.definition l s ls)) }
+    ensures says { IfOk result
+        (λ next. Says at state.old state.new next (λ s l ls. model.definition l s ls)) }
     ensures visits { state.new.visits ≤ state.old.visits }
     ensures flats { state.new.flats.items ≡ state.old.flats.items }
 {

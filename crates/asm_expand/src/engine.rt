@@ -134,7 +134,9 @@ fn open(engine: &mut Engine, frame: Frame) -> Result<(), NoMemory>
 fn get<S: Store>(alloc: Global, store: &mut S, name: Text, behind: Place) -> Result<Next, Fault>
     ensures gets { Gets name behind (S.files store.old) result }
     ensures under { IfOk result (λ next. weight next ≡ 5) }
-    ensures cause { IfErr result (λ e. Caused e (S.files store.old) (Rose (S.read_faults store.old) (S.read_faults store.new))) }
+    ensures cause { IfErr result
+        (λ e. Caused e (S.files store.old)
+        (Rose (S.read_faults store.old) (S.read_faults store.new))) }
     ensures files { S.files store.new ≡ S.files store.old }
     ensures read_faults { S.read_faults store.old ≤ S.read_faults store.new }
     ensures write_faults { S.write_faults store.new ≡ S.write_faults store.old }
@@ -167,7 +169,8 @@ fn outermost(alloc: Global, end: End) -> Result<Option<Next>, Fault>
 
 /// Takes the innermost frame away.
 fn innermost(frames: &mut Vec<Frame>) -> Option<Frame>
-    ensures { MatchOption result (frames.old.items ≡ []) (λ f. frames.old.items ≡ frames.new.items ++ f ∷ []) }
+    ensures { MatchOption result (frames.old.items ≡ []) (λ f. frames.old.items
+        ≡ frames.new.items ++ f ∷ []) }
 {
     frames.pop()
 }
@@ -196,8 +199,11 @@ fn get_on<S: Store>(
     behind: Place,
 ) -> Result<Option<Next>, Fault>
     ensures led { LedOn (S.files store.old) engine.now (next.Get name behind) engine.now result }
-    ensures smaller { IfOk result (λ after. Smaller (next.Get name behind) engine.now after engine.now) }
-    ensures cause { IfErr result (λ e. Caused e (S.files store.old) (Rose (S.read_faults store.old) (S.read_faults store.new))) }
+    ensures smaller { IfOk result
+        (λ after. Smaller (next.Get name behind) engine.now after engine.now) }
+    ensures cause { IfErr result
+        (λ e. Caused e (S.files store.old)
+        (Rose (S.read_faults store.old) (S.read_faults store.new))) }
     ensures files { S.files store.new ≡ S.files store.old }
     ensures read_faults { S.read_faults store.old ≤ S.read_faults store.new }
     ensures write_faults { S.write_faults store.new ≡ S.write_faults store.old }
@@ -218,7 +224,9 @@ fn step<S: Store>(
     ensures led { LedOn (S.files store.old) engine.old next engine.new result }
     ensures smaller { IfOk result (λ after. Smaller next engine.old after engine.new) }
     ensures flats { OnOk result (most_flats engine.new.state ≤ most_flats engine.old.state) }
-    ensures cause { IfErr result (λ e. Caused e (S.files store.old) (Rose (S.read_faults store.old) (S.read_faults store.new))) }
+    ensures cause { IfErr result
+        (λ e. Caused e (S.files store.old)
+        (Rose (S.read_faults store.old) (S.read_faults store.new))) }
     ensures files { S.files store.new ≡ S.files store.old }
     ensures read_faults { S.read_faults store.old ≤ S.read_faults store.new }
     ensures write_faults { S.write_faults store.new ≡ S.write_faults store.old }
@@ -245,7 +253,9 @@ fn expand_lines<S: Store>(alloc: Global, first: Place, store: &mut S) -> Result<
     ensures few { IfOk result (λ flats. length flats.items ≤ visit_limit) }
     ensures fault { IfErr result (λ e. OfFiles (S.files store.old) (λ sources.
         IsFault e (RunsTo sources (Go (started visit_limit) (place_lines first))))) }
-    ensures cause { IfErr result (λ e. Caused e (S.files store.old) (Rose (S.read_faults store.old) (S.read_faults store.new))) }
+    ensures cause { IfErr result
+        (λ e. Caused e (S.files store.old)
+        (Rose (S.read_faults store.old) (S.read_faults store.new))) }
     ensures files { S.files store.new ≡ S.files store.old }
     ensures read_faults { S.read_faults store.old ≤ S.read_faults store.new }
     ensures write_faults { S.write_faults store.new ≡ S.write_faults store.old }
@@ -274,7 +284,9 @@ pub fn expand<S: Store>(
     ensures few { IfOk result (λ flats. length flats.items ≤ visit_limit) }
     ensures fault { IfErr result (λ e. OfFiles (S.files store.old) (λ sources.
         IsFault e (λ o. Expands sources visit_limit source.now text.now o))) }
-    ensures cause { IfErr result (λ e. Caused e (S.files store.old) (Rose (S.read_faults store.old) (S.read_faults store.new))) }
+    ensures cause { IfErr result
+        (λ e. Caused e (S.files store.old)
+        (Rose (S.read_faults store.old) (S.read_faults store.new))) }
     ensures files { S.files store.new ≡ S.files store.old }
     ensures read_faults { S.read_faults store.old ≤ S.read_faults store.new }
     ensures write_faults { S.write_faults store.new ≡ S.write_faults store.old }

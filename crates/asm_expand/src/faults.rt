@@ -51,7 +51,8 @@ pub fn depth_fault(depth: Depth) -> Option<LineKind>
 
 /// The faults of an IF or a WHILE but for its value's.
 pub fn opening_fault(words: Words<'_>, depth: Depth) -> Option<LineKind>
-    ensures { result ≡ told_kind (model.label_kinds (words_shown words.entry) ++ model.depth_kinds (depth_of depth)) }
+    ensures { result ≡ told_kind
+        (model.label_kinds (words_shown words.entry) ++ model.depth_kinds (depth_of depth)) }
 {
     first_told(label_fault(words), depth_fault(depth))
 }

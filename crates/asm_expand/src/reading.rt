@@ -160,7 +160,8 @@ fn say_get(alloc: Global, depth: Depth, at: Place, words: Words<'_>) -> Result<N
 
 /// What an ELSE, an ENDIF or a WEND says.
 fn say_closed(at: Place, words: Words<'_>, operation: Operation) -> Next
-    ensures { SaysAlone at (words_shown words.entry) result (λ s l ls. Stop (Closed operation l s ls)) }
+    ensures { SaysAlone at (words_shown words.entry) result
+        (λ s l ls. Stop (Closed operation l s ls)) }
 {
     match alone_fault(words) {
         Some(kind) => Next::Bad(at, kind),
@@ -273,7 +274,8 @@ fn read_text(
     at: Place,
     text: Vec<u8>,
 ) -> Result<Next, NoMemory>
-    ensures says { IfOk result (λ next. ReadsText at text.items (depth_of depth) state.old state.new next) }
+    ensures says { IfOk result
+        (λ next. ReadsText at text.items (depth_of depth) state.old state.new next) }
     ensures visits { state.new.visits ≤ state.old.visits }
     ensures flats { length state.new.flats.items ≤ length state.old.flats.items + 1 }
 {

@@ -26,7 +26,9 @@ fn close_condition(
     operation: Operation,
     word: Place,
 ) -> Result<Next, NoMemory>
-    ensures says { IfOk result (λ next. Closes at operation word state.old state.new next (λ l e. model.behind_condition l e)) }
+    ensures says { IfOk result
+        (λ next. Closes at operation word state.old state.new next
+        (λ l e. model.behind_condition l e)) }
     ensures visits { IfOk result (λ next. Shortens next state.old.visits state.new.visits) }
     ensures flats { state.new.flats.items ≡ state.old.flats.items }
 {
@@ -44,7 +46,8 @@ fn turn_condition(
     at: Place,
     end: End,
 ) -> Result<Next, NoMemory>
-    ensures says { IfOk result (λ next. Answers at end state.old state.new next (λ l e. model.behind_condition l e)) }
+    ensures says { IfOk result
+        (λ next. Answers at end state.old state.new next (λ l e. model.behind_condition l e)) }
     ensures visits { IfOk result (λ next. Shortens next state.old.visits state.new.visits) }
     ensures flats { state.new.flats.items ≡ state.old.flats.items }
 {

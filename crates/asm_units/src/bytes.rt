@@ -87,7 +87,9 @@ fn half(
     operand: &Expr,
 ) -> Result<Result<Emitted, LineKind>, NoMemory>
     requires { IsRead operand.now }
-    ensures { IfOk result (λ half. mapped emitted_of half ≡ mapped (λ b. units.Bytes b) (and_then (number_in (context_of beside.now.scene) operand.now) (units.narrow 2))) }
+    ensures { IfOk result (λ half. mapped emitted_of half
+        ≡ mapped (λ b. units.Bytes b)
+        (and_then (number_in (context_of beside.now.scene) operand.now) (units.narrow 2))) }
 {
     let number = number_there(alloc, &beside.scene, operand)?;
     let bytes = half_of(alloc, number)?;
@@ -101,7 +103,8 @@ pub fn halves(
     operands: &[Expr],
 ) -> Result<Result<Vec<Emitted>, LineKind>, NoMemory>
     requires { AllRead operands.now }
-    ensures { IfOk result (λ us. all_emitted us ≡ units.half_units (context_of beside.now.scene) operands.now) }
+    ensures { IfOk result (λ us. all_emitted us
+        ≡ units.half_units (context_of beside.now.scene) operands.now) }
 {
     let mut so_far = Ok(Vec::new(alloc));
     let mut left = operands;
@@ -149,7 +152,9 @@ fn operand_bytes(
     operand: &Expr,
 ) -> Result<Result<Emitted, LineKind>, NoMemory>
     requires { IsRead operand.now }
-    ensures { IfOk result (λ bytes. mapped emitted_of bytes ≡ mapped (λ b. units.Bytes b) (marked.marked_operand mark (value_of (context_of beside.now.scene) operand.now))) }
+    ensures { IfOk result (λ bytes. mapped emitted_of bytes
+        ≡ mapped (λ b. units.Bytes b)
+        (marked.marked_operand mark (value_of (context_of beside.now.scene) operand.now))) }
 {
     let value = value_there(alloc, &beside.scene, operand)?;
     let bytes = operand_of(alloc, mark, value)?;
@@ -181,7 +186,8 @@ pub fn bytes(
     operands: &[Expr],
 ) -> Result<Result<Vec<Emitted>, LineKind>, NoMemory>
     requires { AllRead operands.now }
-    ensures { IfOk result (λ us. all_emitted us ≡ marked.marked_units (context_of beside.now.scene) beside.now.strings.now operands.now) }
+    ensures { IfOk result (λ us. all_emitted us
+        ≡ marked.marked_units (context_of beside.now.scene) beside.now.strings.now operands.now) }
 {
     let mut so_far = Ok(Vec::new(alloc));
     let mut marks = beside.strings;

@@ -38,7 +38,8 @@ fn instruction_unit(
     instruction: Result<ArmInstr, LineKind>,
     symbol: Option<Text>,
 ) -> Result<Result<Vec<Emitted>, LineKind>, NoMemory>
-    ensures { IfOk result (λ us. all_emitted us ≡ mapped (λ i. units.Instruction i symbol ∷ []) instruction) }
+    ensures { IfOk result (λ us. all_emitted us
+        ≡ mapped (λ i. units.Instruction i symbol ∷ []) instruction) }
 {
     match instruction {
         Ok(instruction) => {
@@ -62,7 +63,9 @@ pub fn arm(
     line: &ArmLine,
 ) -> Result<Result<Vec<Emitted>, LineKind>, NoMemory>
     requires { ArmSaid line.now }
-    ensures { IfOk result (λ us. (c : Context) → Shows beside.now.scene c → all_emitted us ≡ mapped (λ i. units.Instruction i (units.branch_symbol c line.now) ∷ []) (forms.arm_instruction c line.now)) }
+    ensures { IfOk result (λ us. (c : Context) → Shows beside.now.scene c → all_emitted us
+        ≡ mapped (λ i. units.Instruction i (units.branch_symbol c line.now) ∷ [])
+        (forms.arm_instruction c line.now)) }
 {
     let instruction = arm_instruction(alloc, &beside.scene, line)?;
     let symbol = branch_symbol(alloc, &beside.scene, line)?;
@@ -70,7 +73,8 @@ pub fn arm(
 }
 
 fn instruction_units(alloc: Global, instructions: &[ArmInstr]) -> Result<Vec<Emitted>, NoMemory>
-    ensures { IfOk result (λ us. map emitted_of us.items ≡ units.instruction_units instructions.now) }
+    ensures { IfOk result (λ us. map emitted_of us.items
+        ≡ units.instruction_units instructions.now) }
 {
     let mut units = Vec::new(alloc);
     let mut left = instructions;
@@ -121,7 +125,8 @@ fn code_units(
     symbol: Option<Text>,
     code: Result<ThumbCode, LineKind>,
 ) -> Result<Result<Vec<Emitted>, LineKind>, NoMemory>
-    ensures { IfOk result (λ us. all_emitted us ≡ mapped (λ i. units.code_unit symbol i ∷ []) code) }
+    ensures { IfOk result (λ us. all_emitted us
+        ≡ mapped (λ i. units.code_unit symbol i ∷ []) code) }
 {
     match code {
         Ok(code) => {
@@ -139,7 +144,9 @@ pub fn thumb(
     line: &ThumbLine,
 ) -> Result<Result<Vec<Emitted>, LineKind>, NoMemory>
     requires { ThumbSaid line.now }
-    ensures { IfOk result (λ us. (c : Context) → Shows beside.now.scene c → all_emitted us ≡ mapped (λ i. units.code_unit (units.link_symbol c line.now) i ∷ []) (halves.thumb_instruction c line.now)) }
+    ensures { IfOk result (λ us. (c : Context) → Shows beside.now.scene c → all_emitted us
+        ≡ mapped (λ i. units.code_unit (units.link_symbol c line.now) i ∷ [])
+        (halves.thumb_instruction c line.now)) }
 {
     let code = thumb_instruction(alloc, &beside.scene, line)?;
     let symbol = link_symbol(alloc, &beside.scene, line)?;
@@ -167,7 +174,8 @@ fn thumb_pseudo(
     line: &PseudoLine,
 ) -> Result<Result<Vec<Emitted>, LineKind>, NoMemory>
     requires { PseudoSaid line.now }
-    ensures { IfOk result (λ us. (c : Context) → Shows beside.now.scene c → all_emitted us ≡ mapped (λ i. units.Half i ∷ []) (halves.thumb_pseudo c beside.now.word line.now)) }
+    ensures { IfOk result (λ us. (c : Context) → Shows beside.now.scene c → all_emitted us
+        ≡ mapped (λ i. units.Half i ∷ []) (halves.thumb_pseudo c beside.now.word line.now)) }
 {
     let instruction = thumb_pseudo_instruction(alloc, &beside.scene, beside.word, line)?;
     half_units(alloc, instruction)
@@ -179,7 +187,8 @@ fn arm_pseudo(
     line: &PseudoLine,
 ) -> Result<Result<Vec<Emitted>, LineKind>, NoMemory>
     requires { PseudoSaid line.now }
-    ensures { IfOk result (λ us. (c : Context) → Shows beside.now.scene c → all_emitted us ≡ mapped units.instruction_units (pseudo.pseudo_instructions c beside.now.word line.now)) }
+    ensures { IfOk result (λ us. (c : Context) → Shows beside.now.scene c → all_emitted us
+        ≡ mapped units.instruction_units (pseudo.pseudo_instructions c beside.now.word line.now)) }
 {
     let instructions = pseudo_instructions(alloc, &beside.scene, beside.word, line)?;
     all_units(alloc, instructions)
@@ -192,7 +201,8 @@ pub fn pseudo(
     line: &PseudoLine,
 ) -> Result<Result<Vec<Emitted>, LineKind>, NoMemory>
     requires { PseudoSaid line.now }
-    ensures { IfOk result (λ us. (c : Context) → Shows beside.now.scene c → all_emitted us ≡ units.pseudo_units c.line.thumb c beside.now.word line.now) }
+    ensures { IfOk result (λ us. (c : Context) → Shows beside.now.scene c → all_emitted us
+        ≡ units.pseudo_units c.line.thumb c beside.now.word line.now) }
 {
     if beside.scene.line.place.thumb {
         return thumb_pseudo(alloc, beside, line);

@@ -35,7 +35,8 @@ pub fn push_next(
     so_far: Result<Vec<Emitted>, LineKind>,
     next: Result<Emitted, LineKind>,
 ) -> Result<Result<Vec<Emitted>, LineKind>, NoMemory>
-    ensures { IfOk result (λ more. all_emitted more ≡ with_next (all_emitted so_far) (mapped emitted_of next)) }
+    ensures { IfOk result (λ more. all_emitted more
+        ≡ with_next (all_emitted so_far) (mapped emitted_of next)) }
 {
     match (so_far, next) {
         (Ok(units), Ok(next)) => {

@@ -54,7 +54,8 @@ fn lies_within(beside: &Beside<'_>, place: Option<(u32, u32)>, plus: u32) -> boo
 
 /// The kind of a name with a value, or with none, in EXPORT and KEEP.
 fn exported_kind(beside: &Beside<'_>, value: Result<Value, LineKind>) -> Option<LineKind>
-    ensures { result ≡ told_kind (model.exported_kinds (context_of beside.now.scene) (sizes_of beside.now) value) }
+    ensures { result ≡ told_kind
+        (model.exported_kinds (context_of beside.now.scene) (sizes_of beside.now) value) }
 {
     match value {
         Ok(Value::Number(_)) => None,
@@ -72,7 +73,9 @@ fn export_kind(
     beside: &Beside<'_>,
     name: &Text,
 ) -> Result<Option<LineKind>, NoMemory>
-    ensures { IfOk result (λ kind. kind ≡ told_kind (model.export_kinds (context_of beside.now.scene) (sizes_of beside.now) (named_in name.now beside.now.scene.names.now))) }
+    ensures { IfOk result (λ kind. kind
+        ≡ told_kind (model.export_kinds (context_of beside.now.scene) (sizes_of beside.now)
+        (named_in name.now beside.now.scene.names.now))) }
 {
     match beside.scene.names.find(name) {
         None => Ok(Some(LineKind::UnknownWord)),
@@ -109,7 +112,9 @@ fn directive_there(
     line: &DirectiveLine,
 ) -> Result<Option<LineKind>, NoMemory>
     requires { DirectiveSaid line.now }
-    ensures { IfOk result (λ kind. kind ≡ told_kind (model.directive_kinds (context_of beside.now.scene) (sizes_of beside.now) line.now)) }
+    ensures { IfOk result (λ kind. kind
+        ≡ told_kind (model.directive_kinds (context_of beside.now.scene)
+        (sizes_of beside.now) line.now)) }
 {
     match line {
         DirectiveLine::Export { name } => export_kind(alloc, beside, name),
@@ -132,7 +137,9 @@ fn statement_there(
     what: &What,
 ) -> Result<Option<LineKind>, NoMemory>
     requires { WhatSaid what.now }
-    ensures { IfOk result (λ kind. kind ≡ told_kind (model.statement_kinds (context_of beside.now.scene) (sizes_of beside.now) what.now)) }
+    ensures { IfOk result (λ kind. kind
+        ≡ told_kind (model.statement_kinds (context_of beside.now.scene)
+        (sizes_of beside.now) what.now)) }
 {
     match what {
         What::Directive(line) => directive_there(alloc, beside, line),
@@ -147,7 +154,11 @@ pub fn statement_kind(
     what: &What,
 ) -> Result<Option<LineKind>, NoMemory>
     requires { WhatSaid what.now }
-    ensures { IfOk result (λ kind. (c : Context) (data_names : List (List ℕ)) (sizes : ℕ → ℕ) (s : Names) (word : Option ℕ) → ShowsBeside beside.now c data_names sizes s word what.now → kind ≡ told_kind (model.statement_kinds c sizes what.now)) }
+    ensures { IfOk result
+        (λ kind. (c : Context) (data_names : List (List ℕ)) (sizes : ℕ
+        → ℕ) (s : Names) (word : Option ℕ)
+        → ShowsBeside beside.now c data_names sizes s word what.now → kind
+        ≡ told_kind (model.statement_kinds c sizes what.now)) }
 {
     statement_there(alloc, beside, what)
 }

@@ -24,7 +24,9 @@ fn add_directive(
     line: &DirectiveLine,
 ) -> Result<(), NoMemory>
     requires { DirectiveSaid line.now }
-    ensures { OnOk result (symbols.new ≡ model.listed_behind symbols.old (model.directive_symbols scene.now.names.now (line_of scene.now.line.now) line.now)) }
+    ensures { OnOk result (symbols.new
+        ≡ model.listed_behind symbols.old
+        (model.directive_symbols scene.now.names.now (line_of scene.now.line.now) line.now)) }
 {
     match line {
         DirectiveLine::Export { name } => add_name(alloc, symbols, name),
@@ -43,7 +45,9 @@ fn add_arm(
     line: &ArmLine,
 ) -> Result<(), NoMemory>
     requires { ArmSaid line.now }
-    ensures { OnOk result (symbols.new ≡ model.listed_behind symbols.old (model.arm_symbols scene.now.names.now (line_of scene.now.line.now) line.now)) }
+    ensures { OnOk result (symbols.new
+        ≡ model.listed_behind symbols.old
+        (model.arm_symbols scene.now.names.now (line_of scene.now.line.now) line.now)) }
 {
     match line {
         ArmLine::Branch { target, .. } => add_branch(alloc, symbols, scene, target),
@@ -58,7 +62,9 @@ fn add_thumb(
     line: &ThumbLine,
 ) -> Result<(), NoMemory>
     requires { ThumbSaid line.now }
-    ensures { OnOk result (symbols.new ≡ model.listed_behind symbols.old (model.thumb_symbols scene.now.names.now (line_of scene.now.line.now) line.now)) }
+    ensures { OnOk result (symbols.new
+        ≡ model.listed_behind symbols.old
+        (model.thumb_symbols scene.now.names.now (line_of scene.now.line.now) line.now)) }
 {
     match line {
         ThumbLine::BranchLink { target } => add_branch(alloc, symbols, scene, target),
@@ -74,7 +80,10 @@ fn add_statement(
     what: &What,
 ) -> Result<(), NoMemory>
     requires { WhatSaid what.now }
-    ensures { OnOk result (symbols.new ≡ model.listed_behind symbols.old (statement_symbols scene.now.names.now (line_of scene.now.line.now) (option_copied literal.entry) what.now)) }
+    ensures { OnOk result (symbols.new
+        ≡ model.listed_behind symbols.old
+        (statement_symbols scene.now.names.now (line_of scene.now.line.now)
+        (option_copied literal.entry) what.now)) }
 {
     match what {
         What::Nothing => Ok(()),
@@ -93,7 +102,10 @@ pub fn add_line(
     literal: Option<&Value>,
 ) -> Result<(), NoMemory>
     requires { WhatSaid scene.now.line.now.statement.now.what }
-    ensures { OnOk result ((f : SourceLine) (e : Extent) → Sees scene.now.line.now f → literal_in e ≡ option_copied literal.entry → symbols.new ≡ model.listed_behind symbols.old (model.symbols_in scene.now.names.now f e scene.now.line.now.statement.now.what)) }
+    ensures { OnOk result ((f : SourceLine) (e : Extent) → Sees scene.now.line.now f → literal_in e
+        ≡ option_copied literal.entry → symbols.new
+        ≡ model.listed_behind symbols.old
+        (model.symbols_in scene.now.names.now f e scene.now.line.now.statement.now.what)) }
 {
     add_statement(alloc, symbols, scene, literal, &scene.line.statement.what)
 }

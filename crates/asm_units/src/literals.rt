@@ -48,7 +48,8 @@ fn place_value(
     symbol: &Text,
     plus: u32,
 ) -> Result<Result<Value, LineKind>, NoMemory>
-    ensures { IfOk result (λ v. (s : Names) → s.list ≡ names.now → v ≡ symbols.literal_value s (Place symbol.now plus)) }
+    ensures { IfOk result (λ v. (s : Names) → s.list ≡ names.now → v
+        ≡ symbols.literal_value s (Place symbol.now plus)) }
 {
     if symbol.as_slice().is_empty() {
         let symbol = symbol.try_clone(alloc)?;
@@ -64,7 +65,8 @@ pub fn literal_value(
     names: &KnownNames,
     literal: &Value,
 ) -> Result<Result<Value, LineKind>, NoMemory>
-    ensures { IfOk result (λ v. (s : Names) → s.list ≡ names.now → v ≡ symbols.literal_value s literal.now) }
+    ensures { IfOk result (λ v. (s : Names) → s.list ≡ names.now → v
+        ≡ symbols.literal_value s literal.now) }
 {
     match literal {
         Value::Place { symbol, plus } => place_value(alloc, names, symbol, *plus),
@@ -84,7 +86,9 @@ pub fn literal_stored(
     area: Option<u32>,
     literal: &Value,
 ) -> Result<Result<Stored, LineKind>, NoMemory>
-    ensures { IfOk result (λ w. (c : Context) (labels : List (List ℕ)) → ShowsNames names.now data_names.now area c labels → mapped stored_of w ≡ units.stored c labels (symbols.literal_value (sees c) literal.now)) }
+    ensures { IfOk result (λ w. (c : Context) (labels : List (List ℕ))
+        → ShowsNames names.now data_names.now area c labels → mapped stored_of w
+        ≡ units.stored c labels (symbols.literal_value (sees c) literal.now)) }
 {
     let value = literal_value(alloc, names, literal)?;
     Ok(stored(names, data_names, area, value))

@@ -37,7 +37,8 @@ pub fn is_thumb(names: &KnownNames, name: &Text) -> bool
 
 /// The area of a symbol and its offset there; the empty symbol is the start of this area.
 pub fn stands_at(names: &KnownNames, area: Option<u32>, symbol: &Text) -> Option<(u32, u32)>
-    ensures { (s : Names) → s.list ≡ names.now → s.area ≡ area → result ≡ meaning.stands_at s symbol.now }
+    ensures { (s : Names) → s.list ≡ names.now → s.area ≡ area → result
+        ≡ meaning.stands_at s symbol.now }
 {
     if symbol.as_slice().is_empty() {
         return match area {

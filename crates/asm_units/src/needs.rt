@@ -44,7 +44,8 @@ fn add_needed(alloc: Global, symbols: &mut Symbols, needed: Option<Text>) -> Res
 
 /// A symbol that stands in no area of the source.
 fn unplaced(scene: &Scene<'_>, symbol: Text) -> Option<Text>
-    ensures { one_symbol result ≡ model.word_symbols (sees (context_of scene.now)) (Ok (values.Place symbol 0)) }
+    ensures { one_symbol result
+        ≡ model.word_symbols (sees (context_of scene.now)) (Ok (values.Place symbol 0)) }
 {
     if symbol.as_slice().is_empty() {
         return None;
@@ -72,7 +73,10 @@ fn add_word(
     operand: &Expr,
 ) -> Result<(), NoMemory>
     requires { IsRead operand.now }
-    ensures { OnOk result (symbols.new ≡ model.listed_behind symbols.old (model.word_symbols (sees (context_of scene.now)) (value_of (context_of scene.now) operand.now))) }
+    ensures { OnOk result (symbols.new
+        ≡ model.listed_behind symbols.old
+        (model.word_symbols (sees (context_of scene.now))
+        (value_of (context_of scene.now) operand.now))) }
 {
     let value = value_there(alloc, scene, operand)?;
     add_needed(alloc, symbols, word_symbol(scene, value))
@@ -86,7 +90,9 @@ pub fn add_words(
     operands: &[Expr],
 ) -> Result<(), NoMemory>
     requires { AllRead operands.now }
-    ensures { OnOk result (symbols.new ≡ model.listed_behind symbols.old (model.words_symbols scene.now.names.now (line_of scene.now.line.now) operands.now)) }
+    ensures { OnOk result (symbols.new
+        ≡ model.listed_behind symbols.old
+        (model.words_symbols scene.now.names.now (line_of scene.now.line.now) operands.now)) }
 {
     let mut left = operands;
     'operands: loop {
@@ -108,7 +114,10 @@ pub fn add_branch(
     target: &Expr,
 ) -> Result<(), NoMemory>
     requires { IsRead target.now }
-    ensures { OnOk result (symbols.new ≡ model.listed_behind symbols.old (model.branch_symbols (sees (context_of scene.now)) (value_of (context_of scene.now) target.now))) }
+    ensures { OnOk result (symbols.new
+        ≡ model.listed_behind symbols.old
+        (model.branch_symbols (sees (context_of scene.now))
+        (value_of (context_of scene.now) target.now))) }
 {
     let symbol = target_symbol(alloc, scene, target)?;
     add_needed(alloc, symbols, symbol)
@@ -120,7 +129,10 @@ fn add_loaded(
     scene: &Scene<'_>,
     literal: &Value,
 ) -> Result<(), NoMemory>
-    ensures { OnOk result (symbols.new ≡ model.listed_behind symbols.old (model.word_symbols (sees (context_of scene.now)) (model.literal_value (sees (context_of scene.now)) literal.now))) }
+    ensures { OnOk result (symbols.new
+        ≡ model.listed_behind symbols.old
+        (model.word_symbols (sees (context_of scene.now))
+        (model.literal_value (sees (context_of scene.now)) literal.now))) }
 {
     let value = literal_value(alloc, scene.names, literal)?;
     add_needed(alloc, symbols, word_symbol(scene, value))
@@ -133,7 +145,9 @@ pub fn add_literal(
     scene: &Scene<'_>,
     literal: Option<&Value>,
 ) -> Result<(), NoMemory>
-    ensures { OnOk result (symbols.new ≡ model.listed_behind symbols.old (loaded_symbols (sees (context_of scene.now)) (option_copied literal.entry))) }
+    ensures { OnOk result (symbols.new
+        ≡ model.listed_behind symbols.old
+        (loaded_symbols (sees (context_of scene.now)) (option_copied literal.entry))) }
 {
     match literal {
         None => Ok(()),

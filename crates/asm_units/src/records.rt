@@ -73,7 +73,8 @@ fn holds_code(code: &[bool], area: u32) -> bool
 
 /// Whether a label is a datum in a code area.
 fn is_marked(facts: &Facts<'_>, label: &Text, area: u32) -> bool
-    ensures { result ≡ list_any (same label.now) facts.now.data.now && get_or facts.now.code.now area false }
+    ensures { result ≡ list_any (same label.now) facts.now.data.now
+        && get_or facts.now.code.now area false }
 {
     if facts.data.has(label) {
         return holds_code(facts.code, area);
@@ -90,13 +91,21 @@ fn marks(facts: &Facts<'_>, label: &Text, area: u32) -> u32
 
 /// Where a label stands.
 fn label_place(facts: &Facts<'_>, label: &Text) -> Option<(u32, u32)>
-    ensures { (s : Source) → Shows facts.now s → result ≡ meaning.stands_at (sees (objects.context_in s None)) label.now }
+    ensures { (s : Source) → Shows facts.now s → result
+        ≡ meaning.stands_at (sees (objects.context_in s None)) label.now }
 {
     stands_at(facts.names, None, label)
 }
 
 fn undefined(alloc: Global, facts: &Facts<'_>, name: &Text) -> Result<Symbol, NoMemory>
-    ensures { IfOk result (λ symbol. (s : Source) → Shows facts.now s → symbol ≡ record { name = name.now; attributes = 2 + flag_of (objects.is_weak s name.now) * 2 ^ 4; value = 0; area = None }) }
+    ensures { IfOk result (λ symbol. (s : Source) → Shows facts.now s → symbol
+        ≡ record {
+          name = name.now;
+          attributes = 2 + flag_of
+              (objects.is_weak s name.now) * 2 ^ 4;
+          value = 0;
+          area = None;
+        }) }
 {
     let name_copy = name.try_clone(alloc)?;
     Ok(Symbol {
@@ -115,7 +124,8 @@ fn placed(
     plus: u32,
     place: Option<(u32, u32)>,
 ) -> Result<Symbol, NoMemory>
-    ensures { IfOk result (λ symbol. (s : Source) → Shows facts.now s → symbol ≡ objects.symbol_placed s name.now label.now plus place) }
+    ensures { IfOk result (λ symbol. (s : Source) → Shows facts.now s → symbol
+        ≡ objects.symbol_placed s name.now label.now plus place) }
 {
     match place {
         None => undefined(alloc, facts, name),
@@ -133,7 +143,8 @@ fn placed(
 
 /// The record of a name with no value.
 fn unvalued(alloc: Global, name: &Text) -> Result<Symbol, NoMemory>
-    ensures { IfOk result (λ symbol. symbol ≡ record { name = name.now; attributes = 0; value = 0; area = None }) }
+    ensures { IfOk result (λ symbol. symbol
+        ≡ record { name = name.now; attributes = 0; value = 0; area = None }) }
 {
     let name = name.try_clone(alloc)?;
     Ok(Symbol {
@@ -145,7 +156,14 @@ fn unvalued(alloc: Global, name: &Text) -> Result<Symbol, NoMemory>
 }
 
 fn absolute(alloc: Global, facts: &Facts<'_>, name: &Text, number: u32) -> Result<Symbol, NoMemory>
-    ensures { IfOk result (λ symbol. (s : Source) → Shows facts.now s → symbol ≡ record { name = name.now; attributes = objects.scope s name.now + 2 ^ 2; value = number; area = None }) }
+    ensures { IfOk result (λ symbol. (s : Source) → Shows facts.now s → symbol
+        ≡ record {
+          name = name.now;
+          attributes = objects.scope s name.now
+              + 2 ^ 2;
+          value = number;
+          area = None;
+        }) }
 {
     let name_copy = name.try_clone(alloc)?;
     Ok(Symbol {
@@ -162,7 +180,8 @@ fn valued(
     name: &Text,
     value: Result<Value, LineKind>,
 ) -> Result<Symbol, NoMemory>
-    ensures { IfOk result (λ symbol. (s : Source) → Shows facts.now s → symbol ≡ objects.symbol_valued s name.now value) }
+    ensures { IfOk result (λ symbol. (s : Source) → Shows facts.now s → symbol
+        ≡ objects.symbol_valued s name.now value) }
 {
     match value {
         Ok(Value::Number(number)) => absolute(alloc, facts, name, number),
@@ -176,7 +195,8 @@ fn valued(
 
 /// The record of a symbol.
 pub fn record_of(alloc: Global, name: &Text, facts: &Facts<'_>) -> Result<Symbol, NoMemory>
-    ensures { IfOk result (λ symbol. (s : Source) → Shows facts.now s → symbol ≡ objects.symbol_named s name.now) }
+    ensures { IfOk result (λ symbol. (s : Source) → Shows facts.now s → symbol
+        ≡ objects.symbol_named s name.now) }
 {
     let value = value_named(alloc, facts.names, name)?;
     valued(alloc, facts, name, value)

@@ -44,7 +44,11 @@ fn literal_kind(
     beside: &Beside<'_>,
     value: Option<&Value>,
 ) -> Result<Option<LineKind>, NoMemory>
-    ensures { IfOk result (λ kind. (c : Context) (data_names : List (List ℕ)) (sizes : ℕ → ℕ) (s : Names) (word : Option ℕ) (said : Said) (e : Extent) → ShowsBeside beside.now c data_names sizes s word said → literal_in e ≡ option_copied value.entry → kind ≡ told_kind (model.literal_kinds c data_names e)) }
+    ensures { IfOk result
+        (λ kind. (c : Context) (data_names : List (List ℕ)) (sizes : ℕ
+        → ℕ) (s : Names) (word : Option ℕ) (said : Said) (e : Extent)
+        → ShowsBeside beside.now c data_names sizes s word said → literal_in e
+        ≡ option_copied value.entry → kind ≡ told_kind (model.literal_kinds c data_names e)) }
 {
     match value {
         None => Ok(None),
@@ -64,7 +68,8 @@ fn given_number(
     what: &What,
 ) -> Result<Result<u32, LineKind>, NoMemory>
     requires { WhatSaid what.now }
-    ensures { IfOk result (λ number. (c : Context) → Shows scene.now c → IsNumber c what.now number) }
+    ensures { IfOk result (λ number. (c : Context) → Shows scene.now c
+        → IsNumber c what.now number) }
 {
     match what {
         What::Directive(
@@ -110,7 +115,11 @@ pub fn pass_two(
     what: &What,
 ) -> Result<Result<LineUnits, LineKind>, NoMemory>
     requires { WhatSaid what.now }
-    ensures { IfOk result (λ r. (c : Context) (data_names : List (List ℕ)) (sizes : ℕ → ℕ) (s : Names) (word : Option ℕ) (e : Extent) → ShowsBeside beside.now c data_names sizes s word what.now → literal_in e ≡ option_copied value.entry → IsPassTwo c data_names sizes s e word what.now r) }
+    ensures { IfOk result
+        (λ r. (c : Context) (data_names : List (List ℕ)) (sizes : ℕ
+        → ℕ) (s : Names) (word : Option ℕ) (e : Extent)
+        → ShowsBeside beside.now c data_names sizes s word what.now → literal_in e
+        ≡ option_copied value.entry → IsPassTwo c data_names sizes s e word what.now r) }
 {
     let units = units(alloc, beside, what)?;
     let loads = literal_kind(alloc, beside, value)?;

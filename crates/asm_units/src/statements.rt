@@ -27,7 +27,8 @@ fn directive_there(
     line: &DirectiveLine,
 ) -> Result<Result<Vec<Emitted>, LineKind>, NoMemory>
     requires { DirectiveSaid line.now }
-    ensures { IfOk result (λ us. all_emitted us ≡ marked_directive (context_of beside.now.scene) beside.now.data.now beside.now.strings.now line.now) }
+    ensures { IfOk result (λ us. all_emitted us
+        ≡ marked_directive (context_of beside.now.scene) beside.now.data.now beside.now.strings.now line.now) }
 {
     match line {
         DirectiveLine::Dcd { values } => words(alloc, beside, values.as_slice()),
@@ -44,7 +45,11 @@ fn directive(
     line: &DirectiveLine,
 ) -> Result<Result<Vec<Emitted>, LineKind>, NoMemory>
     requires { DirectiveSaid line.now }
-    ensures { IfOk result (λ us. (c : Context) (data_names : List (List ℕ)) (sizes : ℕ → ℕ) (s : Names) (word : Option ℕ) → ShowsBeside beside.now c data_names sizes s word (kinds.Directive line.now) → all_emitted us ≡ model.directive_units c data_names s line.now) }
+    ensures { IfOk result
+        (λ us. (c : Context) (data_names : List (List ℕ)) (sizes : ℕ
+        → ℕ) (s : Names) (word : Option ℕ)
+        → ShowsBeside beside.now c data_names sizes s word (kinds.Directive line.now)
+        → all_emitted us ≡ model.directive_units c data_names s line.now) }
 {
     directive_there(alloc, beside, line)
 }
@@ -56,7 +61,11 @@ pub fn units(
     what: &What,
 ) -> Result<Result<Vec<Emitted>, LineKind>, NoMemory>
     requires { WhatSaid what.now }
-    ensures { IfOk result (λ us. (c : Context) (data_names : List (List ℕ)) (sizes : ℕ → ℕ) (s : Names) (word : Option ℕ) → ShowsBeside beside.now c data_names sizes s word what.now → all_emitted us ≡ model.units c data_names s word what.now) }
+    ensures { IfOk result
+        (λ us. (c : Context) (data_names : List (List ℕ)) (sizes : ℕ
+        → ℕ) (s : Names) (word : Option ℕ)
+        → ShowsBeside beside.now c data_names sizes s word what.now → all_emitted us
+        ≡ model.units c data_names s word what.now) }
 {
     match what {
         What::Nothing => Ok(Ok(Vec::new(alloc))),

@@ -25,7 +25,9 @@ use std::alloc::Global;
 
 /// Whether a symbol counts one more in a word: a label of Thumb code that is no datum.
 fn counts_one(names: &KnownNames, data_names: &NameRefs<'_>, symbol: &Text) -> bool
-    ensures { (c : Context) (labels : List (List ℕ)) (area : Option ℕ) → ShowsNames names.now data_names.now area c labels → result ≡ marks.counts_one labels (sees c) symbol.now }
+    ensures { (c : Context) (labels : List (List ℕ)) (area : Option ℕ)
+        → ShowsNames names.now data_names.now area c labels → result
+        ≡ marks.counts_one labels (sees c) symbol.now }
 {
     if is_thumb(names, symbol) {
         return !data_names.has(symbol);
@@ -44,7 +46,12 @@ fn thumb_bit(counts: bool) -> u32
 
 /// A word with a place of an area, with one more where it counts one.
 fn in_area(area: u32, offset: u32, plus: u32, counts: bool) -> Stored
-    ensures { stored_of result ≡ record { number = (offset + plus + marks.thumb_bit counts) % 2 ^ 32; target = ByArea area } }
+    ensures { stored_of result
+        ≡ record {
+          number = (offset + plus
+              + marks.thumb_bit counts) % 2 ^ 32;
+          target = ByArea area;
+        } }
 {
     Stored {
         number: offset.wrapping_add(plus).wrapping_add(thumb_bit(counts)),
@@ -60,7 +67,9 @@ fn placed(
     plus: u32,
     place: Option<(u32, u32)>,
 ) -> Stored
-    ensures { (c : Context) (labels : List (List ℕ)) (area : Option ℕ) → ShowsNames names.now data_names.now area c labels → stored_of result ≡ units.placed c labels symbol plus place }
+    ensures { (c : Context) (labels : List (List ℕ)) (area : Option ℕ)
+        → ShowsNames names.now data_names.now area c labels → stored_of result
+        ≡ units.placed c labels symbol plus place }
 {
     match place {
         None => Stored {
@@ -81,7 +90,9 @@ pub fn stored(
     area: Option<u32>,
     value: Result<Value, LineKind>,
 ) -> Result<Stored, LineKind>
-    ensures { (c : Context) (labels : List (List ℕ)) → ShowsNames names.now data_names.now area c labels → mapped stored_of result ≡ units.stored c labels value }
+    ensures { (c : Context) (labels : List (List ℕ))
+        → ShowsNames names.now data_names.now area c labels → mapped stored_of result
+        ≡ units.stored c labels value }
 {
     match value {
         Ok(Value::Number(number)) => Ok(Stored {
@@ -103,7 +114,10 @@ fn word(
     operand: &Expr,
 ) -> Result<Result<Emitted, LineKind>, NoMemory>
     requires { IsRead operand.now }
-    ensures { IfOk result (λ word. mapped emitted_of word ≡ mapped (λ w. units.Word w) (units.stored (context_of beside.now.scene) beside.now.data.now (value_of (context_of beside.now.scene) operand.now))) }
+    ensures { IfOk result (λ word. mapped emitted_of word
+        ≡ mapped (λ w. units.Word w)
+        (units.stored (context_of beside.now.scene) beside.now.data.now
+        (value_of (context_of beside.now.scene) operand.now))) }
 {
     let value = value_there(alloc, &beside.scene, operand)?;
     let scene = &beside.scene;
@@ -118,7 +132,8 @@ pub fn words(
     operands: &[Expr],
 ) -> Result<Result<Vec<Emitted>, LineKind>, NoMemory>
     requires { AllRead operands.now }
-    ensures { IfOk result (λ us. all_emitted us ≡ units.word_units (context_of beside.now.scene) beside.now.data.now operands.now) }
+    ensures { IfOk result (λ us. all_emitted us
+        ≡ units.word_units (context_of beside.now.scene) beside.now.data.now operands.now) }
 {
     let mut so_far = Ok(Vec::new(alloc));
     let mut left = operands;
