@@ -3,7 +3,7 @@ use Rattle.std.proofs.Common.{◌≡◌, ◌≤◌, ℕ, ◌+◌, ◌||◌, Bool
 use Rattle.std.specs.Prelude.{nat_lt}
 use Rattle.std.specs.List.{list_any}
 use Rattle.sdt_fault.specs.declared.kinds.LineKind.{LineKind}
-use Rattle.sdt_fault.specs.declared.kinds.LineKind.TheVariants.{BadOperand}
+use Rattle.sdt_fault.specs.declared.kinds.LineKind.TheVariants.{BadOperand, Constant}
 use Rattle.asm_areas.specs.Starts.{IsSmall, IsAligned}
 use Rattle.asm_checks.specs.Areas.{IsExponent}
 use Rattle.asm_checks.specs.Checked.{checked_kinds, IsCircular}
@@ -16,6 +16,7 @@ use Rattle.asm_model.specs.declared.names.LaidName.{LaidName}
 use Rattle.asm_model.specs.declared.statements.Statement.{Statement}
 use Rattle.asm_model.specs.declared.statements.What.{What}
 use Rattle.asm_model.specs.declared.statements.What.TheVariants as what
+use Rattle.asm_model.specs.Exprs.{has_large}
 use Rattle.asm_model.specs.FaultSets.{first_told}
 use Rattle.asm_model.specs.Kinds.{told_kind}
 use Rattle.asm_model.proofs.FaultLemmas.{told_by_parts}
@@ -73,8 +74,15 @@ exponent_small (Ok n) e = by_test (nat_lt n 2 || nat_lt 16 n) refl e
 area_part : (w : What) (settled : List (List ℕ)) (all : List Statement) (l : LaidLine) (before : List LaidLine) → l.statement.what ≡ w → told_kind (checked_kinds settled all l before) ≡ None
     → told_kind (area_kinds l.seen w before) ≡ None
 area_part w settled all l before is none =
-    let p = none_parts _ _ (none_parts _ _ (none_parts _ _ (none_parts _ _ none).0).0).0 in
-    subst (λ (v : What). told_kind (area_kinds l.seen v before) ≡ None) is (none_parts _ _ p.0).1
+    let here = no_area_kinds l.area (defined_by l.statement) l.statement.what ++ contents_kinds (contents_behind (l.statement ∷ statements_of before)) l.thumb l.statement.what in
+    let areas = area_kinds l.seen l.statement.what before in
+    let names = name_kinds l.statement (statements_of before) in
+    let last = settled_kinds settled (first_equal (defined_by l.statement) (statements_of before)) in
+    let state = state_kinds l.area l.thumb l.statement.what all in
+    let large = kind_if (has_large l.statement.what) Constant in
+    let most = none_parts (here ++ areas ++ names ++ last) state (none_parts (here ++ areas ++ names ++ last ++ state) large none).0 in
+    let part = none_parts (here ++ areas) names (none_parts (here ++ areas ++ names) last most.0).0 in
+    subst (λ (v : What). told_kind (area_kinds l.seen v before) ≡ None) is (none_parts here areas part.0).1
 
 directive_aligned : (d : DirectiveLine) (l : LaidLine) (before : List LaidLine) (settled : List (List ℕ)) (all : List Statement) (x : Result ℕ LineKind) → l.statement.what ≡ what.Directive d
     → IsExponent l.seen (what.Directive d) x → told_kind (checked_kinds settled all l before) ≡ None → IsAligned (what.Directive d) x l

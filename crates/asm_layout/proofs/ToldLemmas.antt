@@ -80,21 +80,21 @@ flat : (a h b c d f g : Option LineKind)
     → first_told a (first_told (first_told (first_told (first_told (first_told h b) c) d) f) g) ≡ first_told (first_told (first_told (first_told (first_told (first_told a h) b) c) d) f) g
 flat a h b c d f g = simp first_assoc
 
--- what laying finds, with what is found of its end, and then the others
-regrouped : (a h b c d f g t n r : Option LineKind)
-    → first_told (first_told (first_told (first_told (first_told (first_told (first_told (first_told (first_told a h) b) c) d) f) g) t) n) r
-    ≡ first_told (first_told a t) (first_told (first_told (first_told (first_told (first_told (first_told (first_told h b) c) d) f) g) n) r)
-regrouped a h b c d f g t n r =
+-- what laying finds of a line's end stands before what the checks find
+moved : (a h b c d f g t : Option LineKind)
+    → first_told (first_told (first_told (first_told (first_told (first_told (first_told a h) b) c) d) f) g) t
+    ≡ first_told (first_told (first_told (first_told (first_told (first_told (first_told a t) h) b) c) d) f) g
+moved a h b c d f g t =
     let x = first_told (first_told (first_told (first_told (first_told h b) c) d) f) g in
-    sym (first_assoc (first_told a t) (first_told x n) r ∙ ap (λ o. first_told o r) (first_assoc (first_told a t) x n)
-    ∙ ap (λ o. first_told (first_told o n) r) (third_moves a t x ∙ ap (λ o. first_told o t) (flat a h b c d f g)))
+    ap (λ o. first_told o t) (sym (flat a h b c d f g)) ∙ third_moves a x t ∙ flat (first_told a t) h b c d f g
 
 joined_kinds : (es ms hs bs cs ds fs gs ts ns rs : List LineKind)
     → told_kind ((es ++ ms ++ hs ++ bs ++ cs ++ ds ++ fs ++ gs ++ ts ++ ns) ++ rs)
     ≡ first_told (told_kind (es ++ ms ++ ts)) (first_told (told_kind (hs ++ bs ++ cs ++ ds ++ fs ++ gs ++ ns)) (told_kind rs))
 joined_kinds es ms hs bs cs ds fs gs ts ns rs =
-    simp told_by_parts
-    (regrouped (first_told (told_kind es) (told_kind ms)) (told_kind hs) (told_kind bs) (told_kind cs) (told_kind ds) (told_kind fs) (told_kind gs) (told_kind ts) (told_kind ns) (told_kind rs))
+    simp (told_by_parts, first_assoc)
+    (ap (λ o. first_told (first_told o (told_kind ns)) (told_kind rs))
+    (moved (first_told (told_kind es) (told_kind ms)) (told_kind hs) (told_kind bs) (told_kind cs) (told_kind ds) (told_kind fs) (told_kind gs) (told_kind ts)))
 
 pub told_parts : (names settled : List (List ℕ)) (all : List Statement) (l : LaidLine) (before : List LaidLine)
     → told_by names settled all l before ≡ first_told (told_of l) (first_told (told_kind (checked_kinds settled all l before)) (told_kind (register_kinds names l before)))
