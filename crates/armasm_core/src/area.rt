@@ -51,7 +51,8 @@ pub fn has_area(flats: &[Flat]) -> bool
 
 /// What is told of line 1 of a source, where this is told of the line of this number of a file.
 fn kind_beside(source: &Text, file: &Text, number: u32, kind: LineKind) -> LineKind
-    ensures { result ≡ (if same file.now source.now && number == 1 then kinds.earlier kind_of.NoArea kind else kind_of.NoArea) }
+    ensures { result ≡ (if same file.now source.now && number == 1
+        then kinds.earlier kind_of.NoArea kind else kind_of.NoArea) }
 {
     if file == source && number == 1 {
         return earlier(LineKind::NoArea, kind);
@@ -68,7 +69,8 @@ pub fn area_missing(alloc: Global, source: &Text) -> Fault
 
 /// The refusal of a source without an AREA that has this first fault of reading and layout, which is BadLine.
 pub fn area_missing_beside(alloc: Global, source: &Text, fault: Fault) -> Fault
-    ensures { (told : Option Told) → IsToldAs told fault → IsToldAs (Some (assembling.without_area source.now told)) result }
+    ensures { (told : Option Told) → IsToldAs told fault
+        → IsToldAs (Some (assembling.without_area source.now told)) result }
 {
     match fault {
         Fault::Refused(

@@ -69,7 +69,9 @@ pub fn assemble<S: Store>(
     store: &mut S,
 ) -> Result<Object, Fault>
     ensures assembled { assembling.Assembles (S.files store.old) source.now text.now result }
-    ensures cause { IfErr result (assembling.IsCaused (S.files store.old) (Rose (S.read_faults store.old) (S.read_faults store.new))) }
+    ensures cause { IfErr result
+        (assembling.IsCaused (S.files store.old)
+        (Rose (S.read_faults store.old) (S.read_faults store.new))) }
     ensures few { IfOk result (λ object. length object.symbols < 2 ^ 24) }
     ensures stands { IfOk result (StandsFrom (S.files store.old) source.now text.now) }
     ensures valid { IfOk result IsValid }

@@ -31,7 +31,9 @@ pub fn beside_of<'a>(
     line: &'a PlacedLine<'a>,
 ) -> Beside<'a>
     requires { IsLineOf laid.now line.now }
-    ensures { (statements : List Statement) (before rest : List LaidLine) (l : LaidLine) → IsHere statements areas.now whole.now registers.now before rest l laid.now → ShowsLine statements before rest l result laid.now.statement.what }
+    ensures { (statements : List Statement) (before rest : List LaidLine) (l : LaidLine)
+        → IsHere statements areas.now whole.now registers.now before rest l laid.now
+        → ShowsLine statements before rest l result laid.now.statement.what }
 {
     known_values_are_final();
     extents_are_placeable();
@@ -52,7 +54,10 @@ pub fn beside_of<'a>(
 
 /// The literal that a line loads.
 pub fn loaded_of<'a>(areas: &'a [LaidArea], laid: &LaidStatement) -> Option<&'a Value>
-    ensures { (statements : List Statement) (w : Shared) (known : List Named) (before rest : List LaidLine) (l : LaidLine) → IsHere statements areas.now w known before rest l laid.now → loads.literal_in (taken l.extent) ≡ option_copied result }
+    ensures { (statements : List Statement) (w : Shared) (known : List Named)
+        (before rest : List LaidLine) (l : LaidLine)
+        → IsHere statements areas.now w known before rest l laid.now
+        → loads.literal_in (taken l.extent) ≡ option_copied result }
 {
     extents_are_placeable();
     literals_are_placed();

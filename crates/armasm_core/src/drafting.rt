@@ -46,9 +46,11 @@ fn started(
     symbols: &Symbols,
 ) -> Result<Growing, NoMemory>
     requires few { length symbols.now < 2 ^ 24 }
-    requires stand { WordsCanStand whole.now symbols.now (drafting.kept_size laid.now.attributes laid.now.size) number laid.now.pools.placed }
+    requires stand { WordsCanStand whole.now symbols.now
+        (drafting.kept_size laid.now.attributes laid.now.size) number laid.now.pools.placed }
     ensures frame { IfOk result (λ g. frame g ≡ frame_of laid.now) }
-    ensures words { IfOk result (λ g. BeginsWith whole.now symbols.now number laid.now.pools.placed g.draft) }
+    ensures words { IfOk result
+        (λ g. BeginsWith whole.now symbols.now number laid.now.pools.placed g.draft) }
 {
     let name = laid.name.try_clone(alloc)?;
     let mut draft = Draft::new(alloc, kept_size(laid.attributes, laid.size))?;
@@ -92,9 +94,11 @@ fn grow(
 ) -> Result<(), NoMemory>
     requires few { length symbols.now < 2 ^ 24 }
     requires small { length growing.old.draft.bytes.items < 2 ^ 32 }
-    requires stand { AllCanStand symbols.now (length growing.old.draft.bytes.items) (pieces_put at units.now) }
+    requires stand { AllCanStand symbols.now (length growing.old.draft.bytes.items)
+        (pieces_put at units.now) }
     ensures frame { frame growing.new ≡ frame growing.old }
-    ensures more { OnOk result (TakesMore symbols.now (pieces_put at units.now) growing.old.draft growing.new.draft) }
+    ensures more { OnOk result
+        (TakesMore symbols.now (pieces_put at units.now) growing.old.draft growing.new.draft) }
 {
     growing.draft.put_all(at, units, symbols)
 }
@@ -107,9 +111,12 @@ pub fn put_line(
     symbols: &Symbols,
 ) -> Result<(), NoMemory>
     requires few { length symbols.now < 2 ^ 24 }
-    requires stand { LineCanStand symbols.now (frames growing.old.items) place.now.area (pieces_put place.now.offset units.now) }
+    requires stand { LineCanStand symbols.now (frames growing.old.items) place.now.area
+        (pieces_put place.now.offset units.now) }
     ensures frames { frames growing.new.items ≡ frames growing.old.items }
-    ensures more { OnOk result (AreasTake symbols.now place.now.area (pieces_put place.now.offset units.now) growing.old.items growing.new.items) }
+    ensures more { OnOk result
+        (AreasTake symbols.now place.now.area
+        (pieces_put place.now.offset units.now) growing.old.items growing.new.items) }
 {
     let Some(area) = place.area else {
         return Ok(());

@@ -44,9 +44,12 @@ impl Draft {
     pub fn put(&mut self, at: u32, unit: &Emitted, symbols: &Symbols) -> Result<(), NoMemory>
         requires few { length symbols.now < 2 ^ 24 }
         requires small { length self.old.bytes.items < 2 ^ 32 }
-        requires stands { CanStand symbols.now (length self.old.bytes.items) (at, emitted_of unit.now) }
+        requires stands { CanStand symbols.now (length self.old.bytes.items)
+            (at, emitted_of unit.now) }
         ensures size { length self.new.bytes.items ≡ length self.old.bytes.items }
-        ensures more { OnOk result ((pieces : Items Piece) → IsDraft symbols.now pieces self.old → MeetsNone pieces (at, emitted_of unit.now) → IsDraft symbols.now (pieces ++ (at, emitted_of unit.now) ∷ []) self.new) }
+        ensures more { OnOk result ((pieces : Items Piece) → IsDraft symbols.now pieces self.old
+            → MeetsNone pieces (at, emitted_of unit.now)
+            → IsDraft symbols.now (pieces ++ (at, emitted_of unit.now) ∷ []) self.new) }
     {
         let relocation = relocation(symbols, unit);
         put_unit(&mut self.bytes, at as usize, unit);
@@ -58,9 +61,11 @@ impl Draft {
     pub fn put_all(&mut self, at: u32, units: &[Emitted], symbols: &Symbols) -> Result<(), NoMemory>
         requires few { length symbols.now < 2 ^ 24 }
         requires small { length self.old.bytes.items < 2 ^ 32 }
-        requires stand { AllCanStand symbols.now (length self.old.bytes.items) (units_from at (map emitted_of units.now)) }
+        requires stand { AllCanStand symbols.now (length self.old.bytes.items)
+            (units_from at (map emitted_of units.now)) }
         ensures size { length self.new.bytes.items ≡ length self.old.bytes.items }
-        ensures more { OnOk result (TakesMore symbols.now (units_from at (map emitted_of units.now)) self.old self.new) }
+        ensures more { OnOk result
+            (TakesMore symbols.now (units_from at (map emitted_of units.now)) self.old self.new) }
     {
         let mut next = at;
         let mut left = units;
@@ -79,8 +84,10 @@ impl Draft {
     /// The bytes as they are, and the relocations in order of offset.
     pub fn finish(self, alloc: Global) -> Result<Finished, NoMemory>
         ensures bytes { IfOk result (λ area. area.bytes ≡ self.bytes.items) }
-        ensures held { IfOk result (λ area. (names : Items (Items ℕ)) (pieces : Items Piece) → IsDraft names pieces self → HoldsPieces pieces area.bytes) }
-        ensures relocs { IfOk result (λ area. (names : Items (Items ℕ)) (pieces : Items Piece) → IsDraft names pieces self → AreRelocs names pieces area.relocs) }
+        ensures held { IfOk result (λ area. (names : Items (Items ℕ)) (pieces : Items Piece)
+            → IsDraft names pieces self → HoldsPieces pieces area.bytes) }
+        ensures relocs { IfOk result (λ area. (names : Items (Items ℕ)) (pieces : Items Piece)
+            → IsDraft names pieces self → AreRelocs names pieces area.relocs) }
     {
         let relocs = listed(alloc, &self.relocs)?;
         let Draft { bytes, relocs: _ } = self;

@@ -48,7 +48,8 @@ fn grown(
     requires source { HasSymbols layout.now whole.now symbols.now }
     requires few { length symbols.now < 2 ^ 24 }
     ensures frames { IfOk result (λ gs. frames gs.items ≡ map frame_of layout.now.areas) }
-    ensures grown { (statements : Items Statement) → IsEmittable statements layout.now whole.now → AreGrown statements symbols.now result }
+    ensures grown { (statements : Items Statement) → IsEmittable statements layout.now whole.now
+        → AreGrown statements symbols.now result }
 {
     sources_stand_apart();
     let areas = layout.areas.as_slice();
@@ -76,7 +77,11 @@ fn few_records(
     symbols: &Symbols,
 ) -> Result<List<Symbol>, NoMemory>
     ensures few { IfOk result (λ records. length records < 2 ^ 24) }
-    ensures records { IfOk result (λ records. (statements : Items Statement) → IsLayout statements layout.now → layout_faults statements ≡ None → IsWhole statements layout.now.areas whole.now → symbols.now ≡ needs.symbols_of (final_names (laid statements)) (laid statements) → records ≡ symbol_records (source_of statements)) }
+    ensures records { IfOk result (λ records. (statements : Items Statement)
+        → IsLayout statements layout.now → layout_faults statements ≡ None
+        → IsWhole statements layout.now.areas whole.now → symbols.now
+        ≡ needs.symbols_of (final_names (laid statements)) (laid statements) → records
+        ≡ symbol_records (source_of statements)) }
 {
     let code = code_of(alloc, layout)?;
     let records = records_of(alloc, symbols, whole, code.as_slice())?;
@@ -90,7 +95,9 @@ fn few_records(
 fn object_of(alloc: Global, layout: &Layout) -> Result<Object, Fault>
     requires said { AllLaidSaid layout.now.statements }
     requires source { HasSource layout.now }
-    ensures emitted { (statements : Items Statement) → IsLayout statements layout.now → AllSaid statements → layout_faults statements ≡ None → AreOfState statements → IsEmitted statements result }
+    ensures emitted { (statements : Items Statement) → IsLayout statements layout.now
+        → AllSaid statements → layout_faults statements ≡ None → AreOfState statements
+        → IsEmitted statements result }
     ensures few { IfOk result (λ o. length o.symbols < 2 ^ 24) }
 {
     let whole = whole_of(alloc, layout)?;
@@ -110,9 +117,14 @@ fn object_of(alloc: Global, layout: &Layout) -> Result<Object, Fault>
 /// statements stand.
 pub fn emit(alloc: Global, layout: &Layout) -> Result<Object, Fault>
     requires source { HasSource layout.now }
-    ensures emitted { (statements : Items Statement) → IsLayout statements layout.now → AllSaid statements → layout_faults statements ≡ None → AreOfState statements → IsEmitted statements result }
+    ensures emitted { (statements : Items Statement) → IsLayout statements layout.now
+        → AllSaid statements → layout_faults statements ≡ None → AreOfState statements
+        → IsEmitted statements result }
     ensures few { IfOk result (λ o. length o.symbols < 2 ^ 24) }
-    ensures stands { IfOk result (λ o. (statements : Items Statement) → IsLayout statements layout.now → AllSaid statements → AllNamed statements → AllLoadsNamed statements → layout_faults statements ≡ None → AreOfState statements → StandsWherever statements o) }
+    ensures stands { IfOk result (λ o. (statements : Items Statement)
+        → IsLayout statements layout.now → AllSaid statements → AllNamed statements
+        → AllLoadsNamed statements → layout_faults statements ≡ None → AreOfState statements
+        → StandsWherever statements o) }
 {
     objects_stand();
     object_of(alloc, layout)

@@ -55,7 +55,8 @@ fn first_entry(laid: &[LaidStatement]) -> Option<Entry>
 
 /// The place where execution begins: that of the first ENTRY in an area.
 pub fn entry_of(layout: &Layout) -> Option<Entry>
-    ensures { (statements : List Statement) → IsLayout statements layout.now → result ≡ objects.entry_of (laid statements) }
+    ensures { (statements : List Statement) → IsLayout statements layout.now → result
+        ≡ objects.entry_of (laid statements) }
 {
     first_entry(layout.statements.as_slice())
 }

@@ -25,7 +25,8 @@ fn is_code(attributes: u32) -> bool
 
 /// Of each area whether it holds code.
 fn codes_of(alloc: Global, areas: &[LaidArea]) -> Result<Vec<bool>, NoMemory>
-    ensures { IfOk result (λ code. code.items ≡ map (λ area. marks_code area.attributes) areas.now) }
+    ensures { IfOk result (λ code. code.items
+        ≡ map (λ area. marks_code area.attributes) areas.now) }
 {
     let mut code = Vec::new(alloc);
     'areas: for area in areas {
@@ -36,7 +37,8 @@ fn codes_of(alloc: Global, areas: &[LaidArea]) -> Result<Vec<bool>, NoMemory>
 
 /// Of each area of a layout whether it holds code.
 pub fn code_of(alloc: Global, layout: &Layout) -> Result<Vec<bool>, NoMemory>
-    ensures { IfOk result (λ code. (statements : List Statement) → IsLayout statements layout.now → layout_faults statements ≡ None → IsCode statements code.items) }
+    ensures { IfOk result (λ code. (statements : List Statement) → IsLayout statements layout.now
+        → layout_faults statements ≡ None → IsCode statements code.items) }
 {
     let code = codes_of(alloc, layout.areas.as_slice())?;
     Ok(code)
@@ -44,7 +46,9 @@ pub fn code_of(alloc: Global, layout: &Layout) -> Result<Vec<bool>, NoMemory>
 
 /// What the records of symbols say of a layout whose lines share this.
 pub fn facts_of<'a>(whole: &'a Whole<'a>, code: &'a [bool]) -> Facts<'a>
-    ensures { (statements : List Statement) (areas : List Area) → IsWhole statements areas whole.now → IsCode statements code.now → Shows result (source_of statements) }
+    ensures { (statements : List Statement) (areas : List Area)
+        → IsWhole statements areas whole.now → IsCode statements code.now
+        → Shows result (source_of statements) }
 {
     Facts {
         names: whole.names,

@@ -32,9 +32,11 @@ fn put_word(
 ) -> Result<(), NoMemory>
     requires few { length symbols.now < 2 ^ 24 }
     requires small { length draft.old.bytes.items < 2 ^ 32 }
-    requires stand { WordsCanStand whole.now symbols.now (length draft.old.bytes.items) area ((literal.now, at) ∷ []) }
+    requires stand { WordsCanStand whole.now symbols.now (length draft.old.bytes.items) area
+        ((literal.now, at) ∷ []) }
     ensures size { length draft.new.bytes.items ≡ length draft.old.bytes.items }
-    ensures more { OnOk result (TakesWords whole.now symbols.now area ((literal.now, at) ∷ []) draft.old draft.new) }
+    ensures more { OnOk result
+        (TakesWords whole.now symbols.now area ((literal.now, at) ∷ []) draft.old draft.new) }
 {
     let stored = literal_stored(alloc, whole.names, &whole.sets.data, Some(area), literal)?;
     match stored {
@@ -55,9 +57,12 @@ pub fn put_words(
 ) -> Result<(), NoMemory>
     requires few { length symbols.now < 2 ^ 24 }
     requires small { length draft.old.bytes.items < 2 ^ 32 }
-    requires stand { WordsCanStand whole.now symbols.now (length draft.old.bytes.items) area (entries literals.now offsets.now) }
+    requires stand { WordsCanStand whole.now symbols.now (length draft.old.bytes.items) area
+        (entries literals.now offsets.now) }
     ensures size { length draft.new.bytes.items ≡ length draft.old.bytes.items }
-    ensures more { OnOk result (TakesWords whole.now symbols.now area (entries literals.now offsets.now) draft.old draft.new) }
+    ensures more { OnOk result
+        (TakesWords whole.now symbols.now area
+        (entries literals.now offsets.now) draft.old draft.new) }
 {
     let mut left = literals;
     let mut places = offsets;

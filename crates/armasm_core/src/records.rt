@@ -18,7 +18,8 @@ use sdt_fault::{List, NoMemory, Text};
 use std::alloc::Global;
 
 fn records_with(alloc: Global, names: &[Text], facts: &Facts<'_>) -> Result<Vec<Symbol>, NoMemory>
-    ensures { IfOk result (λ records. (s : Source) → Shows facts.now s → records.items ≡ map (symbol_named s) names.now) }
+    ensures { IfOk result (λ records. (s : Source) → Shows facts.now s → records.items
+        ≡ map (symbol_named s) names.now) }
 {
     let mut records = Vec::new(alloc);
     'names: for name in names {
@@ -34,7 +35,10 @@ pub fn records_of(
     whole: &Whole<'_>,
     code: &[bool],
 ) -> Result<List<Symbol>, NoMemory>
-    ensures { IfOk result (λ records. (statements : Items Statement) (areas : Items LaidArea) → IsWhole statements areas whole.now → IsCode statements code.now → symbols.now ≡ symbols_of (final_names (laid statements)) (laid statements) → records ≡ symbol_records (source_of statements)) }
+    ensures { IfOk result (λ records. (statements : Items Statement) (areas : Items LaidArea)
+        → IsWhole statements areas whole.now → IsCode statements code.now → symbols.now
+        ≡ symbols_of (final_names (laid statements)) (laid statements) → records
+        ≡ symbol_records (source_of statements)) }
 {
     let facts = facts_of(whole, code);
     let records = records_with(alloc, symbols.list(), &facts)?;

@@ -19,7 +19,8 @@ pub fn give(
     statement: &Statement,
     number: Result<u32, LineKind>,
 ) -> Result<(), NoMemory>
-    ensures { OnOk result ((q : List ℕ) → registers.register_in q known.new ≡ registers.register_in q (known.old ++ gives number (labels.defined_by statement.now))) }
+    ensures { OnOk result ((q : List ℕ) → registers.register_in q known.new
+        ≡ registers.register_in q (known.old ++ gives number (labels.defined_by statement.now))) }
 {
     match (&statement.label, &statement.what) {
         (Some(name), What::Directive(DirectiveLine::Rn { register })) => {

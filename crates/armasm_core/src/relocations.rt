@@ -99,7 +99,8 @@ pub fn note(
     at: u32,
     relocation: Option<u32>,
 ) -> Result<(), NoMemory>
-    ensures { OnOk result ((q : ℕ) → get nat_cmp relocs.new q ≡ noted (get nat_cmp relocs.old q) at relocation q) }
+    ensures { OnOk result ((q : ℕ) → get nat_cmp relocs.new q
+        ≡ noted (get nat_cmp relocs.old q) at relocation q) }
 {
     if let Some(word) = relocation {
         relocs.insert(at, word)?;

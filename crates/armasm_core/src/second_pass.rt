@@ -31,7 +31,9 @@ pub fn pass_line(
     laid: &LaidStatement,
 ) -> Result<LineUnits, Fault>
     requires { IsSaid laid.now.statement }
-    ensures { (statements : List Statement) (before rest : List LaidLine) (l : LaidLine) → IsHere statements areas.now whole.now registers.now before rest l laid.now → IsPassed statements before rest l result }
+    ensures { (statements : List Statement) (before rest : List LaidLine) (l : LaidLine)
+        → IsHere statements areas.now whole.now registers.now before rest l laid.now
+        → IsPassed statements before rest l result }
 {
     instructions_fit();
     pseudo_instructions_fit();

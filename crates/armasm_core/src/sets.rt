@@ -39,7 +39,8 @@ fn add_name<'a>(set: &mut NameRefs<'a>, name: Option<&'a Text>) -> Result<(), No
 
 /// The label of a statement that makes it data.
 fn datum_of(statement: &Statement) -> Option<&Text>
-    ensures { listed (option_copied result) ≡ marks.datum_in statement.now.label statement.now.what }
+    ensures { listed (option_copied result)
+        ≡ marks.datum_in statement.now.label statement.now.what }
 {
     match (&statement.label, &statement.what) {
         (Some(name), What::Directive(DirectiveLine::Data)) => Some(name),

@@ -33,7 +33,10 @@ fn add_line_of(
     laid: &LaidStatement,
 ) -> Result<(), NoMemory>
     requires { IsSaid laid.now.statement }
-    ensures { OnOk result ((statements : List Statement) (before rest : List LaidLine) (l : LaidLine) → StandsThere statements areas.now whole.now before rest l laid.now → symbols.new ≡ needs.listed_behind symbols.old (needed_by statements l)) }
+    ensures { OnOk result
+        ((statements : List Statement) (before rest : List LaidLine) (l : LaidLine)
+        → StandsThere statements areas.now whole.now before rest l laid.now → symbols.new
+        ≡ needs.listed_behind symbols.old (needed_by statements l)) }
 {
     pool_law();
     let line = line_of(laid);
@@ -50,7 +53,10 @@ fn add_line_of(
 /// The symbols of a layout whose lines share this, in order of the first line that names or needs them.
 pub fn symbols_of(alloc: Global, layout: &Layout, whole: &Whole<'_>) -> Result<Symbols, NoMemory>
     requires said { AllLaidSaid layout.now.statements }
-    ensures { IfOk result (λ symbols. (statements : List Statement) → IsLayout statements layout.now → AllSaid statements → layout_faults statements ≡ None → IsWhole statements layout.now.areas whole.now → symbols ≡ needs.symbols_of (model.final_names (model.laid statements)) (model.laid statements)) }
+    ensures { IfOk result (λ symbols. (statements : List Statement)
+        → IsLayout statements layout.now → AllSaid statements → layout_faults statements ≡ None
+        → IsWhole statements layout.now.areas whole.now → symbols
+        ≡ needs.symbols_of (model.final_names (model.laid statements)) (model.laid statements)) }
 {
     let areas = layout.areas.as_slice();
     let registers = NameMap::new(alloc);

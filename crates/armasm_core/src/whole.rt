@@ -33,7 +33,8 @@ fn sizes_of(alloc: Global, areas: &[LaidArea]) -> Result<Vec<u32>, NoMemory>
 
 /// What the lines of a layout share.
 pub fn whole_of(alloc: Global, layout: &Layout) -> Result<Whole<'_>, NoMemory>
-    ensures { IfOk result (λ whole. (statements : List Statement) → IsLayout statements layout.now → IsWhole statements layout.now.areas whole) }
+    ensures { IfOk result (λ whole. (statements : List Statement) → IsLayout statements layout.now
+        → IsWhole statements layout.now.areas whole) }
 {
     let sets = sets_of(alloc, layout.statements.as_slice())?;
     let sizes = sizes_of(alloc, layout.areas.as_slice())?;

@@ -23,7 +23,8 @@ pub fn line_of(laid: &LaidStatement) -> PlacedLine<'_>
 
 /// The lines of a source.
 pub fn lines_of(alloc: Global, laid: &[LaidStatement]) -> Result<Vec<PlacedLine<'_>>, NoMemory>
-    ensures { IfOk result (λ lines. (all : List LaidLine) → AreStatements all laid.now → AreEach all lines.items) }
+    ensures { IfOk result (λ lines. (all : List LaidLine) → AreStatements all laid.now
+        → AreEach all lines.items) }
 {
     let mut lines = Vec::new(alloc);
     'laid: for statement in laid {

@@ -45,7 +45,8 @@ fn push_first<'a>(
     name: &'a Text,
     value: &'a Expr,
 ) -> Result<(), NoMemory>
-    ensures { OnOk result (pairs_of equals.new.items ≡ pairs_of equals.old.items ++ pair_if first name.now value.now) }
+    ensures { OnOk result (pairs_of equals.new.items
+        ≡ pairs_of equals.old.items ++ pair_if first name.now value.now) }
 {
     if first {
         equals.push(Equal { name, value })?;

@@ -54,7 +54,8 @@ struct Judged {
 /// Whether a statement is the first that defines a name for an expression which depends on itself.
 fn take_mark(equals: &mut usize, circular: &[bool], statement: &Statement) -> bool
     ensures mark { walking.IsMark circular.now equals.old (labels.defined_by statement.now) result }
-    ensures count { walking.IsCounted circular.now equals.old (labels.defined_by statement.now) equals.new }
+    ensures count { walking.IsCounted circular.now equals.old
+        (labels.defined_by statement.now) equals.new }
 {
     match defined_by(statement) {
         Defines::Equal(_, _) => next_mark(equals, circular),

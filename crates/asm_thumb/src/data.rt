@@ -112,7 +112,9 @@ fn pair(
     rd: &[Token],
     operand: &[Token],
 ) -> Said
-    ensures { IfOk result (λ said. forms.ReadsPair text.now operation rd.now operand.now (arm_operands.without_first text.now arm.hash operand.now) said) }
+    ensures { IfOk result
+        (λ said. forms.ReadsPair text.now operation rd.now operand.now
+        (arm_operands.without_first text.now arm.hash operand.now) said) }
 {
     if let Some(number) = without_first(text, b"#", operand) {
         let frame = immediate_frame(operation, register(alloc, text, rd)?);
@@ -162,7 +164,9 @@ fn sum(
     rs: &[Token],
     operand: &[Token],
 ) -> Said
-    ensures { IfOk result (λ said. forms.ReadsSum text.now (Some subtract) rd.now rs.now operand.now (arm_operands.without_first text.now arm.hash operand.now) said) }
+    ensures { IfOk result
+        (λ said. forms.ReadsSum text.now (Some subtract) rd.now rs.now operand.now
+        (arm_operands.without_first text.now arm.hash operand.now) said) }
 {
     if let Some(number) = without_first(text, b"#", operand) {
         let frame = sum_of_read(subtract, two_registers(alloc, text, rd, rs)?);
@@ -181,7 +185,8 @@ fn sum(
 
 /// MOV, CMP, ADD and SUB.
 pub fn immediates(alloc: Global, text: &[u8], operation: ImmediateOperation, cut: Cut<'_>) -> Said
-    ensures { IfOk result (λ said. forms.ReadsImmediate text.now operation (cut_of cut.entry) said) }
+    ensures { IfOk result
+        (λ said. forms.ReadsImmediate text.now operation (cut_of cut.entry) said) }
 {
     match cut {
         Cut::Two(rd, operand) => pair(alloc, text, operation, rd, operand),

@@ -30,7 +30,8 @@ fn read_operation(
     operation: Token,
     tokens: &[Token],
 ) -> Result<Labelled, NoMemory>
-    ensures { IfOk result (λ read. IsOperationRead says.ReadsThumb text.now label operation tokens.now read) }
+    ensures { IfOk result
+        (λ read. IsOperationRead says.ReadsThumb text.now label operation tokens.now read) }
 {
     let label = label_field(alloc, LabelNeed::Optional, text, label)?;
     let word = operation_named(piece_of(text, operation));
@@ -46,7 +47,8 @@ fn with_operation(
     operation: Token,
     tokens: &[Token],
 ) -> Result<Said, NoMemory>
-    ensures { IfOk result (λ said. lines.SaysOperation says.ReadsThumb line.now label operation tokens.now said) }
+    ensures { IfOk result
+        (λ said. lines.SaysOperation says.ReadsThumb line.now label operation tokens.now said) }
 {
     let read = read_operation(alloc, line.text.as_slice(), label, operation, tokens)?;
     statement(alloc, line, read)
@@ -54,7 +56,8 @@ fn with_operation(
 
 /// What a line without a directive says.
 fn words(alloc: Global, line: &Flat, sentence: Sentence<'_>) -> Result<Said, NoMemory>
-    ensures { IfOk result (λ said. lines.SaysInstruction says.ReadsThumb line.now (sentence_of sentence.entry) said) }
+    ensures { IfOk result
+        (λ said. lines.SaysInstruction says.ReadsThumb line.now (sentence_of sentence.entry) said) }
 {
     match sentence.operation {
         Some(operation) => {

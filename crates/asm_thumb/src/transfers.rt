@@ -81,7 +81,8 @@ fn based(
     rd: &[Token],
     rn: &[Token],
 ) -> Result<Result<Frame, LineKind>, NoMemory>
-    ensures { IfOk result (λ frame. frame ≡ transfers.based text.now word.load word.width rd.now rn.now) }
+    ensures { IfOk result (λ frame. frame
+        ≡ transfers.based text.now word.load word.width rd.now rn.now) }
 {
     match two_registers(alloc, text, rd, rn)? {
         Ok((rd, rn)) => Ok(Ok(number_frame(word, rd, rn))),
@@ -137,7 +138,9 @@ fn any_offset(
     rn: &[Token],
     offset: &[Token],
 ) -> Said
-    ensures { IfOk result (λ said. transfers.ReadsOffset text.now word.load word.width rd.now rn.now offset.now (arm_operands.without_first text.now arm.hash offset.now) said) }
+    ensures { IfOk result
+        (λ said. transfers.ReadsOffset text.now word.load word.width rd.now rn.now offset.now
+        (arm_operands.without_first text.now arm.hash offset.now) said) }
 {
     if let Some(number) = without_first(text, b"#", offset) {
         let frame = based(alloc, text, word, rd, rn)?;
@@ -161,7 +164,9 @@ fn bracketed<'a>(text: &[u8], tokens: &'a [Token]) -> Option<Cut<'a>>
 
 /// A transfer with an address in brackets.
 fn in_brackets(alloc: Global, text: &[u8], word: Transfer, rd: &[Token], tokens: &[Token]) -> Said
-    ensures { IfOk result (λ said. transfers.ReadsBracketed text.now word.load word.width rd.now (transfers.bracketed text.now tokens.now) said) }
+    ensures { IfOk result
+        (λ said. transfers.ReadsBracketed text.now word.load word.width rd.now
+        (transfers.bracketed text.now tokens.now) said) }
 {
     match bracketed(text, tokens) {
         Some(Cut::One(rn)) => with_zero(alloc, based(alloc, text, word, rd, rn)?),
@@ -192,7 +197,10 @@ fn label_frame(rd: Result<Register, LineKind>) -> Result<Frame, LineKind>
 
 /// A transfer whose second operand isn't in brackets.
 fn loaded(alloc: Global, text: &[u8], word: Transfer, rd: &[Token], tokens: &[Token]) -> Said
-    ensures { IfOk result (λ said. transfers.ReadsLoaded text.now (word.load && transfers.is_word word.width) rd.now tokens.now (arm_operands.without_first text.now arm.equals tokens.now) said) }
+    ensures { IfOk result
+        (λ said. transfers.ReadsLoaded text.now
+        (word.load && transfers.is_word word.width) rd.now tokens.now
+        (arm_operands.without_first text.now arm.equals tokens.now) said) }
 {
     if !word.load {
         return Ok(Err(LineKind::Syntax));
@@ -209,7 +217,8 @@ fn loaded(alloc: Global, text: &[u8], word: Transfer, rd: &[Token], tokens: &[To
 
 /// LDR and STR, with B and H.
 pub fn transferred(alloc: Global, text: &[u8], word: Transfer, cut: Cut<'_>) -> Said
-    ensures { IfOk result (λ said. transfers.ReadsTransfer text.now word.load word.width (cut_of cut.entry) said) }
+    ensures { IfOk result
+        (λ said. transfers.ReadsTransfer text.now word.load word.width (cut_of cut.entry) said) }
 {
     match cut {
         Cut::Two(rd, address) => match without_first(text, b"[", address) {
@@ -228,7 +237,8 @@ fn signed_inside(
     rd: &[Token],
     address: Option<Cut<'_>>,
 ) -> Said
-    ensures { IfOk result (λ said. said ≡ transfers.signed_inside text.now kind rd.now (cuts_in address.entry)) }
+    ensures { IfOk result (λ said. said
+        ≡ transfers.signed_inside text.now kind rd.now (cuts_in address.entry)) }
 {
     match address {
         Some(Cut::Two(rn, ro)) => match three_registers(alloc, text, rd, rn, ro)? {
@@ -246,7 +256,8 @@ fn signed_inside(
 
 /// LDRSB and LDRSH.
 pub fn signed_transfer(alloc: Global, text: &[u8], kind: SignedTransfer, cut: Cut<'_>) -> Said
-    ensures { IfOk result (λ said. said ≡ transfers.signed_transfer text.now kind (cut_of cut.entry)) }
+    ensures { IfOk result (λ said. said
+        ≡ transfers.signed_transfer text.now kind (cut_of cut.entry)) }
 {
     match cut {
         Cut::Two(rd, address) => signed_inside(alloc, text, kind, rd, bracketed(text, address)),
