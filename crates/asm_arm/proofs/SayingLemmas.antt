@@ -1,9 +1,10 @@
 -- What a line says, for both states.
-use Rattle.std.proofs.Common.{◌≡◌, ℕ, List, refl, sym, ◌∙◌, ap, subst, Option, Some, None}
+use Rattle.std.proofs.Common.{◌≡◌, ℕ, Bool, true, List, refl, sym, ◌∙◌, ap, subst, Option, Some, None}
 use Rattle.std.specs.Prelude.{Result, Ok, Err, IfOk}
 use Rattle.sdt_fault.specs.declared.answer.Fault.{Fault}
 use Rattle.sdt_fault.specs.declared.answer.Fault.TheVariants.{Refused, ReadFault, NoMemory}
 use Rattle.sdt_fault.specs.declared.kinds.LineKind.{LineKind}
+use Rattle.sdt_fault.specs.declared.kinds.LineKind.TheVariants.{TooMany}
 use Rattle.asm_model.specs.declared.lines.Flat.{Flat}
 use Rattle.asm_model.specs.declared.tokens.Token.{Token}
 use Rattle.asm_model.specs.declared.statements.Statement.{Statement}
@@ -82,3 +83,12 @@ pub one_line : (Operation : List ℕ → Token → List Token → Result What Li
     → SaysLine Operation flat a → SaysLine Operation flat b → a ≡ b
 one_line Operation law directive flat a b p q =
     one_all Operation law directive flat p.0 a b p.2 (subst (λ o. SaysAll Operation flat o b) (sym (one_scan flat.text p.0 q.0 p.1 q.1)) q.2)
+
+-- a name beyond the limit
+pub limit_ok : (long flag : Bool) (said r : Said) (s : Option Statement) → flag ≡ long → flag ≡ true → said ≡ Ok s → r ≡ Err TooMany
+    → r ≡ within_limit long said
+limit_ok long flag said r s e h i j = j ∙ ap (λ b. within_limit b (Ok s)) (sym h ∙ e) ∙ ap (within_limit long) (sym i)
+
+pub limit_err : (long flag : Bool) (said r : Said) (k : LineKind) → flag ≡ long → flag ≡ true → said ≡ Err k → r ≡ Err k
+    → r ≡ within_limit long said
+limit_err long flag said r k e h i j = j ∙ ap (λ b. within_limit b (Err k)) (sym h ∙ e) ∙ ap (within_limit long) (sym i)
