@@ -1,6 +1,7 @@
 -- What a line says, for both states.
 use Rattle.std.proofs.Common.{◌≡◌, ℕ, Bool, true, List, refl, sym, ◌∙◌, ap, subst, Option, Some, None}
 use Rattle.std.specs.Prelude.{Result, Ok, Err, IfOk}
+use Rattle.std.specs.List.{list_any}
 use Rattle.sdt_fault.specs.declared.answer.Fault.{Fault}
 use Rattle.sdt_fault.specs.declared.answer.Fault.TheVariants.{Refused, ReadFault, NoMemory}
 use Rattle.sdt_fault.specs.declared.kinds.LineKind.{LineKind}
@@ -11,7 +12,7 @@ use Rattle.asm_model.specs.declared.statements.Statement.{Statement}
 use Rattle.asm_model.specs.declared.statements.What.{What}
 use Rattle.asm_model.specs.declared.directives.LabelNeed.TheVariants as need
 use Rattle.asm_model.specs.Says.{on_both, mapped, label_field, sentence, OneDirective}
-use Rattle.asm_model.specs.Tokens.{first_due}
+use Rattle.asm_model.specs.Tokens.{first_due, is_long, Tokens}
 use Rattle.asm_model.specs.Told.{Told, ToldFault}
 use Rattle.asm_arm.specs.Says.{Said, statement, within_limit, AreTokens, SaysOperation, SaysWords, SaysOr, SaysTokens, SaysAll, SaysLine}
 use Rattle.asm_arm.specs.Steps.{IsOperationRead}
@@ -92,3 +93,14 @@ limit_ok long flag said r s e h i j = j ∙ ap (λ b. within_limit b (Ok s)) (sy
 pub limit_err : (long flag : Bool) (said r : Said) (k : LineKind) → flag ≡ long → flag ≡ true → said ≡ Err k → r ≡ Err k
     → r ≡ within_limit long said
 limit_err long flag said r k e h i j = j ∙ ap (λ b. within_limit b (Err k)) (sym h ∙ e) ∙ ap (within_limit long) (sym i)
+
+-- ---- a line
+
+pub line_said : (Operation : List ℕ → Token → List Token → Result What LineKind → Type 0) (flat : Flat) (text : List ℕ) (ts us vs : List Token) (s r : Said)
+    → text ≡ flat.text → Tokens text ts → us ≡ ts → vs ≡ ts → SaysTokens Operation flat us s → r ≡ within_limit (list_any is_long vs) s
+    → SaysLine Operation flat r
+line_said Operation flat text ts us vs s r e t u v h k = (
+  Some ts,
+  subst (λ x. Tokens x ts) e t,
+  (s, subst (λ x. SaysTokens Operation flat x s) u h, k ∙ ap (λ x. within_limit (list_any is_long x) s) v),
+)
