@@ -14,13 +14,13 @@ use Rattle.asm_model.specs.declared.statements.Statement.{Statement}
 use Rattle.asm_model.specs.declared.statements.What.{What}
 use Rattle.asm_model.specs.declared.statements.What.TheVariants as what
 use Rattle.asm_model.specs.Directives.{or_else}
-use Rattle.asm_model.specs.Kinds.{told_kind}
+use Rattle.asm_model.specs.Kinds.{told_kind, kind_if}
 use Rattle.asm_layout.specs.declared.laid.LaidArea.{LaidArea}
 use Rattle.asm_model.specs.Before.{areas_behind, is_code}
 use Rattle.asm_model.specs.declared.names.LaidName.{LaidName}
 use Rattle.asm_model.specs.Labels.{declared_names}
 use Rattle.asm_model.specs.Laid.{LaidLine, laid, laid_of, laid_behind, statements_of}
-use Rattle.asm_model.specs.LayoutKinds.{exponent, exponent_kinds, area_kinds, is_named_otherwise, layout_kinds, first_fault, told_at, settled, equals_in, kind_if, is_thumb_area}
+use Rattle.asm_model.specs.LayoutKinds.{exponent, exponent_kinds, area_kinds, is_named_otherwise, layout_kinds, first_fault, told_at, settled, equals_in, is_thumb_area}
 use Rattle.asm_model.specs.Offsets.{is_of}
 use Rattle.source_model.specs.Objects.{attributes_word, contents_bits, or_two, says_area, attributes_of, contents_in, contents_of, holds_code, is_kept}
 use Rattle.source_model.specs.SourceFaults.{layout_faults}

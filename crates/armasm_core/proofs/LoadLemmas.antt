@@ -22,8 +22,9 @@ use Rattle.asm_names.specs.declared.lines.PlacedLine.{PlacedLine}
 use Rattle.asm_names.specs.Lines.{Sees}
 use Rattle.asm_layout.specs.Layout.{AreAreas}
 use Rattle.asm_layout.specs.Lines.{IsLineOf}
+use Rattle.asm_model.specs.Kinds.{kind_if}
 use Rattle.asm_model.specs.Laid.{LaidLine, laid, map_behind, taken, pieces_of, reversed, statements_of}
-use Rattle.asm_model.specs.LayoutKinds.{layout_kinds, fault_kinds, map_kinds, no_area_kinds, contents_kinds, contents_behind, area_kinds, name_kinds, first_equal, settled_kinds, state_kinds, kind_if, area_bytes, settled, equals_in}
+use Rattle.asm_model.specs.LayoutKinds.{layout_kinds, fault_kinds, map_kinds, no_area_kinds, contents_kinds, contents_behind, area_kinds, name_kinds, first_equal, settled_kinds, state_kinds, area_bytes, settled, equals_in}
 use Rattle.asm_model.specs.OffsetLaws.{joined}
 use Rattle.asm_model.specs.Offsets.{Piece, start_in}
 use Rattle.armasm_core.specs.Loaded as own
@@ -53,7 +54,7 @@ has_area fixed all l before e =
     third_empty (fault_kinds l.extent) (map_kinds l.seen l.statement.what) (no_area_kinds l.area (defined_by l.statement) l.statement.what)
     (contents_kinds (contents_behind (l.statement ∷ statements_of before)) l.thumb l.statement.what) (area_kinds l.seen l.statement.what before)
     (name_kinds l.statement (statements_of before)) (settled_kinds fixed (first_equal (defined_by l.statement) (statements_of before))) (state_kinds l.area l.thumb l.statement.what all)
-    (kind_if (nat_lt area_bytes (l.offset + l.size)) TooMany) (kind_if (has_large l.statement.what) Constant) e
+    (kind_if (nat_lt area_bytes (l.offset + l.size)) TooMany) (own_kinds l.statement) e
 
 pub extent_is : (d : List LaidName) (l : LaidLine) (before : List LaidLine) → IsBehind d l before → l.extent ≡ extent_of l.seen l.statement.what
 extent_is d l before b = subst (λ (k : LaidLine). k.extent ≡ extent_of k.seen k.statement.what) (sym b.line) refl

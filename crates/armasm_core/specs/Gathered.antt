@@ -9,6 +9,7 @@ use Rattle.asm_model.specs.Forms.{same}
 use Rattle.asm_layout.specs.declared.laid.LaidStatement.{LaidStatement}
 use Rattle.asm_sets.specs.Sets.{HaveSame}
 use Rattle.asm_model.specs.Laid.{reversed}
+use Rattle.asm_model.specs.LayoutKinds.{is_true}
 use Rattle.asm_model.specs.Marks.{datum_in, datum_names}
 use Rattle.said_model.specs.Said.{IsSaid}
 use Rattle.source_model.specs.Objects.{exports_name, is_weak_import}
@@ -35,8 +36,8 @@ name_where true n = n ∷ []
 name_where false n = []
 
 abbrev pub weak_in : What → List (List ℕ)
-weak_in (what.Directive (line.Import n weak)) = name_where weak n
-weak_in (what.Directive (line.Extern n weak)) = name_where weak n
+weak_in (what.Directive (line.Import n weak)) = name_where (is_true weak) n
+weak_in (what.Directive (line.Extern n weak)) = name_where (is_true weak) n
 weak_in _ = []
 
 -- ---- names in sets

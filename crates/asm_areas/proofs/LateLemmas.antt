@@ -6,10 +6,10 @@ use Rattle.sdt_fault.specs.declared.kinds.LineKind.{LineKind}
 use Rattle.sdt_fault.specs.declared.kinds.LineKind.TheVariants.{BadOperand, TooMany}
 use Rattle.asm_model.specs.declared.statements.What.{What}
 use Rattle.asm_model.specs.FaultSets.{first_told}
-use Rattle.asm_model.specs.Kinds.{told_kind}
+use Rattle.asm_model.specs.Kinds.{told_kind, kind_if}
 use Rattle.asm_model.specs.Extents.{Extent, Block, Padding, Loading, Pool}
 use Rattle.asm_model.specs.Laid.{LaidLine, taken, pieces_of, reversed}
-use Rattle.asm_model.specs.LayoutKinds.{kind_if, entry_kinds, literal_kinds, is_entry}
+use Rattle.asm_model.specs.LayoutKinds.{entry_kinds, literal_kinds, is_entry}
 use Rattle.asm_model.specs.OffsetLaws.{joined}
 use Rattle.asm_model.specs.Offsets.{Piece, is_of, area_size, literal_word, start_in}
 use Rattle.asm_offsets.specs.declared.extents.LaidPools.{LaidPools}

@@ -2,7 +2,7 @@
 -- or behind them. ARM SDT 2.50 Reference Guide, chapter on the assembler.
 use Rattle.std.specs.Prelude.{◌≡◌, ℕ, List, [], ◌∷◌, codes, Bool, true, false, Option, Some, None, Result, Ok, Err}
 use Rattle.sdt_fault.specs.declared.kinds.LineKind.{LineKind}
-use Rattle.sdt_fault.specs.declared.kinds.LineKind.TheVariants.{Syntax, BadOperand}
+use Rattle.sdt_fault.specs.declared.kinds.LineKind.TheVariants.{Syntax}
 use Rattle.asm_model.specs.declared.tokens.Token.{Token}
 use Rattle.asm_model.specs.declared.exprs.Expr.{Expr}
 use Rattle.asm_model.specs.declared.exprs.ExprItem.TheVariants as item
@@ -14,7 +14,6 @@ use Rattle.asm_model.specs.declared.operands.Indexing.{Indexing}
 use Rattle.asm_model.specs.declared.operands.Indexing.TheVariants as indexing_is
 use Rattle.asm_model.specs.declared.operands.HalfOffset.{HalfOffset}
 use Rattle.asm_model.specs.declared.operands.HalfOffset.TheVariants as half
-use Rattle.asm_model.specs.Kinds.{earlier}
 use Rattle.asm_model.specs.Operands.{operands}
 use Rattle.asm_model.specs.Says.{on_both, mapped, Expression}
 use Rattle.asm_arm.specs.declared.operands.Scale.{Scale}
@@ -109,8 +108,8 @@ abbrev pub ReadsAfter : List ℕ → List Token → List Token → Option (List 
 ReadsAfter text a x s r = ReadsBehind text (base text a) x s r
 
 -- an address with the suffix T
-abbrev pub translated_of : Addressed → Addressed
-translated_of a = at indexing_is.Translated a.rn a.offset
+abbrev pub translated_of : Indexing → Addressed → Addressed
+translated_of i a = at i a.rn a.offset
 
 -- a base alone
 abbrev pub is_one : Cuts → Bool
@@ -121,15 +120,10 @@ abbrev pub is_base : List ℕ → Option (List Token) → Bool
 is_base text None = false
 is_base text (Some ts) = is_one (cut (operands text ts))
 
--- a fault besides those of a reading
-abbrev pub refused : {A : Type 0} → LineKind → Result A LineKind → Result A LineKind
-refused k (Ok a) = Err k
-refused k (Err j) = Err (earlier k j)
-
 -- with the suffix T no offset stands in the brackets, and no `!` behind them
 abbrev pub translated_before : Bool → Result Addressed LineKind → Result Addressed LineKind
-translated_before true p = mapped translated_of p
-translated_before false p = refused BadOperand p
+translated_before true p = mapped (translated_of indexing_is.Translated) p
+translated_before false p = mapped (translated_of indexing_is.TranslatedBefore) p
 
 -- an address with its offset in the brackets, with the suffix T or without it
 abbrev pub before_as : List ℕ → Bool → List Token → Result Addressed LineKind → Result Addressed LineKind
@@ -138,7 +132,7 @@ before_as text false a p = p
 
 -- the same of an address with its offset behind the brackets
 abbrev pub after_as : Bool → Result Addressed LineKind → Result Addressed LineKind
-after_as true p = mapped translated_of p
+after_as true p = mapped (translated_of indexing_is.Translated) p
 after_as false p = p
 
 -- the offset of a half-word, which has no shift

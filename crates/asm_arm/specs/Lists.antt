@@ -1,11 +1,11 @@
 -- Register lists, bases that are written back, and status registers. ARM SDT 2.50 Reference Guide, chapter on the
--- assembler. Registers are judged by the row, a range that falls too. This project's: a name in the place of a status
--- register that is none, or whose fields are not one or more of f, s, x and c, each at most once, is BadOperand.
+-- assembler. Registers are judged by the row, a range that falls too. This project's: the fields of a status
+-- register are one or more of f, s, x and c, each at most once.
 use Rattle.std.specs.Prelude.{ℕ, ◌+◌, ◌*◌, List, [], ◌∷◌, length, take, drop, codes, nat_lt, nat_le, ◌==◌, ◌&&◌, Bool, true, false, if◌then◌else◌, Option, Some, None, Result, Ok, Err}
 use Rattle.std.specs.List.{count_by}
 use Rattle.std.specs.Char.{to_ascii_lowercase}
 use Rattle.sdt_fault.specs.declared.kinds.LineKind.{LineKind}
-use Rattle.sdt_fault.specs.declared.kinds.LineKind.TheVariants.{Syntax, BadOperand}
+use Rattle.sdt_fault.specs.declared.kinds.LineKind.TheVariants.{Syntax}
 use Rattle.asm_model.specs.declared.tokens.Token.{Token}
 use Rattle.asm_model.specs.declared.tokens.TokenKind.{TokenKind}
 use Rattle.asm_model.specs.declared.tokens.TokenKind.TheVariants as kind
@@ -74,16 +74,12 @@ status_named word = row_of word ((codes "CPSR", false) ∷ (codes "SPSR", true) 
 unfoldable pub status_begun : List ℕ → Option Bool
 status_begun word = row_of word ((codes "CPSR_", false) ∷ (codes "SPSR_", true) ∷ [])
 
-abbrev pub or_bad : {A : Type 0} → Option A → Result A LineKind
-or_bad None = Err BadOperand
-or_bad (Some a) = Ok a
-
-abbrev pub status_of : TokenKind → List ℕ → Result Bool LineKind
-status_of kind.Name s = or_bad (status_named s)
+abbrev pub status_of : TokenKind → List ℕ → Result (Option Bool) LineKind
+status_of kind.Name s = Ok (status_named s)
 status_of _ s = Err Syntax
 
--- a status register
-abbrev pub status : List ℕ → List Token → Result Bool LineKind
+-- a status register, or a word that names none
+abbrev pub status : List ℕ → List Token → Result (Option Bool) LineKind
 status text [] = Err Syntax
 status text (t ∷ []) = status_of t.kind (piece text t)
 status text (t ∷ u ∷ ts) = Err Syntax
@@ -109,9 +105,14 @@ with_fields None f = None
 with_fields (Some p) None = None
 with_fields (Some p) (Some f) = Some (p, f)
 
+-- a word that names no fields of a status register has none
+abbrev pub or_none : Option (Bool × ℕ) → Bool × ℕ
+or_none None = (false, 0)
+or_none (Some p) = p
+
 -- a status register with its fields
 abbrev pub fields_of : TokenKind → List ℕ → Result (Bool × ℕ) LineKind
-fields_of kind.Name s = or_bad (with_fields (status_begun (take 5 s)) (fields_named (drop 5 s)))
+fields_of kind.Name s = Ok (or_none (with_fields (status_begun (take 5 s)) (fields_named (drop 5 s))))
 fields_of _ s = Err Syntax
 
 abbrev pub fields : List ℕ → List Token → Result (Bool × ℕ) LineKind

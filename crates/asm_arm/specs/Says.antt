@@ -1,11 +1,11 @@
 -- What a line says, as its tokens and its text have it: nothing for a blank line, a label alone, a directive, or else an
 -- instruction or a pseudo-instruction of its state; or the kind of its faults that is told. All faults of a line count,
--- and of several kinds the first in the order of the kinds is told; a name beyond the limit is a fault of the last kind.
+-- and of several kinds the first in the order of the kinds is told; a statement tells whether a name on its line is beyond the limit.
 -- The operands of an operation that nothing names are not read. ARM SDT 2.50 Reference Guide, chapter on the assembler.
 use Rattle.std.specs.Prelude.{◌≡◌, ℕ, List, Bool, true, false, Option, Some, None, Result, Ok, Err}
 use Rattle.std.specs.List.{list_any}
 use Rattle.sdt_fault.specs.declared.kinds.LineKind.{LineKind}
-use Rattle.sdt_fault.specs.declared.kinds.LineKind.TheVariants.{Syntax, TooMany}
+use Rattle.sdt_fault.specs.declared.kinds.LineKind.TheVariants.{Syntax}
 use Rattle.asm_model.specs.declared.lines.Flat.{Flat}
 use Rattle.asm_model.specs.declared.tokens.Token.{Token}
 use Rattle.asm_model.specs.declared.directives.LabelNeed.TheVariants as need
@@ -14,7 +14,7 @@ use Rattle.asm_model.specs.declared.statements.What.{What}
 use Rattle.asm_model.specs.declared.statements.What.TheVariants as what
 use Rattle.asm_model.specs.Parts.{piece}
 use Rattle.asm_model.specs.Says.{on_both, mapped, label_field, Sentence, sentence, unnamed, SaysDirective}
-use Rattle.asm_model.specs.Tokens.{is_long, Tokens, NoTokens}
+use Rattle.asm_model.specs.Tokens.{is_long, AreTokens}
 use Rattle.asm_arm.specs.Lines.{Reads}
 use Rattle.asm_arm.specs.Words.{operation_named}
 
@@ -24,7 +24,7 @@ Said = Result (Option Statement) LineKind
 
 -- a statement of the line
 abbrev pub statement : Flat → Option (List ℕ) → What → Option Statement
-statement flat label w = Some (record { source = flat.source; number = flat.number; label = label; what = w })
+statement flat label w = Some (record { source = flat.source; number = flat.number; label = label; what = w; is_long = false })
 
 -- a line without an operation: a label alone, or nothing
 abbrev pub alone : Flat → Option Token → Said
@@ -56,19 +56,13 @@ abbrev pub SaysTokens : (List ℕ → Token → List Token → Result What LineK
 SaysTokens Operation flat ts r = (d : Said) × SaysDirective flat ts d × SaysOr Operation flat ts d r
 
 -- the same, where a name among them may be beyond the limit
-abbrev pub within_limit : Bool → Said → Said
-within_limit true (Ok s) = Err TooMany
-within_limit true (Err k) = Err k
-within_limit false r = r
-
--- the tokens of a line, or that it has none
-abbrev pub AreTokens : List ℕ → Option (List Token) → Type 0
-AreTokens text None = NoTokens text
-AreTokens text (Some ts) = Tokens text ts
+abbrev pub measured : Bool → Said → Said
+measured long (Ok (Some s)) = Ok (Some (record s { is_long = long }))
+measured long r = r
 
 abbrev pub SaysAll : (List ℕ → Token → List Token → Result What LineKind → Type 0) → Flat → Option (List Token) → Said → Type 0
 SaysAll Operation flat None r = r ≡ Err Syntax
-SaysAll Operation flat (Some ts) r = (s : Said) × SaysTokens Operation flat ts s × (r ≡ within_limit (list_any is_long ts) s)
+SaysAll Operation flat (Some ts) r = (s : Said) × SaysTokens Operation flat ts s × (r ≡ measured (list_any is_long ts) s)
 
 -- what a line says
 abbrev pub SaysLine : (List ℕ → Token → List Token → Result What LineKind → Type 0) → Flat → Said → Type 0

@@ -10,10 +10,10 @@ use Rattle.asm_model.specs.declared.directives.Contents.TheVariants as contents
 use Rattle.asm_model.specs.declared.directives.DirectiveLine.TheVariants as line
 use Rattle.asm_model.specs.declared.statements.What.TheVariants as what
 use Rattle.asm_model.specs.Forms.{same}
-use Rattle.asm_model.specs.Kinds.{told_kind}
+use Rattle.asm_model.specs.Kinds.{told_kind, kind_if}
 use Rattle.asm_model.proofs.WordLemmas.{same_true}
 use Rattle.asm_model.specs.Laid.{LaidLine}
-use Rattle.asm_model.specs.LayoutKinds.{kind_if, exponent, exponent_kinds, same_contents, same_mark, same_attributes, again_with, is_named_otherwise}
+use Rattle.asm_model.specs.LayoutKinds.{exponent, exponent_kinds, same_contents, same_mark, same_attributes, again_with, is_named_otherwise}
 use Rattle.asm_checks.specs.declared.areas.AreaMarks.{AreaMarks}
 use Rattle.asm_checks.specs.Areas.{Areas, marks_in, agrees, is_otherwise, marks_of, noted, IsNoted, AreAreasOf}
 use Rattle.base_lemmas.proofs.BaseLemmas.{both_true}

@@ -8,10 +8,10 @@ use Rattle.asm_model.specs.declared.exprs.Expr.{Expr}
 use Rattle.asm_model.specs.declared.statements.Statement.{Statement}
 use Rattle.asm_model.specs.Exprs.{has_large}
 use Rattle.asm_model.specs.Forms.{same}
-use Rattle.asm_model.specs.Kinds.{told_kind}
+use Rattle.asm_model.specs.Kinds.{told_kind, kind_if}
 use Rattle.asm_model.specs.Labels.{defined_by}
 use Rattle.asm_model.specs.Laid.{LaidLine, statements_of}
-use Rattle.asm_model.specs.LayoutKinds.{is_entry, no_area_kinds, kind_if, contents_kinds, contents_behind, area_kinds, name_kinds, names_behind, first_equal, settled_kinds, in_thumb_area, state_kinds}
+use Rattle.asm_model.specs.LayoutKinds.{is_entry, no_area_kinds, contents_kinds, contents_behind, area_kinds, name_kinds, names_behind, first_equal, settled_kinds, in_thumb_area, state_kinds}
 use Rattle.asm_checks.specs.declared.checks.Checks.{Checks}
 use Rattle.asm_checks.specs.Areas.{AreAreasOf, IsExponent}
 use Rattle.asm_sets.specs.Sets.{HaveSame}
@@ -24,7 +24,7 @@ checked_kinds settled all l before =
     ++ contents_kinds (contents_behind (l.statement ∷ statements_of before)) l.thumb l.statement.what
     ++ area_kinds l.seen l.statement.what before ++ name_kinds l.statement (statements_of before)
     ++ settled_kinds settled (first_equal (defined_by l.statement) (statements_of before)) ++ state_kinds l.area l.thumb l.statement.what all
-    ++ kind_if (has_large l.statement.what) Constant
+    ++ own_kinds l.statement
 
 -- what is kept of lines of which none has such a kind
 pub record IsChecked (before : List LaidLine) (c : Checks) : Type 0 where

@@ -3,9 +3,9 @@ use Rattle.std.specs.Prelude.{◌≡◌, ℕ, List, ◌++◌, not, Option}
 use Rattle.std.specs.Option.{is_some}
 use Rattle.sdt_fault.specs.declared.kinds.LineKind.{LineKind}
 use Rattle.sdt_fault.specs.declared.kinds.LineKind.TheVariants.{DuplicateName, Nesting, TooMany}
-use Rattle.asm_model.specs.Kinds.{told_kind}
+use Rattle.asm_model.specs.Kinds.{told_kind, kind_if}
 use Rattle.expand_model.specs.declared.operations.Sort.{Sort}
-use Rattle.expand_model.specs.Prototypes.{kind_if, is_long}
+use Rattle.expand_model.specs.Prototypes.{is_long}
 use Rattle.expand_model.specs.States.{found, locals_of, variable}
 use Rattle.expand_model.specs.Steps.{label_kinds, target_kinds}
 use Rattle.expand_model.specs.Words.{Words}

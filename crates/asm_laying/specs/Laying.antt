@@ -8,13 +8,13 @@ use Rattle.asm_model.specs.declared.names.LaidName.{LaidName}
 use Rattle.asm_model.specs.declared.statements.Statement.{Statement}
 use Rattle.asm_model.specs.declared.names.Names.{Names}
 use Rattle.asm_model.specs.AtLine.{seen_behind, added_names}
-use Rattle.asm_model.specs.Kinds.{told_kind}
+use Rattle.asm_model.specs.Kinds.{told_kind, kind_if}
 use Rattle.asm_model.specs.Before.{thumb_behind, areas_behind, area_behind, is_thumb_label}
 use Rattle.asm_model.specs.Extents.{extent_of}
 use Rattle.asm_model.specs.Labels.{Defined, Equal, defined_by, imported_in, imported_entries}
 use Rattle.asm_model.specs.Laid.{LaidLine, statements_of, lines_of, taken, pieces_of, map_behind, offset_behind, names_behind, laid_behind, tree_equated}
 use Rattle.asm_model.specs.Trees.{tree_of}
-use Rattle.asm_model.specs.LayoutKinds.{fault_kinds, kind_if, map_kinds, area_bytes}
+use Rattle.asm_model.specs.LayoutKinds.{fault_kinds, map_kinds, area_bytes}
 use Rattle.asm_names.specs.Defining.{own_entry}
 use Rattle.asm_names.specs.Lines.{IsPlace}
 use Rattle.asm_names.specs.Steps.{one_entry}

@@ -8,11 +8,11 @@ use Rattle.asm_laying.specs.Laying.{told_of}
 use Rattle.asm_model.specs.declared.statements.Statement.{Statement}
 use Rattle.asm_model.specs.Exprs.{has_large}
 use Rattle.asm_model.specs.FaultSets.{first_told}
-use Rattle.asm_model.specs.Kinds.{rank, earlier, told_kind}
+use Rattle.asm_model.specs.Kinds.{rank, earlier, told_kind, kind_if}
 use Rattle.asm_model.proofs.FaultLemmas.{takes, stays, first_assoc, told_by_parts}
 use Rattle.asm_model.specs.Labels.{defined_by}
 use Rattle.asm_model.specs.Laid.{LaidLine, statements_of}
-use Rattle.asm_model.specs.LayoutKinds.{fault_kinds, map_kinds, no_area_kinds, contents_kinds, contents_behind, area_kinds, name_kinds, settled_kinds, first_equal, state_kinds, kind_if, area_bytes}
+use Rattle.asm_model.specs.LayoutKinds.{fault_kinds, map_kinds, no_area_kinds, contents_kinds, contents_behind, area_kinds, name_kinds, settled_kinds, first_equal, state_kinds, area_bytes}
 use Rattle.source_model.specs.Registers.{register_kinds}
 use Rattle.asm_layout.specs.Walking.{told_by}
 
@@ -102,7 +102,7 @@ told_parts names settled all l before =
     joined_kinds (fault_kinds l.extent) (map_kinds l.seen l.statement.what) (no_area_kinds l.area (defined_by l.statement) l.statement.what)
     (contents_kinds (contents_behind (l.statement ∷ statements_of before)) l.thumb l.statement.what) (area_kinds l.seen l.statement.what before)
     (name_kinds l.statement (statements_of before)) (settled_kinds settled (first_equal (defined_by l.statement) (statements_of before))) (state_kinds l.area l.thumb l.statement.what all)
-    (kind_if (nat_lt area_bytes (l.offset + l.size)) TooMany) (kind_if (has_large l.statement.what) Constant) (register_kinds names l before)
+    (kind_if (nat_lt area_bytes (l.offset + l.size)) TooMany) (own_kinds l.statement) (register_kinds names l before)
 
 -- where nothing is told of two, nothing is told of each
 pub none_first : (a b : Option LineKind) → None ≡ first_told a b → a ≡ None

@@ -12,7 +12,7 @@ use Rattle.asm_model.specs.declared.statements.What.TheVariants as what
 use Rattle.asm_locals.specs.Naming.{hidden_name, in_names}
 
 abbrev says : Option (List ℕ) → What → Statement
-says label w = record { source = codes "t.s"; number = 1; label = label; what = w }
+says label w = record { source = codes "t.s"; number = 1; label = label; what = w; is_long = false }
 
 abbrev area : Statement
 area = says None (what.Directive (line.Area (codes "a") (record {
@@ -23,6 +23,7 @@ area = says None (what.Directive (line.Area (codes "a") (record {
   pic = false;
   reentrant = false;
   align = None;
+  has_bad_word = false;
 })))
 
 abbrev no_operation : What

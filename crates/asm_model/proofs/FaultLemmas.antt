@@ -18,9 +18,9 @@ use Rattle.asm_model.specs.declared.directives.DirectiveLine.{DirectiveLine}
 use Rattle.asm_model.specs.declared.directives.DirectiveLine.TheVariants as line
 use Rattle.asm_model.specs.declared.directives.Boundary.TheVariants as limit
 use Rattle.asm_model.specs.declared.statements.Statement.{Statement}
-use Rattle.asm_model.specs.Areas.{ReadsAttribute, ReadsAttributes, attributes_in, is_repeated, is_contradicting, word_attribute, begins_alignment, alignment, either, agreed, attributes_of}
+use Rattle.asm_model.specs.Areas.{ReadsAttribute, ReadsAttributes, word_attribute, begins_alignment, alignment, either, attributes_written}
 use Rattle.asm_model.specs.Directives.{label_need}
-use Rattle.asm_model.specs.FaultSets.{IsToldOf, fault, first_told, Among, FailsBefore, FailsBetween, HasKind, OperandsKind, SomeOperandsKind, ImportKind, AttributeKind, AttributesKind, DisagreeKind, AreaKind, RegisterKind, BoundaryKind, FormKind, SentenceKind, DirectiveKind}
+use Rattle.asm_model.specs.FaultSets.{IsToldOf, fault, first_told, Among, FailsBefore, FailsBetween, HasKind, OperandsKind, SomeOperandsKind, ImportKind, AttributeKind, AttributesKind, AreaKind, RegisterKind, BoundaryKind, FormKind, SentenceKind, DirectiveKind}
 use Rattle.asm_model.specs.Grammar.{Tree, Leaf, Before, Between, Parses, ParsesTokens}
 use Rattle.asm_model.specs.Kinds.{rank, earlier, earliest, told_kind}
 use Rattle.asm_model.specs.Meaning as meanings
@@ -269,36 +269,12 @@ told_attributes text [] r p = rw p (λ k h. h)
 told_attributes text (o ∷ os) r p =
     rw (p.4) (told_either p.0 p.1 (AttributeKind text o) (AttributesKind text os) (told_attribute text o p.0 p.2) (told_attributes text os p.1 p.3))
 
-pub told_agreed : (words : List Attribute) (b : Bool) (align : Result (Option Expr) LineKind) (A : LineKind → Type 0) → (is_repeated words || is_contradicting words) ≡ b
-    → IsToldOf (fault align) A → IsToldOf (fault (agreed words align)) (λ k. DisagreeKind words k ⊎ A k)
-told_agreed words true (Ok e) A t p =
-    let is : agreed words (Ok e) ≡ Err BadOperand = cond-true (is_repeated words || is_contradicting words) _ _ t in
-    subst (λ r. IsToldOf (fault r) (λ k. DisagreeKind words k ⊎ A k)) (sym is)
-    (told_same (Some BadOperand) (λ k. k ≡ BadOperand) (λ k. DisagreeKind words k ⊎ A k)
-    (λ k h. inl (t, h)) (λ k h. elim h [ inl d ↦ d.1 | inr a ↦ absurd (p k a) ]) (told_kind_alone BadOperand))
-told_agreed words true (Err k) A t p =
-    let is : agreed words (Err k) ≡ Err (earlier BadOperand k) = cond-true (is_repeated words || is_contradicting words) _ _ t in
-    subst (λ r. IsToldOf (fault r) (λ j. DisagreeKind words j ⊎ A j)) (sym is)
-    (told_same (Some (earlier BadOperand k)) (λ j. (j ≡ BadOperand) ⊎ A j) (λ j. DisagreeKind words j ⊎ A j)
-    (λ j h. elim h [ inl e ↦ inl (t, e) | inr a ↦ inr a ]) (λ j h. elim h [ inl d ↦ inl d.1 | inr a ↦ inr a ])
-    (told_union (Some BadOperand) (Some k) (λ j. j ≡ BadOperand) A (told_kind_alone BadOperand) p))
-told_agreed words false (Ok e) A t p =
-    let is : agreed words (Ok e) ≡ Ok (attributes_of words e) = cond-false (is_repeated words || is_contradicting words) _ _ t in
-    subst (λ r. IsToldOf (fault r) (λ k. DisagreeKind words k ⊎ A k)) (sym is)
-    (λ k h. elim h [ inl d ↦ absurd (true≢false (sym d.0 ∙ t)) | inr a ↦ p k a ])
-told_agreed words false (Err k) A t p =
-    let is : agreed words (Err k) ≡ Err k = cond-false (is_repeated words || is_contradicting words) _ _ t in
-    subst (λ r. IsToldOf (fault r) (λ j. DisagreeKind words j ⊎ A j)) (sym is)
-    (inr p.0, λ j h. elim h [ inl d ↦ absurd (true≢false (sym d.0 ∙ t)) | inr a ↦ p.1 j a ])
-
 pub told_area : (text : List ℕ) (os : List (List Token)) (r : Result DirectiveLine LineKind) → Area text os r → IsToldOf (fault r) (AreaKind text os)
 told_area text [] r p = rw p (told_kind_alone Syntax)
 told_area text (o ∷ os) r p =
-    rw (p.2) (told_both (λ n attributes. line.Area n attributes) (name_alone text o) (agreed (attributes_in text os) p.0)
-    (λ k. name_alone text o ≡ Err k) (λ k. DisagreeKind (attributes_in text os) k ⊎ AttributesKind text os k)
-    (told_self (name_alone text o))
-    (told_agreed (attributes_in text os) (is_repeated (attributes_in text os) || is_contradicting (attributes_in text os)) p.0 (AttributesKind text os) refl
-    (told_attributes text os p.0 p.1)))
+    rw (p.2) (told_both (λ n attributes. line.Area n attributes) (name_alone text o) (mapped (attributes_written text os) p.0)
+    (λ k. name_alone text o ≡ Err k) (AttributesKind text os) (told_self (name_alone text o))
+    (told_mapped (attributes_written text os) p.0 (AttributesKind text os) (told_attributes text os p.0 p.1)))
 
 pub told_register : (text : List ℕ) (n : Option ℕ) (ts : List Token) (r : Result DirectiveLine LineKind) → Register text n ts r → IsToldOf (fault r) (RegisterKind text n ts)
 told_register text (Some n) ts r p = rw p (λ k h. h)

@@ -17,7 +17,7 @@ use Rattle.asm_model.specs.declared.directives.DirectiveLine.TheVariants as line
 use Rattle.asm_model.specs.LayoutKinds.{layout_fault}
 
 abbrev says : ℕ → Option (List ℕ) → DirectiveLine → Statement
-says n label l = record { source = codes "t.s"; number = n; label = label; what = what.Directive l }
+says n label l = record { source = codes "t.s"; number = n; label = label; what = what.Directive l; is_long = false }
 
 abbrev area : ℕ → Contents → Bool → Statement
 area n holds interwork = says n None (line.Area (codes "a") (record {
@@ -28,6 +28,7 @@ area n holds interwork = says n None (line.Area (codes "a") (record {
   pic = false;
   reentrant = false;
   align = None;
+  has_bad_word = false;
 }))
 
 abbrev number : ℕ → Expr
@@ -81,13 +82,13 @@ entry_and_label = refl
 
 -- and its place where no line has a fault of its own
 pub place_and_label : told
-    (record { source = codes "t.s"; number = 4; label = Some (codes "x"); what = what.Nothing }
+    (record { source = codes "t.s"; number = 4; label = Some (codes "x"); what = what.Nothing; is_long = false }
     ∷ says 3 None line.Entry ∷ words 2 (Some (codes "x")) ∷ area 1 contents.Code false ∷ []) ≡ Some (4, DuplicateName)
 place_and_label = refl
 
 -- the area's only instruction is one of ARM state
 pub entry_in_thumb : told
-    (record { source = codes "t.s"; number = 5; label = None; what = what.Pseudo pseudo.NoOperation }
+    (record { source = codes "t.s"; number = 5; label = None; what = what.Pseudo pseudo.NoOperation; is_long = false }
     ∷ says 4 None line.Code32 ∷ says 3 None line.Entry ∷ says 2 None line.Code16 ∷ area 1 contents.Code false ∷ []) ≡ Some (3, BadOperand)
 entry_in_thumb = refl
 
@@ -118,6 +119,6 @@ larger_area = refl
 -- the pool at the area's end ends behind the limit
 pub larger_pool : told
     (says 3 None (line.Space (number 0xFFFFFC))
-    ∷ record { source = codes "t.s"; number = 2; label = None; what = what.Pseudo (pseudo.LoadConstant Al (register.Number 0) (name (codes "x"))) }
+    ∷ record { source = codes "t.s"; number = 2; label = None; what = what.Pseudo (pseudo.LoadConstant Al (register.Number 0) (name (codes "x"))); is_long = false }
     ∷ area 1 contents.Code false ∷ []) ≡ Some (2, TooMany)
 larger_pool = refl

@@ -22,7 +22,7 @@ use Rattle.asm_model.specs.Offsets.{area_size}
 use Rattle.asm_model.specs.Symbols.{symbols_of}
 
 abbrev says : Option (List ℕ) → What → Statement
-says label w = record { source = codes "t.s"; number = 1; label = label; what = w }
+says label w = record { source = codes "t.s"; number = 1; label = label; what = w; is_long = false }
 
 abbrev area : List ℕ → Contents → Statement
 area name holds = says None (what.Directive (line.Area name (record {
@@ -33,6 +33,7 @@ area name holds = says None (what.Directive (line.Area name (record {
   pic = false;
   reentrant = false;
   align = None;
+  has_bad_word = false;
 })))
 
 abbrev items : List ExprItem → Expr

@@ -59,10 +59,10 @@ pub long_label : label_field need.Optional (codes "123 DCD 1") (Some (at kind.Nu
 long_label = refl
 
 -- imports
-pub weak_brackets : weak_mark (codes "[Weak]") (at kind.Sign 0 1 ∷ at kind.Name 1 5 ∷ at kind.Sign 5 6 ∷ []) ≡ Ok true
+pub weak_brackets : weak_mark (codes "[Weak]") (at kind.Sign 0 1 ∷ at kind.Name 1 5 ∷ at kind.Sign 5 6 ∷ []) ≡ Ok (Some true)
 weak_brackets = refl
 
-pub other_mark : weak_mark (codes ",foo") (at kind.Sign 0 1 ∷ at kind.Name 1 4 ∷ []) ≡ Err BadOperand
+pub other_mark : weak_mark (codes ",foo") (at kind.Sign 0 1 ∷ at kind.Name 1 4 ∷ []) ≡ Ok None
 other_mark = refl
 
 -- attributes

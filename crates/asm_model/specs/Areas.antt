@@ -2,8 +2,9 @@
 -- this project's, and so is that an attribute stands once.
 use Rattle.std.specs.Prelude.{◌≡◌, ℕ, List, [], ◌∷◌, ◌++◌, codes, nat_lt, ◌==◌, ◌&&◌, ◌||◌, not, Bool, false, if◌then◌else◌, Option, Some, None, Result, Ok, Err, MatchBool, count_by}
 use Rattle.std.specs.List.{list_any}
+use Rattle.std.specs.Option.{is_some}
 use Rattle.sdt_fault.specs.declared.kinds.LineKind.{LineKind}
-use Rattle.sdt_fault.specs.declared.kinds.LineKind.TheVariants.{Syntax, BadOperand}
+use Rattle.sdt_fault.specs.declared.kinds.LineKind.TheVariants.{Syntax}
 use Rattle.asm_model.specs.declared.tokens.Token.{Token}
 use Rattle.asm_model.specs.declared.tokens.TokenKind.{TokenKind}
 use Rattle.asm_model.specs.declared.tokens.TokenKind.TheVariants as kind
@@ -69,21 +70,9 @@ contents_of words = if has Code words then contents.Code else if has NoInit word
 abbrev pub is_read_only : List Attribute → Bool
 is_read_only words = if has Code words then not (has ReadWrite words) else has ReadOnly words
 
--- the attributes of an area
-abbrev pub attributes_of : List Attribute → Option Expr → AreaAttributes
-attributes_of words align = record {
-  contents = contents_of words;
-  read_only = is_read_only words;
-  interwork = has Interwork words;
-  halfword = has Halfword words;
-  pic = has Pic words;
-  reentrant = has Reentrant words;
-  align = align;
-}
-
--- a word that is an attribute by itself: ALIGN has a number, and no other word is one
+-- a word by itself: ALIGN has a number
 abbrev pub plain_attribute : Option Attribute → Result (Option Expr) LineKind
-plain_attribute None = Err BadOperand
+plain_attribute None = Ok None
 plain_attribute (Some Align) = Err Syntax
 plain_attribute (Some _) = Ok None
 
@@ -115,6 +104,10 @@ abbrev pub attributes_in : List ℕ → List (List Token) → List Attribute
 attributes_in text [] = []
 attributes_in text (o ∷ os) = listed (attribute_in text o) ++ attributes_in text os
 
+-- whether an operand writes none
+abbrev pub is_bad_word : List ℕ → List Token → Bool
+is_bad_word text o = not (is_some (attribute_in text o))
+
 -- the number of an alignment
 abbrev pub alignment : Result Expr LineKind → Result (Option Expr) LineKind
 alignment (Ok e) = Ok (Some e)
@@ -142,14 +135,23 @@ ReadsAttributes text [] r = r ≡ Ok None
 ReadsAttributes text (o ∷ os) r =
     (a b : Result (Option Expr) LineKind) × ReadsAttribute text o a × ReadsAttributes text os b × (r ≡ either a b)
 
--- attributes that agree
-abbrev pub agreed : List Attribute → Result (Option Expr) LineKind → Result AreaAttributes LineKind
-agreed words align = if is_repeated words || is_contradicting words then refused align else accepted align
-  where
-    refused : Result (Option Expr) LineKind → Result AreaAttributes LineKind
-    refused (Ok e) = Err BadOperand
-    refused (Err k) = Err (earlier BadOperand k)
+-- whether a word is no attribute, or words don't agree
+abbrev pub has_bad_word : List ℕ → List (List Token) → List Attribute → Bool
+has_bad_word text os words = list_any (is_bad_word text) os || is_repeated words || is_contradicting words
 
-    accepted : Result (Option Expr) LineKind → Result AreaAttributes LineKind
-    accepted (Ok e) = Ok (attributes_of words e)
-    accepted (Err k) = Err k
+-- an area with these attributes and this alignment
+abbrev pub attributes_of : List Attribute → Bool → Option Expr → AreaAttributes
+attributes_of words bad align = record {
+  contents = contents_of words;
+  read_only = is_read_only words;
+  interwork = has Interwork words;
+  halfword = has Halfword words;
+  pic = has Pic words;
+  reentrant = has Reentrant words;
+  align = align;
+  has_bad_word = bad;
+}
+
+-- the attributes of an area that operands write
+abbrev pub attributes_written : List ℕ → List (List Token) → Option Expr → AreaAttributes
+attributes_written text os align = attributes_of (attributes_in text os) (has_bad_word text os (attributes_in text os)) align

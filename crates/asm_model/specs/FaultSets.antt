@@ -2,17 +2,16 @@
 -- the first in the order of the kinds. This project's.
 use Rattle.std.specs.Prelude.{◌≡◌, ℕ, ◌≤◌, List, [], ◌∷◌, ◌||◌, true, Option, Some, None, Result, Ok, Err, MatchBool, ◌⊎◌}
 use Rattle.sdt_fault.specs.declared.kinds.LineKind.{LineKind}
-use Rattle.sdt_fault.specs.declared.kinds.LineKind.TheVariants.{Syntax, BadOperand}
+use Rattle.sdt_fault.specs.declared.kinds.LineKind.TheVariants.{Syntax}
 use Rattle.asm_model.specs.declared.lines.Flat.{Flat}
 use Rattle.asm_model.specs.declared.tokens.Token.{Token}
 use Rattle.asm_model.specs.declared.exprs.UnaryOp.{UnaryOp}
 use Rattle.asm_model.specs.declared.exprs.BinaryOp.{BinaryOp}
 use Rattle.asm_model.specs.declared.values.Value.{Value}
 use Rattle.asm_model.specs.declared.names.Names.{Names}
-use Rattle.asm_model.specs.declared.directives.Attribute.{Attribute}
 use Rattle.asm_model.specs.declared.directives.Directive.{Directive}
 use Rattle.asm_model.specs.declared.statements.Statement.{Statement}
-use Rattle.asm_model.specs.Areas.{attributes_in, is_repeated, is_contradicting, word_attribute, begins_alignment}
+use Rattle.asm_model.specs.Areas.{word_attribute, begins_alignment}
 use Rattle.asm_model.specs.Directives.{label_need}
 use Rattle.asm_model.specs.Grammar.{Tree, Leaf, Before, Between, ParsesTokens}
 use Rattle.asm_model.specs.Kinds.{rank, earlier, told_kind}
@@ -89,14 +88,10 @@ abbrev pub AttributesKind : List ℕ → List (List Token) → LineKind → Type
 AttributesKind text [] k = ⊥
 AttributesKind text (o ∷ os) k = AttributeKind text o k ⊎ AttributesKind text os k
 
--- attributes that don't agree
-abbrev pub DisagreeKind : List Attribute → LineKind → Type 0
-DisagreeKind words k = ((is_repeated words || is_contradicting words) ≡ true) × (k ≡ BadOperand)
-
 abbrev pub AreaKind : List ℕ → List (List Token) → LineKind → Type 0
 AreaKind text [] k = k ≡ Syntax
 AreaKind text (o ∷ os) k =
-    (name_alone text o ≡ Err k) ⊎ (DisagreeKind (attributes_in text os) k ⊎ AttributesKind text os k)
+    (name_alone text o ≡ Err k) ⊎ AttributesKind text os k
 
 abbrev pub RegisterKind : List ℕ → Option ℕ → List Token → LineKind → Type 0
 RegisterKind text (Some n) ts k = ⊥

@@ -1,6 +1,6 @@
 -- Faults of a line. Where a line has faults of several kinds, the first in the order of the kinds is told.
 -- This project's.
-use Rattle.std.specs.Prelude.{ℕ, List, [], ◌∷◌, nat_lt, if◌then◌else◌, Option, None, Some}
+use Rattle.std.specs.Prelude.{ℕ, List, [], ◌∷◌, nat_lt, if◌then◌else◌, Bool, Option, None, Some}
 use Rattle.sdt_fault.specs.declared.kinds.LineKind.{LineKind}
 use Rattle.sdt_fault.specs.declared.kinds.LineKind.TheVariants.{Syntax, UnknownWord, FloatingPoint, BadOperand, Constant, Forward, DuplicateName, WrongType, OutOfRange, Nesting, Assert, NoArea, DivideByZero, TooDeep, TooMany}
 
@@ -35,3 +35,7 @@ earliest kind (k ∷ ks) = earliest (earlier kind k) ks
 abbrev pub told_kind : List LineKind → Option LineKind
 told_kind [] = None
 told_kind (k ∷ ks) = Some (earliest k ks)
+
+-- the kind where a fault holds
+abbrev pub kind_if : Bool → LineKind → List LineKind
+kind_if holds k = if holds then k ∷ [] else []

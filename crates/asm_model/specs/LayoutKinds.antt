@@ -1,12 +1,12 @@
--- The kinds of faults that a line which can be read has by itself and by the lines around it: a number that is too large,
--- NoArea, DuplicateName, places where a statement may not stand, areas that are named again otherwise, what must be known at its line, names that depend on
--- themselves, an ENTRY in another state than its area's, and areas that grow too large. SDT 2.50 Reference Guide, chapter
--- on the assembler; the kinds are this project's. What needs the whole layout, as an ENTRY's place and the pool at an
--- area's end, counts only where no line has a kind of these.
+-- The kinds of faults that a line which can be read has by itself and by the lines around it: NoArea,
+-- DuplicateName, places where a statement may not stand, areas that are named again otherwise, what must be known at its
+-- line, names that depend on themselves, an ENTRY in another state than its area's, and areas that grow too large. SDT
+-- 2.50 Reference Guide, chapter on the assembler; the kinds are this project's. What needs the whole layout, as an
+-- ENTRY's place and the pool at an area's end, counts only where no line has a kind of these.
 use Rattle.std.specs.Prelude.{ℕ, zero, suc, ◌+◌, ◌^◌, ◌==◌, ◌&&◌, ◌||◌, not, nat_lt, List, [], ◌∷◌, ◌++◌, length, Bool, true, false, if◌then◌else◌, Option, Some, None, Result, Ok, Err}
 use Rattle.std.specs.List.{list_any}
 use Rattle.sdt_fault.specs.declared.kinds.LineKind.{LineKind}
-use Rattle.sdt_fault.specs.declared.kinds.LineKind.TheVariants.{BadOperand, Constant, Forward, DuplicateName, NoArea, TooMany}
+use Rattle.sdt_fault.specs.declared.kinds.LineKind.TheVariants.{BadOperand, Forward, DuplicateName, NoArea, TooMany}
 use Rattle.asm_model.specs.declared.exprs.Expr.{Expr}
 use Rattle.asm_model.specs.declared.exprs.ExprItem.{ExprItem}
 use Rattle.asm_model.specs.declared.exprs.ExprItem.TheVariants as item
@@ -21,20 +21,17 @@ use Rattle.asm_model.specs.declared.statements.What.TheVariants as what
 use Rattle.asm_model.specs.declared.names.Names.{Names}
 use Rattle.asm_model.specs.Before.{thumb_behind, area_behind}
 use Rattle.asm_model.specs.Directives.{or_else}
-use Rattle.asm_model.specs.Exprs.{has_large}
 use Rattle.asm_model.specs.Forms.{same}
-use Rattle.asm_model.specs.Kinds.{told_kind}
+use Rattle.asm_model.specs.Kinds.{told_kind, kind_if}
 use Rattle.asm_model.specs.Extents.{Extent, Loading, number_there}
 use Rattle.asm_model.specs.Labels.{Defined, Label, Equal, MapField, RegisterName, defined_by, imported_in}
 use Rattle.asm_model.specs.Laid.{LaidLine, statements_of, taken, pieces_of, laid, reversed}
 use Rattle.asm_model.specs.Offsets.{Piece, is_of, area_size, literal_word}
+use Rattle.asm_model.specs.OwnKinds.{own_kinds}
 
 abbrev pub fault_kinds : {X : Type 0} → Result X LineKind → List LineKind
 fault_kinds (Ok x) = []
 fault_kinds (Err k) = k ∷ []
-
-abbrev pub kind_if : Bool → LineKind → List LineKind
-kind_if holds k = if holds then k ∷ [] else []
 
 -- ---- before the first AREA, and in areas
 
@@ -280,7 +277,7 @@ layout_kinds settled all l before =
     ++ contents_kinds (contents_behind (l.statement ∷ statements_of before)) l.thumb l.statement.what
     ++ area_kinds l.seen l.statement.what before ++ name_kinds l.statement (statements_of before)
     ++ settled_kinds settled (first_equal (defined_by l.statement) (statements_of before)) ++ state_kinds l.area l.thumb l.statement.what all
-    ++ kind_if (nat_lt area_bytes (l.offset + l.size)) TooMany ++ kind_if (has_large l.statement.what) Constant
+    ++ kind_if (nat_lt area_bytes (l.offset + l.size)) TooMany ++ own_kinds l.statement
 
 -- a statement with the kind that is told of it
 abbrev pub told_at : Statement → Option LineKind → Option (Statement × LineKind)

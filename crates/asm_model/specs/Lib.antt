@@ -26,6 +26,7 @@ pub mod LayoutKinds
 pub mod Marks
 pub mod OffsetLaws
 pub mod Offsets
+pub mod OwnKinds
 pub mod PlacedLines
 pub mod Placing
 pub mod Sound

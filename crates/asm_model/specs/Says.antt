@@ -6,7 +6,7 @@
 -- line, places before the first AREA, a second ENTRY, attributes of an area that is named again, and states.
 use Rattle.std.specs.Prelude.{◌≡◌, ℕ, List, [], ◌∷◌, length, take, drop, codes, ◌-◌, ◌==◌, ◌&&◌, Bool, true, false, if◌then◌else◌, Option, Some, None, Result, Ok, Err}
 use Rattle.sdt_fault.specs.declared.kinds.LineKind.{LineKind}
-use Rattle.sdt_fault.specs.declared.kinds.LineKind.TheVariants.{Syntax, UnknownWord, FloatingPoint, BadOperand}
+use Rattle.sdt_fault.specs.declared.kinds.LineKind.TheVariants.{Syntax, UnknownWord, FloatingPoint}
 use Rattle.asm_model.specs.declared.lines.Flat.{Flat}
 use Rattle.asm_model.specs.declared.tokens.Token.{Token}
 use Rattle.asm_model.specs.declared.tokens.TokenKind.{TokenKind}
@@ -22,7 +22,7 @@ use Rattle.asm_model.specs.declared.directives.RnOperand.TheVariants as rn
 use Rattle.asm_model.specs.declared.directives.Boundary.TheVariants as limit
 use Rattle.asm_model.specs.declared.statements.Statement.{Statement}
 use Rattle.asm_model.specs.declared.statements.What.TheVariants as what
-use Rattle.asm_model.specs.Areas.{ReadsAttributes, attributes_in, agreed}
+use Rattle.asm_model.specs.Areas.{ReadsAttributes, attributes_written}
 use Rattle.asm_model.specs.Directives.{directive_named, label_need}
 use Rattle.asm_model.specs.Forms.{same, is_short}
 use Rattle.asm_model.specs.Grammar.{ParsesTokens}
@@ -39,7 +39,7 @@ pub data Form : Type 0 where
   -- one name
   name : (List ℕ → DirectiveLine) → Form
   -- one name, behind which [WEAK] or ,WEAK may stand
-  imported : (List ℕ → Bool → DirectiveLine) → Form
+  imported : (List ℕ → Option Bool → DirectiveLine) → Form
   -- one expression
   expression : (Expr → DirectiveLine) → Form
   -- one expression or more
@@ -112,14 +112,14 @@ name_alone text [] = Err Syntax
 name_alone text (t ∷ []) = name_of t.kind (piece text t)
 name_alone text (t ∷ u ∷ ts) = Err Syntax
 
--- a token as the word WEAK
-abbrev pub weak_word : TokenKind → List ℕ → Result Bool LineKind
-weak_word kind.Name s = if is_called (codes "WEAK") s then Ok true else Err BadOperand
+-- a token as the word WEAK, or as another word
+abbrev pub weak_word : TokenKind → List ℕ → Result (Option Bool) LineKind
+weak_word kind.Name s = Ok (if is_called (codes "WEAK") s then Some true else None)
 weak_word _ s = Err Syntax
 
--- what stands behind the name of an import
-abbrev pub weak_mark : List ℕ → List Token → Result Bool LineKind
-weak_mark text [] = Ok false
+-- what stands behind the name of an import: whether it is weak, where that can be told
+abbrev pub weak_mark : List ℕ → List Token → Result (Option Bool) LineKind
+weak_mark text [] = Ok (Some false)
 weak_mark text (t ∷ []) = Err Syntax
 weak_mark text (t ∷ w ∷ []) = if same (piece text t) (codes ",") then weak_word w.kind (piece text w) else Err Syntax
 weak_mark text (t ∷ w ∷ u ∷ []) =
@@ -127,7 +127,7 @@ weak_mark text (t ∷ w ∷ u ∷ []) =
 weak_mark text (t ∷ w ∷ u ∷ v ∷ ts) = Err Syntax
 
 -- tokens as a name, and whether it is weak
-abbrev pub import_of : List ℕ → List Token → Result (List ℕ × Bool) LineKind
+abbrev pub import_of : List ℕ → List Token → Result (List ℕ × Option Bool) LineKind
 import_of text [] = Err Syntax
 import_of text (t ∷ ts) = on_both (λ n weak. (n, weak)) (name_of t.kind (piece text t)) (weak_mark text ts)
 
@@ -157,7 +157,7 @@ abbrev pub Area : List ℕ → List (List Token) → Result DirectiveLine LineKi
 Area text [] r = r ≡ Err Syntax
 Area text (o ∷ os) r =
     (align : Result (Option Expr) LineKind) × ReadsAttributes text os align
-    × (r ≡ on_both (λ n attributes. line.Area n attributes) (name_alone text o) (agreed (attributes_in text os) align))
+    × (r ≡ on_both (λ n attributes. line.Area n attributes) (name_alone text o) (mapped (attributes_written text os) align))
 
 abbrev pub Register : List ℕ → Option ℕ → List Token → Result DirectiveLine LineKind → Type 0
 Register text (Some n) ts r = r ≡ Ok (line.Rn (rn.Register n))
@@ -230,7 +230,7 @@ unnamed _ = Syntax
 -- a statement of the line
 abbrev pub statement_of : Flat → Option (List ℕ) → DirectiveLine → Option Statement
 statement_of flat label l =
-    Some (record { source = flat.source; number = flat.number; label = label; what = what.Directive l })
+    Some (record { source = flat.source; number = flat.number; label = label; what = what.Directive l; is_long = false })
 
 abbrev pub SaysAs : Flat → Sentence → Option Directive → Result (Option Statement) LineKind → Type 0
 SaysAs flat s None r = r ≡ Ok None

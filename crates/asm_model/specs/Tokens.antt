@@ -1,10 +1,8 @@
 -- The tokens of a line. ARM SDT 2.50 Reference Guide, chapter on the assembler: a label stands in column 1,
 -- then come an operation and its operands; that what follows TTL or SUBT is free is this project's.
-use Rattle.std.specs.Prelude.{◌≡◌, ℕ, ◌+◌, ◌-◌, ◌<◌, ◌≤◌, List, [], ◌∷◌, length, take, drop, nat_lt, ◌==◌, ◌||◌, Bool, true, false, IsTrue, if◌then◌else◌, codes, map, Some, None, Result, Ok, Err, MatchBool, ◌⊎◌}
+use Rattle.std.specs.Prelude.{◌≡◌, ℕ, ◌+◌, ◌-◌, ◌<◌, ◌≤◌, List, [], ◌∷◌, length, take, drop, nat_lt, ◌==◌, ◌||◌, Bool, true, false, IsTrue, if◌then◌else◌, codes, map, Option, Some, None, MatchBool}
 use Rattle.std.specs.List.{list_any, prefix_len}
 use Rattle.std.specs.Char.{to_ascii_lowercase}
-use Rattle.sdt_fault.specs.declared.kinds.LineKind.{LineKind}
-use Rattle.sdt_fault.specs.declared.kinds.LineKind.TheVariants.{Syntax, TooMany}
 use Rattle.asm_model.specs.declared.tokens.Token.{Token}
 use Rattle.asm_model.specs.declared.tokens.Due.{Due}
 use Rattle.asm_model.specs.declared.tokens.Due.TheVariants.{Label, Operation, Operands, Nothing}
@@ -106,13 +104,11 @@ is_long t = longer_than t.kind (width t)
     longer_than Local n = false
     longer_than Sign n = false
 
--- what reading a line gives: its tokens; Syntax exactly where it has none; TooMany where one is too long a name
-abbrev pub Scans : List ℕ → Result (List Token) LineKind → Type 0
-Scans text (Ok ts) = Tokens text ts × (list_any is_long ts ≡ false)
-Scans text (Err kind) =
-    ((kind ≡ Syntax) × NoTokens text)
-    ⊎ ((kind ≡ TooMany) × ((ts : List Token) × Tokens text ts × (list_any is_long ts ≡ true)))
+-- the tokens of a line, or that it has none
+abbrev pub AreTokens : List ℕ → Option (List Token) → Type 0
+AreTokens text None = NoTokens text
+AreTokens text (Some ts) = Tokens text ts
 
--- a line has one list of tokens, or one fault
+-- a line has one list of tokens, or none
 abbrev pub OneScan : Type 0
-OneScan = (text : List ℕ) (a b : Result (List Token) LineKind) → Scans text a → Scans text b → a ≡ b
+OneScan = (text : List ℕ) (a b : Option (List Token)) → AreTokens text a → AreTokens text b → a ≡ b

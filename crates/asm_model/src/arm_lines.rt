@@ -73,13 +73,14 @@ pub enum ArmLine {
         condition: Condition,
         rm: Register,
     },
-    /// `MRS{c} Rd,CPSR`, or `SPSR` where `saved`.
+    /// `MRS{c} Rd,CPSR`, or `SPSR` where `saved`, which is None where the word names no status register.
     ReadStatus {
         condition: Condition,
-        saved: bool,
+        saved: Option<bool>,
         rd: Register,
     },
-    /// `MSR{c} CPSR_fsxc,Rm`; `fields` has a bit for each of the letters, f the highest.
+    /// `MSR{c} CPSR_fsxc,Rm`; `fields` has a bit for each of the letters, f the highest, and none where the word names
+    /// no fields of a status register.
     WriteStatus {
         condition: Condition,
         saved: bool,

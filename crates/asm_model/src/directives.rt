@@ -71,11 +71,13 @@ pub enum DirectiveLine {
     },
     Import {
         name: Text,
-        weak: bool,
+        /// None where the mark is another word than WEAK.
+        weak: Option<bool>,
     },
     Extern {
         name: Text,
-        weak: bool,
+        /// None where the mark is another word than WEAK.
+        weak: Option<bool>,
     },
     Keep {
         name: Text,
@@ -138,6 +140,8 @@ pub struct AreaAttributes {
     pub reentrant: bool,
     /// The exponent of the area's alignment.
     pub align: Option<Expr>,
+    /// Whether a word is no attribute, stands twice or excludes another.
+    pub has_bad_word: bool,
 }
 
 /// What an area holds.

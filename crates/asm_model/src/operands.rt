@@ -33,6 +33,8 @@ pub enum Indexing {
     After,
     /// `[Rn],..` with the suffix T.
     Translated,
+    /// `[Rn,..]` with the suffix T, which has no such address.
+    TranslatedBefore,
 }
 
 /// The place that a transfer with a number as its offset names.

@@ -16,6 +16,8 @@ pub struct Statement {
     pub number: u32,
     pub label: Option<Text>,
     pub what: What,
+    /// Whether a name on the line is beyond the limit.
+    pub is_long: bool,
 }
 
 #[derive(Debug, Drop)]

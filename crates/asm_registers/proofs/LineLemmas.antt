@@ -19,11 +19,10 @@ use Rattle.asm_model.specs.declared.statements.What.TheVariants as what
 use Rattle.asm_model.specs.Meaning.{named_in}
 use Rattle.asm_model.specs.FaultSets.{first_told}
 use Rattle.asm_model.specs.Forms.{same}
-use Rattle.asm_model.specs.Kinds.{told_kind}
+use Rattle.asm_model.specs.Kinds.{told_kind, kind_if}
 use Rattle.asm_model.proofs.FaultLemmas.{told_by_parts}
 use Rattle.asm_model.specs.Labels.{defined_by}
 use Rattle.asm_model.specs.Laid.{LaidLine, reversed}
-use Rattle.asm_model.specs.LayoutKinds.{kind_if}
 use Rattle.source_model.specs.Registers.{Named, register_in, named_by, register_names, registers_behind, registers_of, no_register, kinds_unless, name_kinds, names_kinds, number_of, range_kinds, is_pc, has_row, thumb_list, has_pseudo, pseudo_kinds, operand_kinds, given_kinds, register_kinds}
 use Rattle.asm_registers.specs.declared.registers.Registers.{Registers}
 use Rattle.asm_sets.specs.Sets.{HaveSame}

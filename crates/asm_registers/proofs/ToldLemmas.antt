@@ -6,9 +6,8 @@ use Rattle.asm_model.specs.declared.operands.Register.{Register}
 use Rattle.asm_model.specs.declared.operands.ListItem.{ListItem}
 use Rattle.asm_model.specs.declared.operands.ListItem.TheVariants as item
 use Rattle.asm_model.specs.FaultSets.{first_told}
-use Rattle.asm_model.specs.Kinds.{told_kind}
+use Rattle.asm_model.specs.Kinds.{told_kind, kind_if}
 use Rattle.asm_model.proofs.FaultLemmas.{first_assoc, told_by_parts}
-use Rattle.asm_model.specs.LayoutKinds.{kind_if}
 use Rattle.source_model.specs.Registers.{Named, name_kinds, names_kinds, item_registers, list_registers, number_of, falls, range_kinds}
 use Rattle.asm_registers.specs.declared.naming.Scope.{Scope}
 use Rattle.asm_registers.specs.Scoped.{told_of}

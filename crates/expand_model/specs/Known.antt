@@ -1,11 +1,12 @@
 -- The expressions of IF, WHILE, SETA, SETL and SETS. They know the variables and each name that an EQU of an earlier
 -- flat line made a number by what was known there, without variables; a label, this place, the storage map and every
--- other name is Forward, and a number that is too large is Constant. `:DEF:` is true of a variable and of what stands in
+-- other name is Forward, a number that is too large is Constant, and a name beyond the limit is TooMany. `:DEF:` is true of a variable and of what stands in
 -- the label field of an earlier flat line. This project's.
-use Rattle.std.specs.Prelude.{◌≡◌, ℕ, List, [], ◌∷◌, ◌++◌, map, false, if◌then◌else◌, Option, Some, None, Result, Ok, Err}
+use Rattle.std.specs.Prelude.{◌≡◌, ℕ, List, [], ◌∷◌, ◌++◌, map, Bool, false, if◌then◌else◌, Option, Some, None, Result, Ok, Err}
+use Rattle.std.specs.List.{list_any}
 use Rattle.std.specs.Option.{is_some}
 use Rattle.sdt_fault.specs.declared.kinds.LineKind.{LineKind}
-use Rattle.sdt_fault.specs.declared.kinds.LineKind.TheVariants.{Syntax, Constant, Forward}
+use Rattle.sdt_fault.specs.declared.kinds.LineKind.TheVariants.{Syntax, Constant, Forward, TooMany}
 use Rattle.asm_model.specs.declared.exprs.Expr.{Expr}
 use Rattle.asm_model.specs.declared.exprs.ExprItem.{ExprItem}
 use Rattle.asm_model.specs.declared.exprs.ExprItem.TheVariants as item
@@ -18,23 +19,33 @@ use Rattle.asm_model.specs.declared.values.Value.{Value}
 use Rattle.asm_model.specs.declared.values.Value.TheVariants.{Number}
 use Rattle.asm_model.specs.Entries.{valued_entry}
 use Rattle.asm_model.specs.Grammar.{Tree, Leaf, Before, Between, ParsesTokens}
-use Rattle.asm_model.specs.Kinds.{told_kind}
+use Rattle.asm_model.specs.Kinds.{told_kind, kind_if}
 use Rattle.asm_model.specs.Meaning.{named_in, meaning}
 use Rattle.asm_model.specs.Says.{sentence}
-use Rattle.asm_model.specs.Tokens.{Scans}
+use Rattle.asm_model.specs.Tokens.{AreTokens}
 use Rattle.asm_model.specs.Trees.{tree_of}
+use Rattle.expand_model.specs.Prototypes.{is_long}
 use Rattle.expand_model.specs.States.{Table, State, locals_of}
 
 -- what the tokens behind a line's operation read as: an expression, or the kind of its fault
 abbrev pub Operand : Type 0
 Operand = Result Expr LineKind
 
-abbrev pub FromScan : List ℕ → Result (List Token) LineKind → Operand → Type 0
-FromScan text (Ok ts) x = ParsesTokens text (sentence ts).behind x
-FromScan text (Err k) x = x ≡ Err k
+abbrev pub FromTokens : List ℕ → Option (List Token) → Operand → Type 0
+FromTokens text None x = x ≡ Err Syntax
+FromTokens text (Some ts) x = ParsesTokens text (sentence ts).behind x
 
 abbrev pub ReadsExpression : List ℕ → Operand → Type 0
-ReadsExpression text x = (scan : Result (List Token) LineKind) × Scans text scan × FromScan text scan x
+ReadsExpression text x = (ts : Option (List Token)) × AreTokens text ts × FromTokens text ts x
+
+-- a name beyond the limit
+abbrev pub is_long_item : ExprItem → Bool
+is_long_item (item.Name name) = is_long name
+is_long_item _ = false
+
+abbrev pub long_kinds : Operand → List LineKind
+long_kinds (Ok e) = kind_if (list_any is_long_item e.items) TooMany
+long_kinds (Err k) = []
 
 -- ---- names
 

@@ -6,6 +6,7 @@ use Rattle.std.specs.List.{list_any, prefix_len}
 use Rattle.sdt_fault.specs.declared.kinds.LineKind.{LineKind}
 use Rattle.sdt_fault.specs.declared.kinds.LineKind.TheVariants.{BadOperand, DuplicateName, TooMany}
 use Rattle.asm_model.specs.Forms.{same, is_name}
+use Rattle.asm_model.specs.Kinds.{kind_if}
 use Rattle.asm_model.specs.Limits.{name_bytes}
 use Rattle.expand_model.specs.declared.macros.Macro.{Macro}
 use Rattle.expand_model.specs.declared.macros.Parameter.{Parameter}
@@ -71,10 +72,6 @@ is_long name = nat_lt name_bytes (length name)
 abbrev pub macro_named : List ℕ → List Macro → Option Macro
 macro_named name [] = None
 macro_named name (m ∷ ms) = if same m.prototype.name name then Some m else macro_named name ms
-
--- the kind, where the test holds
-abbrev pub kind_if : Bool → LineKind → List LineKind
-kind_if b k = if b then k ∷ [] else []
 
 -- the name is that of a macro
 abbrev pub is_macro : List Macro → List ℕ → Bool

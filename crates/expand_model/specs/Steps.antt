@@ -13,11 +13,11 @@ use Rattle.asm_model.specs.declared.lines.Line.{Line}
 use Rattle.asm_model.specs.declared.values.Value.{Value}
 use Rattle.asm_model.specs.declared.values.Value.TheVariants.{Number, Truth, Words}
 use Rattle.asm_model.specs.Forms.{same}
-use Rattle.asm_model.specs.Kinds.{earliest, told_kind}
+use Rattle.asm_model.specs.Kinds.{earliest, told_kind, kind_if}
 use Rattle.asm_model.specs.Limits.{line_bytes}
 use Rattle.asm_model.specs.Lines.{numbered, first_beyond}
 use Rattle.asm_model.specs.Tokens.{is_called}
-use Rattle.expand_model.specs.Known.{Operand, ReadsExpression, value_of, known_number}
+use Rattle.expand_model.specs.Known.{Operand, ReadsExpression, long_kinds, value_of, known_number}
 use Rattle.expand_model.specs.Operations.{operation_of}
 use Rattle.expand_model.specs.declared.macros.Macro.{Macro}
 use Rattle.expand_model.specs.declared.macros.Prototype.{Prototype}
@@ -29,7 +29,7 @@ use Rattle.expand_model.specs.declared.operations.Sort.{Sort}
 use Rattle.expand_model.specs.declared.operations.Sort.TheVariants.{Arithmetic, Logical, Textual}
 use Rattle.expand_model.specs.Pairing.{Skipped, skipped, Taken, taken, raw_operation}
 use Rattle.expand_model.specs.Pairing as pairing
-use Rattle.expand_model.specs.Prototypes.{prototype_of, prototype_kinds, macro_named, kind_if, is_long, scope_of, call_kinds}
+use Rattle.expand_model.specs.Prototypes.{prototype_of, prototype_kinds, macro_named, is_long, scope_of, call_kinds}
 use Rattle.expand_model.specs.States.{State, Scope, found, visited, with_scope, locals_of, variable, declared_global, declared_local, with_variable}
 use Rattle.expand_model.specs.Substitution.{substituted}
 use Rattle.expand_model.specs.Words.{words_of, as_name, is_empty, listed, operand_text}
@@ -196,10 +196,10 @@ abbrev pub of_type : Sort → Result Value LineKind → Result Value LineKind
 of_type sort (Ok v) = if is_of sort v then Ok v else Err WrongType
 of_type sort (Err k) = Err k
 
-abbrev pub sets : Line → Sort → State → List Line → Option (List ℕ) → Result Value LineKind → Next
-sets l sort s ls None r = bad l Syntax
-sets l sort s ls (Some name) r =
-    valued l (target_kinds sort (variable s name)) (of_type sort r) (λ v. Go (with_variable name v s) ls)
+abbrev pub sets : Line → Sort → State → List Line → Option (List ℕ) → List LineKind → Result Value LineKind → Next
+sets l sort s ls None kinds r = bad l Syntax
+sets l sort s ls (Some name) kinds r =
+    valued l (target_kinds sort (variable s name) ++ kinds) (of_type sort r) (λ v. Go (with_variable name v s) ls)
 
 -- ---- conditions and loops
 
@@ -315,8 +315,10 @@ Reads s [] x = x ≡ Err Syntax
 Reads s (l ∷ ls) x = ReadsText s.macros (substituted s l.text) x
 
 abbrev pub said_word : Sources → Depth → Line → word.Words → Operand → State → List Line → Operation → Next
-said_word sources d l w x s ls If = valued l (label_kinds w ++ depth_kinds d) (truth (value_of s x)) (branch l s ls)
-said_word sources d l w x s ls While = valued l (label_kinds w ++ depth_kinds d) (truth (value_of s x)) (loop l s ls)
+said_word sources d l w x s ls If =
+    valued l (label_kinds w ++ depth_kinds d ++ long_kinds x) (truth (value_of s x)) (branch l s ls)
+said_word sources d l w x s ls While =
+    valued l (label_kinds w ++ depth_kinds d ++ long_kinds x) (truth (value_of s x)) (loop l s ls)
 said_word sources d l w x s ls operation.Macro = judged l (told_kind (alone_kinds w)) (definition l s ls)
 said_word sources d l w x s ls MEnd = judged l (told_kind (alone_kinds w)) (bad l Nesting)
 said_word sources d l w x s ls MExit = judged l (told_kind (alone_kinds w)) (Stop (Left l s))
@@ -324,7 +326,7 @@ said_word sources d l w x s ls Get =
     judged l (told_kind (file_kinds d w)) (got (operand_text w.behind) s ls (sources (operand_text w.behind)))
 said_word sources d l w x s ls (Global sort) = declares_global l w sort s ls (as_name (operand_text w.behind))
 said_word sources d l w x s ls (Local sort) = declares_local l w sort s ls (as_name (operand_text w.behind))
-said_word sources d l w x s ls (Set sort) = sets l sort s ls (as_name w.label) (value_of s x)
+said_word sources d l w x s ls (Set sort) = sets l sort s ls (as_name w.label) (long_kinds x) (value_of s x)
 said_word sources d l w x s ls o = judged l (told_kind (alone_kinds w)) (Stop (Closed o l s ls))
 
 unfoldable pub said : Sources → Depth → Line → List ℕ → Operand → State → List Line → Kind → Next

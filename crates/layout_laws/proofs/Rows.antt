@@ -17,7 +17,7 @@ use Rattle.asm_model.specs.Laid.{laid, source_lines, all_entries, final_names}
 use Rattle.asm_model.specs.Sound.{IsSound, ArePlain}
 
 abbrev says : ℕ → Option (List ℕ) → DirectiveLine → Statement
-says n label l = record { source = codes "t.s"; number = n; label = label; what = what.Directive l }
+says n label l = record { source = codes "t.s"; number = n; label = label; what = what.Directive l; is_long = false }
 
 abbrev area : Statement
 area = says 1 None (line.Area (codes "a") (record {
@@ -28,6 +28,7 @@ area = says 1 None (line.Area (codes "a") (record {
   pic = false;
   reentrant = false;
   align = None;
+  has_bad_word = false;
 }))
 
 abbrev equal : ℕ → List ℕ → List ExprItem → Statement

@@ -8,12 +8,12 @@ use Rattle.asm_model.specs.declared.exprs.Expr.{Expr}
 use Rattle.asm_model.specs.declared.statements.Statement.{Statement}
 use Rattle.asm_model.specs.Directives.{or_else}
 use Rattle.asm_model.specs.Forms.{same}
-use Rattle.asm_model.specs.Kinds.{told_kind}
+use Rattle.asm_model.specs.Kinds.{told_kind, kind_if}
 use Rattle.asm_model.proofs.WordLemmas.{same_refl, same_true}
 use Rattle.asm_model.specs.Labels.{Defined, Equal, defined_by, imported_in}
 use Rattle.asm_model.specs.Laid.{LaidLine, statements_of, laid_behind, laid_of}
 use Rattle.asm_model.specs.Exprs.{has_large}
-use Rattle.asm_model.specs.LayoutKinds.{fault_kinds, kind_if, map_kinds, no_area_kinds, contents_kinds, contents_behind, area_kinds, own_name, listed, names_in, names_behind, is_entry, is_repeated, name_kinds, first_equal, equals_in, are_settled, settled_by, settled_kinds, state_kinds, layout_kinds, told_at, first_fault, area_bytes}
+use Rattle.asm_model.specs.LayoutKinds.{fault_kinds, map_kinds, no_area_kinds, contents_kinds, contents_behind, area_kinds, own_name, listed, names_in, names_behind, is_entry, is_repeated, name_kinds, first_equal, equals_in, are_settled, settled_by, settled_kinds, state_kinds, layout_kinds, told_at, first_fault, area_bytes}
 use Rattle.asm_model.specs.Sound.{HaveNoPlaces, IsPlain, ArePlain}
 use Rattle.layout_laws.proofs.EqualLemmas.{equal_of, all_equals, EachEqual, equal_both, equal_joined}
 use Rattle.base_lemmas.proofs.BaseLemmas.{not_false}
@@ -82,7 +82,7 @@ line_sound S all l before h =
     let c = settled_kinds S (first_equal (defined_by l.statement) (statements_of before)) in
     let d = state_kinds l.area l.thumb l.statement.what all in
     let e = kind_if (nat_lt area_bytes (l.offset + l.size)) TooMany in
-    let n = both_empty (a ++ b ++ c ++ d ++ e) (kind_if (has_large l.statement.what) Constant) h in
+    let n = both_empty (a ++ b ++ c ++ d ++ e) (own_kinds l.statement) h in
     let o = both_empty (a ++ b ++ c ++ d) e n.0 in
     let p = both_empty (a ++ b ++ c) d o.0 in
     let q = both_empty (a ++ b) c p.0 in

@@ -27,8 +27,9 @@ use Rattle.asm_model.specs.Forms.{same}
 use Rattle.asm_model.proofs.WordLemmas.{same_refl}
 use Rattle.asm_model.specs.Before.{thumb_behind, area_named, with_name, areas_behind, area_behind}
 use Rattle.asm_model.specs.Labels.{declared_names}
+use Rattle.asm_model.specs.Kinds.{kind_if}
 use Rattle.asm_model.specs.Laid.{LaidLine, pieces_of, laid_behind, laid_of, laid}
-use Rattle.asm_model.specs.LayoutKinds.{kind_if, exponent, exponent_kinds, is_named_otherwise, area_kinds, contents_kinds, is_instruction, state_at, first_state, is_thumb_area, settled, equals_in}
+use Rattle.asm_model.specs.LayoutKinds.{exponent, exponent_kinds, is_named_otherwise, area_kinds, contents_kinds, is_instruction, state_at, first_state, is_thumb_area, settled, equals_in}
 use Rattle.asm_model.specs.Offsets.{is_of}
 use Rattle.layout_laws.proofs.SoundLemmas.{both_empty, kind_none, statements_kept}
 use Rattle.said_model.specs.Fit.{WhatFits, IsFit}

@@ -5,11 +5,11 @@ use Rattle.sdt_fault.specs.declared.kinds.LineKind.{LineKind}
 use Rattle.sdt_fault.specs.declared.kinds.LineKind.TheVariants.{Constant, TooMany}
 use Rattle.asm_model.specs.declared.statements.Statement.{Statement}
 use Rattle.asm_model.specs.declared.values.Value.{Value}
-use Rattle.asm_model.specs.Kinds.{told_kind}
+use Rattle.asm_model.specs.Kinds.{told_kind, kind_if}
 use Rattle.asm_model.specs.Exprs.{has_large}
 use Rattle.asm_model.specs.Labels.{defined_by}
 use Rattle.asm_model.specs.Laid.{LaidLine, statements_of, taken, pieces_of, reversed, laid, final_names}
-use Rattle.asm_model.specs.LayoutKinds.{fault_kinds, kind_if, map_kinds, no_area_kinds, contents_kinds, contents_behind, area_kinds, name_kinds, settled_kinds, first_equal, state_kinds, area_bytes, layout_kinds, told_at, first_fault, entry_kinds, literal_kinds, first_late, settled, equals_in}
+use Rattle.asm_model.specs.LayoutKinds.{fault_kinds, map_kinds, no_area_kinds, contents_kinds, contents_behind, area_kinds, name_kinds, settled_kinds, first_equal, state_kinds, area_bytes, layout_kinds, told_at, first_fault, entry_kinds, literal_kinds, first_late, settled, equals_in}
 use Rattle.asm_model.specs.Marks.{datum_names}
 use Rattle.asm_model.specs.Offsets.{area_size}
 use Rattle.asm_model.specs.Symbols.{literal_value}
@@ -52,7 +52,7 @@ last_kinds S all l before h =
     ++ name_kinds l.statement (statements_of before) ++ settled_kinds S (first_equal (defined_by l.statement) (statements_of before)) in
     let b = state_kinds l.area l.thumb l.statement.what all in
     let c = kind_if (nat_lt area_bytes (l.offset + l.size)) TooMany in
-    let o = both_empty (a ++ b ++ c) (kind_if (has_large l.statement.what) Constant) h in
+    let o = both_empty (a ++ b ++ c) (own_kinds l.statement) h in
     let p = both_empty (a ++ b) c o.0 in ((both_empty a b p.0).1, p.1)
 
 abbrev pub late_kinds : List LaidLine → List LaidLine → LaidLine → List LaidLine → List LineKind

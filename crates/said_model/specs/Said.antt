@@ -124,6 +124,7 @@ HalfSaid false SignedHalf = ⊥
 -- the suffix T is one of words and bytes
 abbrev pub IsUntranslated : Indexing → Type 0
 IsUntranslated indexing.Translated = ⊥
+IsUntranslated indexing.TranslatedBefore = ⊥
 IsUntranslated _ = Unit {0}
 
 abbrev pub ArmSaid : ArmLine → Type 0

@@ -4,12 +4,12 @@ use Rattle.std.specs.Prelude.{Result, Ok, Err}
 use Rattle.sdt_fault.specs.declared.kinds.LineKind.{LineKind}
 use Rattle.sdt_fault.specs.declared.kinds.LineKind.TheVariants.{Constant, TooMany}
 use Rattle.asm_model.specs.declared.statements.Statement.{Statement}
-use Rattle.asm_model.specs.Kinds.{told_kind}
+use Rattle.asm_model.specs.Kinds.{told_kind, kind_if}
 use Rattle.asm_model.specs.Exprs.{has_large}
 use Rattle.asm_model.specs.Extents.{Extent}
 use Rattle.asm_model.specs.Laid.{LaidLine, statements_of, taken, pieces_of, laid_behind, laid_of, laid}
 use Rattle.asm_model.specs.Labels.{defined_by, declared_names}
-use Rattle.asm_model.specs.LayoutKinds.{fault_kinds, kind_if, map_kinds, no_area_kinds, contents_kinds, contents_behind, area_kinds, name_kinds, settled_kinds, first_equal, state_kinds, equals_in, settled, layout_kinds, told_at, first_fault, area_bytes}
+use Rattle.asm_model.specs.LayoutKinds.{fault_kinds, map_kinds, no_area_kinds, contents_kinds, contents_behind, area_kinds, name_kinds, settled_kinds, first_equal, state_kinds, equals_in, settled, layout_kinds, told_at, first_fault, area_bytes}
 use Rattle.asm_model.specs.Offsets.{Piece, lacking, waiting, alignment_of, end_behind, start_in, size_of, offset_of, size_behind, end_from, area_size}
 use Rattle.asm_model.proofs.LaidLemmas.{lines_stand_at_offsets}
 use Rattle.asm_model.proofs.OffsetLemmas.{more, through, end_here, end_rises, all_rise, up_to_size}
@@ -52,7 +52,7 @@ line_known S all l before h =
     (contents_kinds (contents_behind (l.statement ∷ statements_of before)) l.thumb l.statement.what)
     (area_kinds l.seen l.statement.what before) (name_kinds l.statement (statements_of before))
     (settled_kinds S (first_equal (defined_by l.statement) (statements_of before))) (state_kinds l.area l.thumb l.statement.what all) (kind_if (nat_lt area_bytes (l.offset + l.size)) TooMany)
-    (kind_if (has_large l.statement.what) Constant) h
+    (own_kinds l.statement) h
 
 pub stands_there : (d : List LaidName) (ss : List Statement) (after before : List LaidLine) (l : LaidLine) (x : Extent) → laid_of d ss ≡ after ++ l ∷ before → l.extent ≡ Ok x
     → (l.offset ≡ offset_of l.area (pieces_of before) x) × (l.size ≡ size_behind l.area (pieces_of before) x)

@@ -16,13 +16,13 @@ use Rattle.asm_model.specs.declared.statements.What.TheVariants as what
 use Rattle.asm_model.specs.declared.names.Names.{Names}
 use Rattle.asm_model.specs.Directives.{or_else}
 use Rattle.asm_model.specs.Forms.{same}
-use Rattle.asm_model.specs.Kinds.{told_kind}
+use Rattle.asm_model.specs.Kinds.{told_kind, kind_if}
 use Rattle.asm_model.proofs.WordLemmas.{same_refl, same_true}
 use Rattle.asm_model.specs.Before.{area_named, with_name, areas_behind, place_of, area_from, area_behind}
 use Rattle.asm_model.specs.Labels.{defined_by, declared_names}
 use Rattle.asm_model.specs.Exprs.{has_large}
 use Rattle.asm_model.specs.Laid.{LaidLine, statements_of, laid_of, laid}
-use Rattle.asm_model.specs.LayoutKinds.{fault_kinds, kind_if, map_kinds, no_area_kinds, is_zero_statement, contents_kinds, contents_from, contents_behind, exponent, exponent_kinds, same_contents, same_mark, same_exponent, same_attributes, again_with, is_named_otherwise, area_kinds, name_kinds, equals_in, settled, settled_kinds, first_equal, state_kinds, layout_kinds, told_at, first_fault, area_bytes}
+use Rattle.asm_model.specs.LayoutKinds.{fault_kinds, map_kinds, no_area_kinds, is_zero_statement, contents_kinds, contents_from, contents_behind, exponent, exponent_kinds, same_contents, same_mark, same_exponent, same_attributes, again_with, is_named_otherwise, area_kinds, name_kinds, equals_in, settled, settled_kinds, first_equal, state_kinds, layout_kinds, told_at, first_fault, area_bytes}
 use Rattle.asm_model.specs.Marks.{datum_names}
 use Rattle.asm_model.specs.Offsets.{is_of}
 use Rattle.asm_model.proofs.OffsetLemmas.{is_here}
@@ -285,7 +285,7 @@ line_kinds S all l before h =
     let e = settled_kinds S (first_equal (defined_by l.statement) (statements_of before)) in
     let f = state_kinds l.area l.thumb l.statement.what all in
     let g = kind_if (nat_lt area_bytes (l.offset + l.size)) TooMany in
-    let n = both_empty (a ++ b ++ c ++ d ++ e ++ f ++ g) (kind_if (has_large l.statement.what) Constant) h in
+    let n = both_empty (a ++ b ++ c ++ d ++ e ++ f ++ g) (own_kinds l.statement) h in
     let o = both_empty (a ++ b ++ c ++ d ++ e ++ f) g n.0 in
     let p = both_empty (a ++ b ++ c ++ d ++ e) f o.0 in
     let q = both_empty (a ++ b ++ c ++ d) e p.0 in

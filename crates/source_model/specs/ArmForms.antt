@@ -28,6 +28,7 @@ use Rattle.asm_model.specs.declared.arm_lines.ArmLine.{ArmLine}
 use Rattle.asm_model.specs.declared.arm_lines.ArmLine.TheVariants as arm
 use Rattle.asm_model.specs.declared.values.Value.{Value}
 use Rattle.asm_model.specs.declared.values.Value.TheVariants.{Number, Place}
+use Rattle.asm_model.specs.LayoutKinds.{is_true}
 use Rattle.asm_model.specs.Meaning.{named_in, stands_at}
 use Rattle.asm_model.specs.Says.{mapped}
 use Rattle.asm_model.specs.Symbols.{is_in_area, keeps_state}
@@ -57,12 +58,14 @@ is_before indexing.Offset = true
 is_before indexing.Before = true
 is_before indexing.After = false
 is_before indexing.Translated = false
+is_before indexing.TranslatedBefore = true
 
 abbrev pub writes_back : Indexing → Bool
 writes_back indexing.Offset = false
 writes_back indexing.Before = true
 writes_back indexing.After = false
 writes_back indexing.Translated = true
+writes_back indexing.TranslatedBefore = true
 
 abbrev pub transfer_at : Context → Condition → Bool → Bool → ℕ → Address → Result ArmInstr LineKind
 transfer_at c condition load byte rd (address.Based rn ix e) =
@@ -153,7 +156,7 @@ arm_instruction c (arm.MultiplyLong condition signed accumulate set_flags low hi
     Ok (instr.MultiplyLong condition signed accumulate set_flags (register c high) (register c low) (register c rs) (register c rm))
 arm_instruction c (arm.Swap condition byte rd rm rn) = Ok (instr.Swap condition byte (register c rn) (register c rd) (register c rm))
 arm_instruction c (arm.BranchExchange condition rm) = Ok (instr.BranchExchange condition (register c rm))
-arm_instruction c (arm.ReadStatus condition saved rd) = Ok (instr.ReadStatus condition saved (register c rd))
+arm_instruction c (arm.ReadStatus condition saved rd) = Ok (instr.ReadStatus condition (is_true saved) (register c rd))
 arm_instruction c (arm.WriteStatus condition saved fields rm) = Ok (instr.WriteStatus condition saved fields (register c rm))
 arm_instruction c (arm.WriteStatusImmediate condition saved fields e) =
     and_then (number_in c e) (λ n. status_of condition saved fields (immediate n))

@@ -32,11 +32,12 @@ use Rattle.asm_model.specs.declared.statements.PseudoLine.TheVariants as pseudo
 use Rattle.asm_model.specs.declared.statements.What.{What}
 use Rattle.asm_model.specs.declared.statements.What.TheVariants as what
 use Rattle.asm_model.specs.Forms.{same}
+use Rattle.asm_model.specs.Kinds.{kind_if}
 use Rattle.asm_model.specs.Meaning.{named_in}
 use Rattle.asm_model.specs.Extents.{number_there}
 use Rattle.asm_model.specs.Labels.{Defined, RegisterName, defined_by}
 use Rattle.asm_model.specs.Laid.{LaidLine}
-use Rattle.asm_model.specs.LayoutKinds.{fault_kinds, kind_if}
+use Rattle.asm_model.specs.LayoutKinds.{fault_kinds}
 
 -- a name with its register
 abbrev pub Named : Type 0

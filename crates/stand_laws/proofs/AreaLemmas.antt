@@ -14,10 +14,10 @@ use Rattle.asm_model.specs.declared.statements.Statement.{Statement}
 use Rattle.asm_model.specs.declared.statements.What.{What}
 use Rattle.asm_model.specs.declared.statements.What.TheVariants as what
 use Rattle.asm_model.specs.Directives.{or_else}
-use Rattle.asm_model.specs.Kinds.{told_kind}
+use Rattle.asm_model.specs.Kinds.{told_kind, kind_if}
 use Rattle.asm_model.specs.Before.{area_named, areas_behind}
 use Rattle.asm_model.specs.Laid.{LaidLine, statements_of, taken, pieces_of, laid}
-use Rattle.asm_model.specs.LayoutKinds.{exponent, exponent_kinds, is_named_otherwise, kind_if, area_kinds, layout_kinds, told_at, first_fault}
+use Rattle.asm_model.specs.LayoutKinds.{exponent, exponent_kinds, is_named_otherwise, area_kinds, layout_kinds, told_at, first_fault}
 use Rattle.asm_model.specs.Offsets.{is_of, waiting, waiting_behind, end_from, end_behind, area_size}
 use Rattle.layout_laws.proofs.SoundLemmas.{both_empty, or_none, told_none, kind_none}
 use Rattle.source_model.specs.Objects.{or_two, attributes_word, says_area, attributes_of, contents_in, contents_of, is_kept}

@@ -25,7 +25,7 @@ use Rattle.stand_model.proofs.Rows.{here, far, of_own_label, of_imported_word, o
 -- ---- sources; the last line stands first
 
 abbrev says : ℕ → Option (List ℕ) → What → Statement
-says number label w = record { source = []; number = number; label = label; what = w }
+says number label w = record { source = []; number = number; label = label; what = w; is_long = false }
 
 abbrev area : Contents → Statement
 area c = says 1 None (what.Directive (line.Area (codes "words") (record {
@@ -36,6 +36,7 @@ area c = says 1 None (what.Directive (line.Area (codes "words") (record {
   pic = false;
   reentrant = false;
   align = None;
+  has_bad_word = false;
 })))
 
 abbrev import_far : Statement

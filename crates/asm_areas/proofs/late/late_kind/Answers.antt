@@ -1,7 +1,6 @@
 use Rattle.std.proofs.Common.{ap, ◌∙◌}
 use Rattle.sdt_fault.specs.declared.kinds.LineKind.TheVariants.{BadOperand, TooMany}
-use Rattle.asm_model.specs.Kinds.{told_kind}
-use Rattle.asm_model.specs.LayoutKinds.{kind_if}
+use Rattle.asm_model.specs.Kinds.{told_kind, kind_if}
 use Rattle.asm_areas.proofs.LateLemmas.{late_is}
 use Rattle.asm_areas.proofs.late.late_kind.Goals as goal
 

@@ -1,8 +1,8 @@
 use Rattle.std.proofs.Common.{Bool, ◌||◌, ap, ◌∙◌}
 use Rattle.sdt_fault.specs.declared.kinds.LineKind.TheVariants.{DuplicateName, TooMany}
-use Rattle.asm_model.specs.Kinds.{told_kind}
+use Rattle.asm_model.specs.Kinds.{told_kind, kind_if}
 use Rattle.asm_model.proofs.SharedLemmas.{told_of_two}
-use Rattle.expand_model.specs.Prototypes.{kind_if, is_macro}
+use Rattle.expand_model.specs.Prototypes.{is_macro}
 use Rattle.asm_expand.proofs.DefiningLemmas.{known_macro}
 use Rattle.asm_expand.proofs.definitions.prototype_fault.Goals as goal
 

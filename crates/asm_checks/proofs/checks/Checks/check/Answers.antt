@@ -4,8 +4,8 @@ use Rattle.sdt_fault.specs.declared.kinds.LineKind.TheVariants.{Constant}
 use Rattle.asm_model.specs.declared.statements.Statement.{Statement}
 use Rattle.asm_model.specs.Labels.{defined_by}
 use Rattle.asm_model.specs.Laid.{statements_of}
-use Rattle.asm_model.specs.LayoutKinds.{kind_if, contents_from, is_entry, first_equal}
-use Rattle.asm_model.specs.Kinds.{told_kind}
+use Rattle.asm_model.specs.LayoutKinds.{contents_from, is_entry, first_equal}
+use Rattle.asm_model.specs.Kinds.{told_kind, kind_if}
 use Rattle.asm_model.specs.FaultSets.{first_told}
 use Rattle.asm_checks.proofs.ToldLemmas.{none_first, none_of_attributes}
 use Rattle.asm_checks.proofs.LineLemmas.{names_told, line_told}

@@ -1,0 +1,52 @@
+-- The kinds of faults that a statement has by itself: a word that its form doesn't have there, a number that is too
+-- large, and a name beyond the limit. SDT 2.50 Reference Guide, chapter on the assembler.
+use Rattle.std.specs.Prelude.{List, ◌++◌, ◌==◌, not, Bool, true, false}
+use Rattle.std.specs.Option.{is_some}
+use Rattle.sdt_fault.specs.declared.kinds.LineKind.{LineKind}
+use Rattle.sdt_fault.specs.declared.kinds.LineKind.TheVariants.{BadOperand, Constant, TooMany}
+use Rattle.asm_model.specs.declared.operands.Indexing.{Indexing}
+use Rattle.asm_model.specs.declared.operands.Indexing.TheVariants as indexing
+use Rattle.asm_model.specs.declared.operands.Address.{Address}
+use Rattle.asm_model.specs.declared.operands.Address.TheVariants as address
+use Rattle.asm_model.specs.declared.arm_lines.ArmLine.{ArmLine}
+use Rattle.asm_model.specs.declared.arm_lines.ArmLine.TheVariants as arm
+use Rattle.asm_model.specs.declared.directives.DirectiveLine.{DirectiveLine}
+use Rattle.asm_model.specs.declared.directives.DirectiveLine.TheVariants as line
+use Rattle.asm_model.specs.declared.statements.Statement.{Statement}
+use Rattle.asm_model.specs.declared.statements.What.{What}
+use Rattle.asm_model.specs.declared.statements.What.TheVariants as what
+use Rattle.asm_model.specs.Exprs.{has_large}
+use Rattle.asm_model.specs.Kinds.{kind_if}
+
+-- whether an address is one that the suffix T doesn't have
+abbrev pub is_bad_index : Indexing → Bool
+is_bad_index indexing.TranslatedBefore = true
+is_bad_index _ = false
+
+abbrev pub is_bad_address : Address → Bool
+is_bad_address (address.Based rn ix e) = is_bad_index ix
+is_bad_address (address.Label e) = false
+
+abbrev pub is_bad_arm : ArmLine → Bool
+is_bad_arm (arm.ReadStatus condition saved rd) = not (is_some saved)
+is_bad_arm (arm.WriteStatus condition saved fields rm) = fields == 0
+is_bad_arm (arm.WriteStatusImmediate condition saved fields e) = fields == 0
+is_bad_arm (arm.TransferImmediate condition load byte rd a) = is_bad_address a
+is_bad_arm (arm.TransferShifted condition load byte rd rn ix subtract rm by) = is_bad_index ix
+is_bad_arm _ = false
+
+-- whether attributes are bad, or a mark is another than WEAK
+abbrev pub is_bad_directive : DirectiveLine → Bool
+is_bad_directive (line.Area name a) = a.has_bad_word
+is_bad_directive (line.Import name weak) = not (is_some weak)
+is_bad_directive (line.Extern name weak) = not (is_some weak)
+is_bad_directive _ = false
+
+-- whether a statement has a word that its form doesn't have there
+abbrev pub has_bad_word : What → Bool
+has_bad_word (what.Arm l) = is_bad_arm l
+has_bad_word (what.Directive l) = is_bad_directive l
+has_bad_word _ = false
+
+abbrev pub own_kinds : Statement → List LineKind
+own_kinds s = kind_if (has_bad_word s.what) BadOperand ++ own_kinds s ++ kind_if s.is_long TooMany
