@@ -3,15 +3,15 @@ use Rattle.std.proofs.Common.{◌≡◌, ℕ, Bool, List, ◌∷◌, Option, ◌
 use Rattle.std.specs.Prelude.{Result}
 use Rattle.std.specs.List.{list_any}
 use Rattle.sdt_fault.specs.declared.kinds.LineKind.{LineKind}
-use Rattle.sdt_fault.specs.declared.kinds.LineKind.TheVariants.{Constant, DuplicateName}
+use Rattle.sdt_fault.specs.declared.kinds.LineKind.TheVariants.{DuplicateName}
 use Rattle.asm_model.specs.declared.directives.Contents.{Contents}
 use Rattle.asm_model.specs.declared.statements.Statement.{Statement}
-use Rattle.asm_model.specs.Exprs.{has_large}
 use Rattle.asm_model.specs.FaultSets.{first_told}
 use Rattle.asm_model.specs.Kinds.{told_kind, kind_if}
 use Rattle.asm_model.specs.Labels.{defined_by}
 use Rattle.asm_model.specs.Laid.{LaidLine, statements_of}
 use Rattle.asm_model.specs.LayoutKinds.{is_entry, no_area_kinds, contents_kinds, contents_from, contents_behind, area_kinds, is_repeated, names_behind, names_in, name_kinds, first_equal, settled_kinds, state_kinds}
+use Rattle.asm_model.specs.OwnKinds.{own_kinds}
 use Rattle.asm_checks.specs.declared.checks.Checks.{Checks}
 use Rattle.asm_checks.specs.Checked.{checked_kinds, IsChecked, IsLine}
 use Rattle.asm_checks.proofs.ToldLemmas.{told_of_seven}
@@ -25,7 +25,7 @@ names_told s before repeated second had o e f g h =
 
 pub line_told : (settled : List (List ℕ)) (all : List Statement) (s : Statement) (area : Option ℕ) (thumb thumb_area : Bool) (x : Result ℕ LineKind) (circular : Bool)
     (l : LaidLine) (before : List LaidLine)
-    (old : Checks) (contents : Option Contents) (here attributes defined state large : Option LineKind) (nowhere allowed repeated unsettled : Option LineKind)
+    (old : Checks) (contents : Option Contents) (here attributes defined state own : Option LineKind) (nowhere allowed repeated unsettled : Option LineKind)
     → IsChecked before old → IsLine s area thumb thumb_area x circular settled all l before
     → contents ≡ contents_from s.what old.contents
     → nowhere ≡ told_kind (no_area_kinds area (defined_by s) s.what)
@@ -34,9 +34,9 @@ pub line_told : (settled : List (List ℕ)) (all : List Statement) (s : Statemen
     → repeated ≡ told_kind (name_kinds s (statements_of before))
     → unsettled ≡ told_kind (settled_kinds settled (first_equal (defined_by s) (statements_of before)))
     → here ≡ first_told nowhere allowed → defined ≡ first_told repeated unsettled → state ≡ told_kind (state_kinds area thumb s.what all)
-    → large ≡ told_kind (own_kinds s)
-    → first_told (first_told (first_told here (first_told attributes defined)) state) large ≡ told_kind (checked_kinds settled all l before)
-line_told settled all s area thumb thumb_area x circular l before old contents here attributes defined state large nowhere allowed repeated unsettled k i inside a b c d e f g h j =
+    → own ≡ told_kind (own_kinds s)
+    → first_told (first_told (first_told here (first_told attributes defined)) state) own ≡ told_kind (checked_kinds settled all l before)
+line_told settled all s area thumb thumb_area x circular l before old contents here attributes defined state own nowhere allowed repeated unsettled k i inside a b c d e f g h j =
     rw (i.said, i.stands, i.state, h, j)
     (told_of_seven here attributes defined
     (no_area_kinds area (defined_by s) s.what) (contents_kinds (contents_behind (s ∷ statements_of before)) thumb s.what) (area_kinds l.seen s.what before)

@@ -3,6 +3,7 @@
 ghost use Rattle.std.specs.Prelude.{◌≡◌, ◌++◌, ◌∷◌, List, None, Ok, IfOk, OnOk};
 ghost use Rattle.sdt_fault.specs.declared.kinds.LineKind.TheVariants.{BadOperand};
 ghost use Rattle.asm_model.specs.declared.names.Names.{Names};
+ghost use Rattle.asm_model.specs.Kinds as kinds;
 ghost use Rattle.asm_model.specs.Kinds.{told_kind};
 ghost use Rattle.asm_model.specs.Laid.{LaidLine};
 ghost use Rattle.asm_model.specs.LayoutKinds as layout;
@@ -146,7 +147,7 @@ fn named_kind(
     exponent: Result<u32, LineKind>,
 ) -> Result<Option<LineKind>, NoMemory>
     ensures told { IfOk result (λ told. told
-        ≡ told_kind (layout.exponent_kinds exponent ++ layout.kind_if
+        ≡ told_kind (layout.exponent_kinds exponent ++ kinds.kind_if
         (areas_of.is_otherwise attributes.now exponent
         (areas_of.marks_in areas.old name.now)) BadOperand)) }
     ensures noted { OnOk result (IsNoted name.now attributes.now exponent areas.old areas.new) }

@@ -4,14 +4,15 @@ ghost use Rattle.std.specs.Prelude.{◌≡◌, ◌&&◌, ◌||◌, ◌∷◌, []
 ghost use Rattle.sdt_fault.specs.declared.kinds.LineKind.TheVariants.{DuplicateName};
 ghost use Rattle.asm_model.specs.declared.exprs.Expr.{Expr};
 ghost use Rattle.asm_model.specs.declared.statements.Statement.{Statement};
+ghost use Rattle.asm_model.specs.Kinds as kinds;
 ghost use Rattle.asm_model.specs.Kinds.{told_kind};
 ghost use Rattle.asm_model.specs.Laid.{LaidLine};
 ghost use Rattle.asm_model.specs.LayoutKinds as layout;
 ghost use Rattle.asm_checks.specs.Checked.{IsChecked, IsCircular, IsLine, Keeps, Tells};
 
 use crate::areas::{AreaMarks, area_kind};
-use crate::large::has_large;
 use crate::names::is_repeated;
+use crate::own::own_kind;
 use crate::places::{contents_from, contents_kind, is_entry, no_area_kind, state_kind};
 use asm_expr::told::{first_told, kind_if};
 use asm_model::{Contents, Statement, What};
@@ -57,7 +58,7 @@ fn is_second_entry(has_entry: &mut bool, what: &What) -> bool
 
 /// The fault of a name twice, or of a second ENTRY.
 fn name_kind(repeated: bool, second: bool) -> Option<LineKind>
-    ensures { result ≡ told_kind (layout.kind_if (repeated || second) DuplicateName) }
+    ensures { result ≡ told_kind (kinds.kind_if (repeated || second) DuplicateName) }
 {
     if repeated {
         return Some(LineKind::DuplicateName);
@@ -108,7 +109,7 @@ impl Checks {
         let defined = first_told(name_kind(repeated, second), circular_kind(circular));
         let found = first_told(here, first_told(attributes, defined));
         let state = state_kind(&statement.what, area, thumb, thumb_area);
-        let large = kind_if(has_large(&statement.what), LineKind::Constant);
-        Ok(first_told(first_told(found, state), large))
+        let own = own_kind(statement);
+        Ok(first_told(first_told(found, state), own))
     }
 }

@@ -1,5 +1,5 @@
 //! Faults of a line that laying out finds without values: where statements stand, areas that are named again, names
-//! that are defined twice, and numbers that are too large.
+//! that are defined twice, and what a statement has by itself.
 #![tactic(auto)]
 
 mod areas;
@@ -7,6 +7,7 @@ pub mod checks;
 mod labels;
 mod large;
 mod names;
+mod own;
 mod places;
 
 pub use crate::checks::Checks;
