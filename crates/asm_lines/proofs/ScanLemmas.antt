@@ -1,16 +1,15 @@
 -- The token at the front of a rest.
-use Rattle.std.proofs.Common.{◌≡◌, ℕ, ◌≤◌, ◌+◌, List, [], ◌∷◌, ◌++◌, length, take, drop, Bool, true, false, refl, sym, ◌∙◌, ap, arith, Option, Some, None, zero, suc, append-nil, append_assoc, inl, inr, length-drop, add_assoc}
-use Rattle.std.specs.Prelude.{MatchBool, Result, Ok, Err}
+use Rattle.std.proofs.Common.{◌≡◌, ℕ, ◌≤◌, ◌+◌, List, [], ◌∷◌, ◌++◌, length, take, drop, Bool, true, false, refl, sym, ◌∙◌, ap, arith, Option, Some, None, zero, suc, append-nil, append_assoc, length-drop, add_assoc}
+use Rattle.std.specs.Prelude.{MatchBool}
 use Rattle.std.proofs.lemmas.List.{drop-drop}
 use Rattle.std.proofs.lemmas.Bool.{eqb-true}
-use Rattle.sdt_fault.specs.declared.kinds.LineKind.{LineKind}
 use Rattle.asm_model.specs.declared.tokens.Due.{Due}
 use Rattle.asm_model.specs.declared.tokens.Due.TheVariants.{Label, Operation, Operands, Nothing}
 use Rattle.asm_model.specs.declared.tokens.Token.{Token}
 use Rattle.asm_model.specs.declared.tokens.TokenKind.{TokenKind}
 use Rattle.asm_model.specs.declared.tokens.TokenKind.TheVariants.{Sign}
 use Rattle.asm_model.specs.Forms.{form_of}
-use Rattle.asm_model.specs.Tokens.{IsLongest, IsTokenAt, is_operation_sign, blanks, is_end, due_behind, TokensFrom, Tokens, NoTokens, begins_comment, Scans, first_due}
+use Rattle.asm_model.specs.Tokens.{IsLongest, IsTokenAt, is_operation_sign, blanks, is_end, due_behind, TokensFrom, Tokens, NoTokens, begins_comment, OneScan, first_due}
 use Rattle.asm_lines.specs.Steps.{IsTheToken}
 use Rattle.asm_lines.proofs.KindLemmas.{one_longest, some_longest}
 
@@ -170,20 +169,8 @@ one_list (t ∷ ts) (u ∷ us) due place rest p q =
     let same_tail = one_list ts us (due_behind due (take p.0 (drop (blanks rest) rest))) t.end (drop p.0 (drop (blanks rest) rest)) p.4 tails in
     cc
 
-not_both : (text : List ℕ) (a : List Token) (k : LineKind) → Scans text (Ok a) → Scans text (Err k) → ⊥
-not_both text a k p q =
-    elim q [
-      | inl none ↦ none.1 a p.0
-      | inr long ↦ (let same_list = one_list a long.1.0 (first_due text) 0 text p.0 long.1.1 in let x = p.1 in let y = long.1.2 in cc)
-    ]
-
--- the law, on outcomes
-pub one_outcome : (text : List ℕ) (a b : Result (List Token) LineKind) → Scans text a → Scans text b → a ≡ b
-one_outcome text (Ok a) (Ok b) p q = ap Ok (one_list a b (first_due text) 0 text p.0 q.0)
-one_outcome text (Ok a) (Err k) p q = absurd (not_both text a k p q)
-one_outcome text (Err k) (Ok b) p q = absurd (not_both text b k q p)
-one_outcome text (Err k) (Err j) p q =
-    elim p [
-      | inl none ↦ elim q [ inl other ↦ ap Err (none.0 ∙ sym other.0) | inr long ↦ absurd (none.1 long.1.0 long.1.1) ]
-      | inr long ↦ elim q [ inl other ↦ absurd (other.1 long.1.0 long.1.1) | inr more ↦ ap Err (long.0 ∙ sym more.0) ]
-    ]
+pub one_scan : OneScan
+one_scan text (Some ts) (Some us) p q = ap Some (one_list ts us (first_due text) 0 text p q)
+one_scan text (Some ts) None p q = absurd (q ts p)
+one_scan text None (Some us) p q = absurd (p us q)
+one_scan text None None p q = refl

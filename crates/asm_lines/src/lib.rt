@@ -6,5 +6,4 @@ pub mod forms;
 pub mod scan;
 pub mod split;
 
-pub use crate::scan::tokens;
 pub use crate::split::split_lines;

@@ -4,7 +4,6 @@ ghost use Rattle.std.specs.Prelude.{◌≡◌, ◌≤◌, ◌<◌, ◌^◌, leng
 ghost use Rattle.std.specs.List.{list_any};
 ghost use Rattle.asm_model.specs.Tokens as model;
 ghost use Rattle.asm_model.specs.declared.tokens.Due.TheVariants as due;
-ghost use Rattle.asm_model.specs.Told.{Told};
 ghost use Rattle.asm_lines.specs.Lengths as lengths;
 ghost use Rattle.asm_lines.specs.Steps.{IsTheToken};
 
@@ -13,10 +12,8 @@ use crate::forms::{
     BRACED_WORDS, barred_len, character_len, local_len, number_len, one_of_len, quoted_len,
     sign_len,
 };
-use asm_model::{Due, Flat, Token, TokenKind, bad_line, is_called};
-use sdt_fault::answer::Fault;
-use sdt_fault::kinds::LineKind;
-use sdt_fault::{List, NoMemory};
+use asm_model::{Due, Token, TokenKind, is_called};
+use sdt_fault::NoMemory;
 use std::alloc::Global;
 
 /// The longer of two, the first where they are equal.
@@ -240,22 +237,7 @@ pub fn has_long(tokens: &[Token]) -> bool
     tokens.iter().any(|token| is_long(*token))
 }
 
-/// The tokens of a line, in order. Syntax where the line has none; TooMany where one is a name of more
-/// than `NAME_BYTES` bytes.
-pub fn tokens(alloc: Global, line: &Flat) -> Result<List<Token>, Fault>
-    requires { length line.now.text < 2 ^ 32 }
-    ensures { Told line.now.source line.now.number (model.Scans line.now.text) result }
-{
-    let Some(list) = scan(alloc, line.text.as_slice())? else {
-        return Err(bad_line(alloc, &line.source, line.number, LineKind::Syntax));
-    };
-    if has_long(list.as_slice()) {
-        return Err(bad_line(alloc, &line.source, line.number, LineKind::TooMany));
-    }
-    Ok(List::from_vec(list))
-}
-
-/// A line has one list of tokens, or one fault.
+/// A line has one list of tokens, or none.
 pub fn one_scan()
     ensures { model.OneScan }
 {}

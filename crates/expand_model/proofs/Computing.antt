@@ -3,7 +3,6 @@ use Rattle.std.proofs.Common.{◌≡◌, ℕ, ◌+◌, List, [], ◌∷◌, leng
 use Rattle.std.proofs.lemmas.Bool.{ltb-true}
 use Rattle.std.proofs.lemmas.Option.{same_Some, none-some}
 use Rattle.std.specs.Prelude.{MatchBool, Result, Ok, Err, nat_lt, if◌then◌else◌}
-use Rattle.std.specs.List.{list_any}
 use Rattle.std.specs.Str.Lines.{lines}
 use Rattle.sdt_fault.specs.declared.kinds.LineKind.{LineKind}
 use Rattle.sdt_fault.specs.declared.kinds.LineKind.TheVariants.{Syntax, TooMany}
@@ -20,7 +19,7 @@ use Rattle.asm_model.specs.Grammar.{ParsesTokens, Parses}
 use Rattle.asm_model.specs.Lines.{numbered, first_beyond}
 use Rattle.asm_model.specs.Parts.{part_of}
 use Rattle.asm_model.specs.Says.{sentence}
-use Rattle.asm_model.specs.Tokens.{IsLongest, IsTokenAt, is_operation_sign, blanks, is_end, is_long, due_behind, first_due, TokensFrom, Tokens}
+use Rattle.asm_model.specs.Tokens.{IsLongest, IsTokenAt, is_operation_sign, blanks, is_end, due_behind, first_due, TokensFrom}
 use Rattle.asm_lines.specs.Lengths.{best_of}
 use Rattle.asm_lines.proofs.KindLemmas.{best_longest}
 use Rattle.asm_expr.specs.Parsing.{parsed, started}
@@ -141,12 +140,12 @@ parts_by ps = items_by (parsed (Some started) ps)
 abbrev tokens_by : List ℕ → List Token → Option Operand
 tokens_by text ts = parts_by (map (part_of text) (sentence ts).behind)
 
-abbrev unlong_by : List ℕ → Option (List Token) → Option Operand
-unlong_by text None = None
-unlong_by text (Some ts) = if list_any is_long ts then None else tokens_by text ts
+abbrev scanned_by : List ℕ → Option (List Token) → Option Operand
+scanned_by text None = None
+scanned_by text (Some ts) = tokens_by text ts
 
 abbrev expression_by : List ℕ → Option Operand
-expression_by text = unlong_by text (scan_by (length text + 1) (first_due text) 0 text)
+expression_by text = scanned_by text (scan_by (length text + 1) (first_due text) 0 text)
 
 abbrev choice_by : Bool → List ℕ → Option Operand
 choice_by true text = expression_by text
@@ -182,14 +181,9 @@ parts_sound ps (Some items) x e h = subst (λ y. Parses ps y) (same_Some _ _ h) 
 tokens_sound : (text : List ℕ) (ts : List Token) (x : Operand) → tokens_by text ts ≡ Some x → ParsesTokens text (sentence ts).behind x
 tokens_sound text ts x e = parts_sound (map (part_of text) (sentence ts).behind) (parsed (Some started) (map (part_of text) (sentence ts).behind)) x refl e
 
-long_sound : (text : List ℕ) (ts : List Token) (b : Bool) (x : Operand) → Tokens text ts → list_any is_long ts ≡ b
-    → (if b then None else tokens_by text ts) ≡ Some x → ReadsExpression text x
-long_sound text ts true x p g h = absurd (none-some x h)
-long_sound text ts false x p g h = (Ok ts, (p, g), tokens_sound text ts x h)
-
-scanned_sound : (text : List ℕ) (o : Option (List Token)) (x : Operand) → Sound (first_due text) 0 text o → unlong_by text o ≡ Some x → ReadsExpression text x
+scanned_sound : (text : List ℕ) (o : Option (List Token)) (x : Operand) → Sound (first_due text) 0 text o → scanned_by text o ≡ Some x → ReadsExpression text x
 scanned_sound text None x p h = absurd (none-some x h)
-scanned_sound text (Some ts) x p h = long_sound text ts (list_any is_long ts) x (p ts refl) refl h
+scanned_sound text (Some ts) x p h = (Some ts, p ts refl, tokens_sound text ts x h)
 
 expression_sound : (text : List ℕ) (x : Operand) → expression_by text ≡ Some x → ReadsExpression text x
 expression_sound text x h =

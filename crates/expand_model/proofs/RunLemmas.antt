@@ -12,7 +12,7 @@ use Rattle.asm_model.specs.Parts.{part_of}
 use Rattle.asm_model.specs.Says.{sentence}
 use Rattle.asm_model.specs.Tokens.{OneScan}
 use Rattle.expand_model.specs.Expands.{Run, stops, reads, passes, Outcome, ExpandsLines, ExpansionLaw, outcome_of}
-use Rattle.expand_model.specs.Known.{Operand, ReadsExpression, FromScan}
+use Rattle.expand_model.specs.Known.{Operand, ReadsExpression, FromTokens}
 use Rattle.expand_model.specs.declared.macros.Macro.{Macro}
 use Rattle.expand_model.specs.States.{State}
 use Rattle.expand_model.specs.Steps.{Sources, Depth, End, Next, Stop, Go, Under, Reads, ReadsText, first_line, turn, deeper, takes_expression, kind_of}
@@ -21,9 +21,9 @@ use Rattle.expand_model.specs.Words.{words_of}
 use Rattle.std.proofs.Common.{map}
 
 module _ (one_scan : OneScan) (one_parse : OneParse) where
-  one_from : (text : List ℕ) (scan : Result (List Token) LineKind) (a b : Operand) → FromScan text scan a → FromScan text scan b → a ≡ b
-  one_from text (Ok ts) a b p q = one_parse (map (part_of text) (sentence ts).behind) a b p q
-  one_from text (Err k) a b p q = p ∙ sym q
+  one_from : (text : List ℕ) (o : Option (List Token)) (a b : Operand) → FromTokens text o a → FromTokens text o b → a ≡ b
+  one_from text (Some ts) a b p q = one_parse (map (part_of text) (sentence ts).behind) a b p q
+  one_from text None a b p q = p ∙ sym q
 
   one_expression : (text : List ℕ) (a b : Operand) → ReadsExpression text a → ReadsExpression text b → a ≡ b
   one_expression text a b p q = one_from text p.0 a b p.2 (let e = one_scan text q.0 p.0 q.1 p.1 in rw e at q.2)

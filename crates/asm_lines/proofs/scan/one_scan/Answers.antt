@@ -1,5 +1,5 @@
-use Rattle.asm_lines.proofs.ScanLemmas.{one_outcome}
+use Rattle.asm_lines.proofs.ScanLemmas.{one_scan}
 use Rattle.asm_lines.proofs.scan.one_scan.Goals as goal
 
 pub returns : goal.returns
-returns c = one_outcome
+returns c = one_scan
