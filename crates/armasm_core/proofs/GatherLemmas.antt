@@ -5,6 +5,7 @@ use Rattle.asm_model.specs.declared.directives.DirectiveLine.TheVariants as line
 use Rattle.asm_model.specs.declared.statements.What.{What}
 use Rattle.asm_model.specs.declared.statements.What.TheVariants as what
 use Rattle.asm_model.specs.Forms.{same}
+use Rattle.asm_model.specs.LayoutKinds.{is_true}
 use Rattle.asm_model.proofs.SharedLemmas.{same_back}
 use Rattle.source_model.specs.Objects.{exports_name, is_weak_import}
 use Rattle.armasm_core.specs.Gathered.{exported_in, name_where, weak_in}
@@ -30,6 +31,6 @@ where_is q n false = sym (and_false (same n q))
     and_false false = refl
 
 pub weak_is : (q : List ℕ) (w : What) → list_any (same q) (weak_in w) ≡ is_weak_import q w
-weak_is q (what.Directive (line.Import n weak)) = where_is q n weak
-weak_is q (what.Directive (line.Extern n weak)) = where_is q n weak
+weak_is q (what.Directive (line.Import n weak)) = where_is q n (is_true weak)
+weak_is q (what.Directive (line.Extern n weak)) = where_is q n (is_true weak)
 weak_is q _ = refl

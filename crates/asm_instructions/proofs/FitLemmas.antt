@@ -31,6 +31,7 @@ use Rattle.asm_model.specs.declared.arm_lines.ArmLine.{ArmLine}
 use Rattle.asm_model.specs.declared.arm_lines.ArmLine.TheVariants as arm
 use Rattle.asm_model.specs.declared.statements.PseudoLine.{PseudoLine}
 use Rattle.asm_model.specs.declared.statements.PseudoLine.TheVariants as pseudo
+use Rattle.asm_model.specs.LayoutKinds.{is_true}
 use Rattle.asm_model.specs.Says.{mapped}
 use Rattle.said_model.specs.Said.{RegisterSaid, OperationSaid, FactorSaid, HalfSaid, IsUntranslated, ArmSaid, PseudoSaid}
 use Rattle.source_model.specs.Contexts.{Context, value_of, number_in, or_zero, register, and_then, magnitude, is_positive, offset_below, own_offset, from_pc}
@@ -214,6 +215,7 @@ half_post indexing.Offset h e = absurd (omega arith)
 half_post indexing.Before h e = absurd (omega arith)
 half_post indexing.After h e = refl
 half_post indexing.Translated h e = absurd h
+half_post indexing.TranslatedBefore h e = absurd h
 
 -- ---- in a context
 
@@ -309,7 +311,7 @@ module _ (c : Context) (named : NamesRegisters c) where
   arm_fits (arm.Swap k byte rd rm rn) h =
       record { fields = (condition_below k, (flag_below byte, (fits_register rn h.2, (fits_register rd h.0, (fits_register rm h.1, tt))))); conditions = tt }
   arm_fits (arm.BranchExchange k rm) h = record { fields = (condition_below k, (fits_register rm h, tt)); conditions = tt }
-  arm_fits (arm.ReadStatus k saved rd) h = record { fields = (condition_below k, (flag_below saved, (fits_register rd h, tt))); conditions = tt }
+  arm_fits (arm.ReadStatus k saved rd) h = record { fields = (condition_below k, (flag_below (is_true saved), (fits_register rd h, tt))); conditions = tt }
   arm_fits (arm.WriteStatus k saved fields rm) h =
       record { fields = (condition_below k, (flag_below saved, (h.0, (fits_register rm h.1, tt)))); conditions = tt }
   arm_fits (arm.WriteStatusImmediate k saved fields e) h =

@@ -4,6 +4,7 @@ ghost use Rattle.std.specs.Prelude.{◌≡◌, ◌^◌, nat_lt, Ok, Err, if◌th
 ghost use Rattle.sdt_fault.specs.declared.kinds.LineKind.TheVariants.{OutOfRange};
 ghost use Rattle.arm_isa.specs.declared.instr.ArmInstr.TheVariants as instr;
 ghost use Rattle.asm_model.specs.declared.arm_lines.ArmLine.TheVariants as arm;
+ghost use Rattle.asm_model.specs.LayoutKinds.{is_true};
 ghost use Rattle.said_model.specs.Said.{IsRead, ArmSaid, ThumbSaid};
 ghost use Rattle.source_model.specs.ArmForms as forms;
 ghost use Rattle.source_model.specs.Contexts.{Context, and_then};
@@ -50,6 +51,16 @@ fn interrupt(
 {
     let number = number_there(alloc, scene, number)?;
     Ok(interrupt_by(condition, number))
+}
+
+/// Whether a word names SPSR.
+fn is_saved(saved: Option<bool>) -> bool
+    ensures { result ≡ is_true saved }
+{
+    match saved {
+        Some(saved) => saved,
+        None => false,
+    }
 }
 
 /// The instruction that a line says with what the scene finds, or the kind of its fault.
@@ -154,7 +165,7 @@ fn instruction_there(
             let rd = register(scene, rd);
             Ok(Ok(ArmInstr::ReadStatus {
                 condition: *condition,
-                saved: *saved,
+                saved: is_saved(*saved),
                 rd,
             }))
         }

@@ -29,6 +29,7 @@ fn is_before(indexing: Indexing) -> bool
         Indexing::Before => true,
         Indexing::After => false,
         Indexing::Translated => false,
+        Indexing::TranslatedBefore => true,
     }
 }
 
@@ -41,6 +42,7 @@ fn writes_back(indexing: Indexing) -> bool
         Indexing::Before => true,
         Indexing::After => false,
         Indexing::Translated => true,
+        Indexing::TranslatedBefore => true,
     }
 }
 

@@ -3,8 +3,8 @@
 ghost use Rattle.std.specs.Prelude.{◌≡◌, ◌∷◌, not, true};
 ghost use Rattle.sdt_fault.specs.declared.kinds.LineKind.TheVariants.{BadOperand};
 ghost use Rattle.asm_model.specs.declared.statements.What.TheVariants as what;
+ghost use Rattle.asm_model.specs.Kinds as kinds;
 ghost use Rattle.asm_model.specs.Kinds.{told_kind};
-ghost use Rattle.asm_model.specs.LayoutKinds as layout;
 ghost use Rattle.source_model.specs.Registers as registers;
 ghost use Rattle.asm_registers.specs.Scoped.{told_of};
 
@@ -163,7 +163,7 @@ fn is_pc(number: Option<u8>) -> bool
 
 fn row_kind(known: &NameMap<u8>, line: &ThumbLine) -> Option<LineKind>
     ensures { result ≡ told_kind
-        (layout.kind_if (not
+        (kinds.kind_if (not
         (registers.has_row (registers.number_of known.now) line.now)) BadOperand) }
 {
     kind_if(!has_row(known, line), LineKind::BadOperand)

@@ -1,6 +1,6 @@
 -- Worked rows of the definitions, by hand: whole sources with what they expand to.
 use Rattle.std.proofs.Common.{◌≡◌, ℕ, List, [], ◌∷◌, ◌++◌, refl, Some, None, codes}
-use Rattle.std.specs.Prelude.{if◌then◌else◌}
+use Rattle.std.specs.Prelude.{if◌then◌else◌, replicate}
 use Rattle.sdt_fault.specs.declared.kinds.LineKind.TheVariants.{Forward, Nesting, TooDeep, TooMany}
 use Rattle.asm_model.specs.declared.lines.Flat.{Flat}
 use Rattle.asm_model.specs.Forms.{same}
@@ -107,6 +107,24 @@ pub known : Row alone 100
     (FaultAt (codes "t.s") 6 Forward)
 unfolding structure_word variable_word best_of step finished value_of known_number operation_of skipped taken prototype_of standing kind_of said first_line turn substituted words_of arguments
 known = row refl
+
+-- a name beyond the limit
+abbrev long_name : List ℕ
+long_name = replicate 256 120
+
+-- a name beyond the limit that nothing defines is Forward, which comes before TooMany
+pub long_forward : Row alone 100
+    ((codes " IF " ++ long_name) ∷ [])
+    (FaultAt (codes "t.s") 1 Forward)
+unfolding structure_word variable_word best_of step finished value_of known_number operation_of skipped taken prototype_of standing kind_of said first_line turn substituted words_of arguments
+long_forward = row refl
+
+-- where `:DEF:` asks for it its length alone is a fault
+pub long_defined : Row alone 100
+    ((codes " IF :DEF:" ++ long_name) ∷ codes " ENDIF" ∷ [])
+    (FaultAt (codes "t.s") 1 TooMany)
+unfolding structure_word variable_word best_of step finished value_of known_number operation_of skipped taken prototype_of standing kind_of said first_line turn substituted words_of arguments
+long_defined = row refl
 
 -- a file that GET opens, up to its END
 abbrev one_file : Sources

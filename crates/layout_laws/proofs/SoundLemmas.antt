@@ -3,7 +3,7 @@ use Rattle.std.proofs.Common.{◌≡◌, ℕ, ◌+◌, List, [], ◌∷◌, ◌+
 use Rattle.std.specs.List.{list_any}
 use Rattle.std.proofs.lemmas.Bool.{or_parts, or_from}
 use Rattle.sdt_fault.specs.declared.kinds.LineKind.{LineKind}
-use Rattle.sdt_fault.specs.declared.kinds.LineKind.TheVariants.{Constant, DuplicateName, Forward, TooMany}
+use Rattle.sdt_fault.specs.declared.kinds.LineKind.TheVariants.{DuplicateName, Forward, TooMany}
 use Rattle.asm_model.specs.declared.exprs.Expr.{Expr}
 use Rattle.asm_model.specs.declared.statements.Statement.{Statement}
 use Rattle.asm_model.specs.Directives.{or_else}

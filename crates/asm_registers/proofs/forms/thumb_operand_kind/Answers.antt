@@ -1,9 +1,9 @@
 use Rattle.std.proofs.Common.{not, ◌∙◌}
 use Rattle.sdt_fault.specs.declared.kinds.LineKind.TheVariants.{BadOperand}
+use Rattle.asm_model.specs.Kinds.{kind_if}
 use Rattle.asm_model.proofs.SharedLemmas.{told_of_two}
 use Rattle.source_model.specs.Registers.{number_of, range_kinds, thumb_list, has_row}
 use Rattle.asm_registers.proofs.forms.thumb_operand_kind.Goals as goal
-use Rattle.asm_model.specs.Kinds.{kind_if}
 
 pub returns : goal.returns
 returns c =
