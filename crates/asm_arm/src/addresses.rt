@@ -211,7 +211,8 @@ fn scaled_at(
     operands: (&[Token], &[Token], &[Token]),
 ) -> Result<Result<Addressed, LineKind>, NoMemory>
     ensures { IfOk result
-        (λ address. addresses.ReadsScaledAt text.now indexing shifts operands.entry.0.now operands.entry.1.now operands.entry.2.now address) }
+        (λ address. addresses.ReadsScaledAt text.now indexing shifts operands.entry.0.now
+        operands.entry.1.now operands.entry.2.now address) }
 {
     if shifts {
         return at(

@@ -43,7 +43,8 @@ pub struct Process {
 
 /// Data processing, from its operands.
 fn data_line(process: Process, rd: Register, rn: Register, second: Second) -> What
-    ensures { result ≡ lines.data_line process.condition process.operation process.set_flags rd rn second }
+    ensures { result ≡ lines.data_line process.condition process.operation process.set_flags rd rn
+        second }
 {
     let Process {
         condition,
@@ -88,7 +89,8 @@ fn data_of(
     second: Result<Second, LineKind>,
 ) -> Result<What, LineKind>
     ensures { result ≡ says.on_both
-        (λ p z. lines.data_line process.condition process.operation process.set_flags p.0 p.1 z) registers second }
+        (λ p z. lines.data_line process.condition process.operation process.set_flags p.0 p.1 z)
+        registers second }
 {
     match both(registers, second) {
         Ok(((rd, rn), second)) => Ok(data_line(process, rd, rn, second)),
@@ -105,7 +107,8 @@ fn data(
     second: (&[Token], Option<&[Token]>),
 ) -> Said
     ensures { IfOk result
-        (λ said. lines.ReadsData text.now process.condition process.operation process.set_flags registers second.entry.0.now (option_copied second.entry.1) said) }
+        (λ said. lines.ReadsData text.now process.condition process.operation process.set_flags
+        registers second.entry.0.now (option_copied second.entry.1) said) }
 {
     let second = second_operand(alloc, text, second.0, second.1)?;
     Ok(data_of(process, registers, second))
@@ -162,7 +165,8 @@ fn sum_line(
 ) -> Said
     ensures { IfOk result
         (λ said. lines.ReadsData text.now process.condition process.operation process.set_flags
-        (operands.two_registers text.now registers.entry.0.now registers.entry.1.now) second.entry.0.now (option_copied second.entry.1) said) }
+        (operands.two_registers text.now registers.entry.0.now registers.entry.1.now)
+        second.entry.0.now (option_copied second.entry.1) said) }
 {
     let registers = two_registers(alloc, text, registers.0, registers.1)?;
     data(alloc, text, process, registers, second)
@@ -184,7 +188,8 @@ fn moves(alloc: Global, text: &[u8], process: Process, cut: Cut<'_>) -> Said
 
 fn comparisons(alloc: Global, text: &[u8], process: Process, cut: Cut<'_>) -> Said
     ensures { IfOk result
-        (λ said. lines.ReadsComparison text.now process.condition process.operation process.set_flags (cut_of cut.entry) said) }
+        (λ said. lines.ReadsComparison text.now process.condition process.operation
+        process.set_flags (cut_of cut.entry) said) }
 {
     match cut {
         Cut::Two(rn, second) => comparison_line(alloc, text, process, rn, (second, None)),

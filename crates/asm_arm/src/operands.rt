@@ -121,7 +121,8 @@ fn with_three<'a>(
     tokens: &'a [Token],
 ) -> Cut<'a>
     ensures { cut_of result
-        ≡ operands.cut (first.now ∷ second.now ∷ third.now ∷ model.operands_at text.now 0 tokens.now) }
+        ≡ operands.cut (first.now ∷ second.now ∷ third.now ∷ model.operands_at text.now 0
+        tokens.now) }
 {
     let (fourth, behind) = first_operand(text, tokens);
     match behind {

@@ -186,7 +186,8 @@ fn label(alloc: Global, text: &[u8], word: Transfer, rd: &[Token], tokens: &[Tok
 /// A transfer with one operand behind Rd, in brackets.
 fn in_brackets(alloc: Global, text: &[u8], word: Transfer, rd: &[Token], tokens: &[Token]) -> Said
     ensures { IfOk result
-        (λ said. lines.ReadsBased text.now word.condition word.load word.byte word.translated rd.now tokens.now said) }
+        (λ said. lines.ReadsBased text.now word.condition word.load word.byte word.translated rd.now
+        tokens.now said) }
 {
     let address = before(alloc, text, true, tokens)?;
     let address = before_as(text, word.translated, tokens, address);
@@ -202,7 +203,8 @@ fn constant_or_label(
     tokens: &[Token],
 ) -> Said
     ensures { IfOk result
-        (λ said. lines.ReadsOther text.now word.condition word.load word.byte word.translated rd.now tokens.now (operands.without_first text.now lines.equals tokens.now) said) }
+        (λ said. lines.ReadsOther text.now word.condition word.load word.byte word.translated rd.now
+        tokens.now (operands.without_first text.now lines.equals tokens.now) said) }
 {
     match without_first(text, b"=", tokens) {
         Some(number) => constant(alloc, text, word, rd, number),
@@ -213,7 +215,8 @@ fn constant_or_label(
 /// A transfer with one operand behind Rd.
 fn place(alloc: Global, text: &[u8], word: Transfer, rd: &[Token], tokens: &[Token]) -> Said
     ensures { IfOk result
-        (λ said. lines.ReadsPlace text.now word.condition word.load word.byte word.translated rd.now tokens.now (operands.without_first text.now lines.bracket tokens.now) said) }
+        (λ said. lines.ReadsPlace text.now word.condition word.load word.byte word.translated rd.now
+        tokens.now (operands.without_first text.now lines.bracket tokens.now) said) }
 {
     match without_first(text, b"[", tokens) {
         Some(_) => in_brackets(alloc, text, word, rd, tokens),
@@ -231,7 +234,8 @@ fn moved(
     offset: (&[Token], Option<&[Token]>),
 ) -> Said
     ensures { IfOk result
-        (λ said. lines.ReadsMoved text.now word.condition word.load word.byte word.translated rd.now brackets.now offset.entry.0.now (option_copied offset.entry.1) said) }
+        (λ said. lines.ReadsMoved text.now word.condition word.load word.byte word.translated rd.now
+        brackets.now offset.entry.0.now (option_copied offset.entry.1) said) }
 {
     let address = after(alloc, text, brackets, offset.0, offset.1)?;
     let address = after_as(word.translated, address);

@@ -94,9 +94,11 @@ impl Checks {
         circular: bool,
     ) -> Result<Option<LineKind>, NoMemory>
         ensures told { IfOk result
-            (λ told. Tells (IsLine statement.now area thumb thumb_area exponent circular) self.old told) }
+            (λ told. Tells (IsLine statement.now area thumb thumb_area exponent circular) self.old
+            told) }
         ensures behind { IfOk result
-            (λ told. Keeps (IsLine statement.now area thumb thumb_area exponent circular) self.old self.new told) }
+            (λ told. Keeps (IsLine statement.now area thumb thumb_area exponent circular) self.old
+            self.new told) }
     {
         self.contents = contents_from(&statement.what, self.contents);
         let here = first_told(

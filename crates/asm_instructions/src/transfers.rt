@@ -214,7 +214,8 @@ pub fn transfer_shifted(
     requires { ShiftSaid shift.now }
     ensures { IfOk result (λ i. i
         ≡ forms.arm_instruction (context_of scene.now)
-        (arm.TransferShifted condition load byte rd.now rn.now indexing subtract rm.now shift.now)) }
+        (arm.TransferShifted condition load byte rd.now rn.now indexing subtract rm.now
+        shift.now)) }
 {
     let base = register(scene, rn);
     let with = register(scene, rd);

@@ -229,7 +229,8 @@ impl Laying {
     ) -> Result<Result<Placed, LineKind>, NoMemory>
         requires there { IsThere spot.now.area self.old.areas.ends }
         requires extent { laying.OkExtent extent }
-        ensures { laying.Puts statement.now spot.now extent map own equal strings self.old self.new result }
+        ensures { laying.Puts statement.now spot.now extent map own equal strings self.old self.new
+            result }
     {
         match extent {
             Err(kind) => Ok(Err(kind)),

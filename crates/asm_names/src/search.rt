@@ -103,7 +103,8 @@ fn look_at(
     ensures { OnOk result
         (Looked (unknown_from index.now known.now waiting.item
         (drop waiting.item (items_at
-        (pairs_of equals.now) waiting.equal))) waiting.equal waits.old.items waits.new.items places.old.items places.new.items) }
+        (pairs_of equals.now) waiting.equal))) waiting.equal waits.old.items waits.new.items
+        places.old.items places.new.items) }
 {
     let value = equals[waiting.equal as usize].value;
     let items = value.items.as_slice();

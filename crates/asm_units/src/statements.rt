@@ -28,7 +28,8 @@ fn directive_there(
 ) -> Result<Result<Vec<Emitted>, LineKind>, NoMemory>
     requires { DirectiveSaid line.now }
     ensures { IfOk result (λ us. all_emitted us
-        ≡ marked_directive (context_of beside.now.scene) beside.now.data.now beside.now.strings.now line.now) }
+        ≡ marked_directive (context_of beside.now.scene) beside.now.data.now beside.now.strings.now
+        line.now) }
 {
     match line {
         DirectiveLine::Dcd { values } => words(alloc, beside, values.as_slice()),
