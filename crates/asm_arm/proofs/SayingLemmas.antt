@@ -1,23 +1,21 @@
 -- What a line says, for both states.
-use Rattle.std.proofs.Common.{◌≡◌, ℕ, Bool, true, List, refl, sym, ◌∙◌, ap, subst, Option, Some, None}
+use Rattle.std.proofs.Common.{◌≡◌, ℕ, List, sym, ◌∙◌, ap, subst, Option, Some, None}
 use Rattle.std.specs.Prelude.{Result, Ok, Err, IfOk}
 use Rattle.std.specs.List.{list_any}
 use Rattle.sdt_fault.specs.declared.answer.Fault.{Fault}
 use Rattle.sdt_fault.specs.declared.answer.Fault.TheVariants.{Refused, ReadFault, NoMemory}
 use Rattle.sdt_fault.specs.declared.kinds.LineKind.{LineKind}
-use Rattle.sdt_fault.specs.declared.kinds.LineKind.TheVariants.{TooMany}
 use Rattle.asm_model.specs.declared.lines.Flat.{Flat}
 use Rattle.asm_model.specs.declared.tokens.Token.{Token}
 use Rattle.asm_model.specs.declared.statements.Statement.{Statement}
 use Rattle.asm_model.specs.declared.statements.What.{What}
 use Rattle.asm_model.specs.declared.directives.LabelNeed.TheVariants as need
 use Rattle.asm_model.specs.Says.{on_both, mapped, label_field, sentence, OneDirective}
-use Rattle.asm_model.specs.Tokens.{first_due, is_long, Tokens}
+use Rattle.asm_model.specs.Tokens.{is_long, Tokens, OneScan}
 use Rattle.asm_model.specs.Told.{Told, ToldFault}
-use Rattle.asm_arm.specs.Says.{Said, statement, within_limit, AreTokens, SaysOperation, SaysWords, SaysOr, SaysTokens, SaysAll, SaysLine}
+use Rattle.asm_arm.specs.Says.{Said, statement, measured, SaysOperation, SaysWords, SaysOr, SaysTokens, SaysAll, SaysLine}
 use Rattle.asm_arm.specs.Steps.{IsOperationRead}
 use Rattle.asm_expr.proofs.SayingLemmas.{made_of_both}
-use Rattle.asm_lines.proofs.ScanLemmas.{one_list}
 
 -- ---- an answer for what was read
 
@@ -72,35 +70,20 @@ one_of_tokens Operation law directive flat ts a b p q =
 one_all : (Operation : List ℕ → Token → List Token → Result What LineKind → Type 0) → OneOperation Operation → OneDirective → (flat : Flat) (o : Option (List Token)) (a b : Said)
     → SaysAll Operation flat o a → SaysAll Operation flat o b → a ≡ b
 one_all Operation law directive flat None a b p q = p ∙ sym q
-one_all Operation law directive flat (Some ts) a b p q = p.2 ∙ ap (within_limit _) (one_of_tokens Operation law directive flat ts p.0 q.0 p.1 q.1) ∙ sym q.2
+one_all Operation law directive flat (Some ts) a b p q = p.2 ∙ ap (measured _) (one_of_tokens Operation law directive flat ts p.0 q.0 p.1 q.1) ∙ sym q.2
 
-one_scan : (text : List ℕ) (a b : Option (List Token)) → AreTokens text a → AreTokens text b → a ≡ b
-one_scan text (Some ts) (Some us) h k = ap Some (one_list ts us (first_due text) 0 text h k)
-one_scan text (Some ts) None h k = absurd (k ts h)
-one_scan text None (Some us) h k = absurd (h us k)
-one_scan text None None h k = refl
-
-pub one_line : (Operation : List ℕ → Token → List Token → Result What LineKind → Type 0) → OneOperation Operation → OneDirective → (flat : Flat) (a b : Said)
+pub one_line : (Operation : List ℕ → Token → List Token → Result What LineKind → Type 0) → OneOperation Operation → OneDirective → OneScan → (flat : Flat) (a b : Said)
     → SaysLine Operation flat a → SaysLine Operation flat b → a ≡ b
-one_line Operation law directive flat a b p q =
-    one_all Operation law directive flat p.0 a b p.2 (subst (λ o. SaysAll Operation flat o b) (sym (one_scan flat.text p.0 q.0 p.1 q.1)) q.2)
-
--- a name beyond the limit
-pub limit_ok : (long flag : Bool) (said r : Said) (s : Option Statement) → flag ≡ long → flag ≡ true → said ≡ Ok s → r ≡ Err TooMany
-    → r ≡ within_limit long said
-limit_ok long flag said r s e h i j = j ∙ ap (λ b. within_limit b (Ok s)) (sym h ∙ e) ∙ ap (within_limit long) (sym i)
-
-pub limit_err : (long flag : Bool) (said r : Said) (k : LineKind) → flag ≡ long → flag ≡ true → said ≡ Err k → r ≡ Err k
-    → r ≡ within_limit long said
-limit_err long flag said r k e h i j = j ∙ ap (λ b. within_limit b (Err k)) (sym h ∙ e) ∙ ap (within_limit long) (sym i)
+one_line Operation law directive scan flat a b p q =
+    one_all Operation law directive flat p.0 a b p.2 (subst (λ o. SaysAll Operation flat o b) (sym (scan flat.text p.0 q.0 p.1 q.1)) q.2)
 
 -- ---- a line
 
 pub line_said : (Operation : List ℕ → Token → List Token → Result What LineKind → Type 0) (flat : Flat) (text : List ℕ) (ts us vs : List Token) (s r : Said)
-    → text ≡ flat.text → Tokens text ts → us ≡ ts → vs ≡ ts → SaysTokens Operation flat us s → r ≡ within_limit (list_any is_long vs) s
+    → text ≡ flat.text → Tokens text ts → us ≡ ts → vs ≡ ts → SaysTokens Operation flat us s → r ≡ measured (list_any is_long vs) s
     → SaysLine Operation flat r
 line_said Operation flat text ts us vs s r e t u v h k = (
   Some ts,
   subst (λ x. Tokens x ts) e t,
-  (s, subst (λ x. SaysTokens Operation flat x s) u h, k ∙ ap (λ x. within_limit (list_any is_long x) s) v),
+  (s, subst (λ x. SaysTokens Operation flat x s) u h, k ∙ ap (λ x. measured (list_any is_long x) s) v),
 )

@@ -9,12 +9,10 @@ ghost use Rattle.asm_arm.specs.Addresses as addresses;
 ghost use Rattle.asm_arm.specs.Operands as operands;
 ghost use Rattle.asm_arm.specs.Steps.{cut_of};
 ghost use Rattle.asm_arm.specs.declared.addresses.Offset.TheVariants as offset_is;
-ghost use Rattle.sdt_fault.specs.declared.kinds.LineKind.TheVariants as line;
 
 use crate::operands::{
     Cut, Scale, between, both, cut_operands, marked, register, shift_of, without_first,
 };
-use asm_expr::kinds::earlier;
 use asm_expr::read::expression;
 use asm_model::{Expr, ExprItem, HalfOffset, Indexing, Register, Shift, Token, Value};
 use sdt_fault::kinds::LineKind;
@@ -319,13 +317,16 @@ pub fn after(
 }
 
 /// An address with the suffix T.
-fn translated_of(address: Result<Addressed, LineKind>) -> Result<Addressed, LineKind>
-    ensures { result ≡ says.mapped addresses.translated_of address }
+fn translated_of(
+    indexing: Indexing,
+    address: Result<Addressed, LineKind>,
+) -> Result<Addressed, LineKind>
+    ensures { result ≡ says.mapped (addresses.translated_of indexing) address }
 {
     match address {
         Ok(Addressed { rn, offset, .. }) => Ok(Addressed {
             rn,
-            indexing: Indexing::Translated,
+            indexing,
             offset,
         }),
         Err(kind) => Err(kind),
@@ -345,16 +346,6 @@ fn is_base(text: &[u8], base: Option<&[Token]>) -> bool
     }
 }
 
-/// An offset in the brackets, or `!` behind them, where the suffix T allows none.
-fn refused(address: Result<Addressed, LineKind>) -> Result<Addressed, LineKind>
-    ensures { result ≡ addresses.refused line.BadOperand address }
-{
-    match address {
-        Ok(_) => Err(LineKind::BadOperand),
-        Err(kind) => Err(earlier(LineKind::BadOperand, kind)),
-    }
-}
-
 /// An address with its offset in the brackets, with the suffix T or without it.
 pub fn before_as(
     text: &[u8],
@@ -368,9 +359,9 @@ pub fn before_as(
         return address;
     }
     if is_base(text, base(text, tokens)) {
-        return translated_of(address);
+        return translated_of(Indexing::Translated, address);
     }
-    refused(address)
+    translated_of(Indexing::TranslatedBefore, address)
 }
 
 /// The same of an address with its offset behind the brackets.
@@ -381,7 +372,7 @@ pub fn after_as(
     ensures { result ≡ addresses.after_as translated address }
 {
     if translated {
-        return translated_of(address);
+        return translated_of(Indexing::Translated, address);
     }
     address
 }

@@ -181,22 +181,19 @@ pub fn register_list(
     }
 }
 
-/// A token as a status register.
+/// A token as a status register, or as a word that names none.
 #[tactic(auto, unfolding(crate::specs::Lists::status_named))]
-fn status_of(kind: TokenKind, word: &[u8]) -> Result<bool, LineKind>
+fn status_of(kind: TokenKind, word: &[u8]) -> Result<Option<bool>, LineKind>
     ensures { result ≡ lists.status_of kind word.now }
 {
     match kind {
-        TokenKind::Name => match row_of(word, &STATUS) {
-            None => Err(LineKind::BadOperand),
-            Some(saved) => Ok(saved),
-        },
+        TokenKind::Name => Ok(row_of(word, &STATUS)),
         _ => Err(LineKind::Syntax),
     }
 }
 
-/// A status register.
-pub fn status(text: &[u8], tokens: &[Token]) -> Result<bool, LineKind>
+/// A status register, or a word that names none.
+pub fn status(text: &[u8], tokens: &[Token]) -> Result<Option<bool>, LineKind>
     ensures { result ≡ lists.status text.now tokens.now }
 {
     match tokens {
@@ -261,7 +258,7 @@ fn fields_named(letters: &[u8]) -> Option<u8>
     )
 }
 
-/// A token as a status register with its fields.
+/// A token as a status register with its fields; no fields where the word names none.
 #[tactic(auto, unfolding(crate::specs::Lists::status_begun))]
 fn fields_of(kind: TokenKind, word: &[u8]) -> Result<(bool, u8), LineKind>
     ensures { result ≡ lists.fields_of kind word.now }
@@ -272,13 +269,13 @@ fn fields_of(kind: TokenKind, word: &[u8]) -> Result<(bool, u8), LineKind>
             fields_named(behind(word, 5)),
         ) {
             (Some(saved), Some(fields)) => Ok((saved, fields)),
-            _ => Err(LineKind::BadOperand),
+            _ => Ok((false, 0)),
         },
         _ => Err(LineKind::Syntax),
     }
 }
 
-/// A status register with its fields.
+/// A status register with its fields; no fields where the word names none.
 pub fn fields(text: &[u8], tokens: &[Token]) -> Result<(bool, u8), LineKind>
     ensures { result ≡ lists.fields text.now tokens.now }
 {

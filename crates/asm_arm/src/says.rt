@@ -16,7 +16,7 @@ use asm_expr::directives::{Sentence, label_field, one_directive, parts_of};
 use asm_expr::operands::piece_of;
 use asm_expr::parse_directive;
 use asm_expr::read::one_parse;
-use asm_lines::scan::{has_long, scan};
+use asm_lines::scan::{has_long, one_scan, scan};
 use asm_model::{Flat, LabelNeed, Statement, Token, What, bad_line};
 use sdt_fault::answer::Fault;
 use sdt_fault::kinds::LineKind;
@@ -59,6 +59,7 @@ pub fn statement(alloc: Global, line: &Flat, read: Labelled) -> Result<Said, NoM
             number: line.number,
             label,
             what,
+            is_long: false,
         }))),
     }
 }
@@ -93,14 +94,15 @@ pub fn directive(alloc: Global, line: &Flat, tokens: &[Token]) -> Result<Said, N
 }
 
 /// What a line says whose tokens say so, where a name among them may be beyond the limit.
-pub fn within_limit(tokens: &[Token], said: Said) -> Said
-    ensures { result ≡ says.within_limit (list_any is_long tokens.now) said }
+pub fn measured(tokens: &[Token], said: Said) -> Said
+    ensures { result ≡ says.measured (list_any is_long tokens.now) said }
 {
-    if !has_long(tokens) {
-        return said;
-    }
     match said {
-        Ok(_) => Err(LineKind::TooMany),
+        Ok(Some(statement)) => Ok(Some(Statement {
+            is_long: has_long(tokens),
+            ..statement
+        })),
+        Ok(None) => Ok(None),
         Err(kind) => Err(kind),
     }
 }
@@ -186,15 +188,14 @@ pub fn said_in_arm(alloc: Global, line: &Flat) -> Result<Said, NoMemory>
         return Ok(Err(LineKind::Syntax));
     };
     let said = said_by(alloc, line, tokens.as_slice())?;
-    Ok(within_limit(tokens.as_slice(), said))
+    Ok(measured(tokens.as_slice(), said))
 }
 
 /// What a line of ARM state says; None exactly for a blank line. A line with faults is refused, and of several kinds
 /// the first in the order of the kinds is told: Syntax where the line has no tokens, its tokens have no form or its
-/// operation is no word, UnknownWord for an operation word that nothing names, FloatingPoint for a word of the FPA,
-/// BadOperand for a status register that is none and for the suffix T with another address than `[Rn]` or one behind
-/// brackets, TooMany for a name beyond the limit; and the faults of directives. The values of expressions are judged
-/// elsewhere, and so are registers.
+/// operation is no word, UnknownWord for an operation word that nothing names, FloatingPoint for a word of the FPA; and
+/// the faults of directives. Registers, the values of expressions, words that a form doesn't have and names beyond the
+/// limit are judged elsewhere.
 pub fn parse_arm(alloc: Global, line: &Flat) -> Result<Option<Statement>, Fault>
     requires { length line.now.text < 2 ^ 32 }
     ensures { Told line.now.source line.now.number (says.SaysArm line.now) result }
@@ -209,4 +210,5 @@ pub fn one_arm()
 {
     one_parse();
     one_directive();
+    one_scan();
 }

@@ -1,16 +1,19 @@
 -- Readings of operands, one after another.
-use Rattle.std.proofs.Common.{◌≡◌, ℕ, List, [], ◌∷◌, ◌++◌, refl, sym, ◌∙◌, ap, append_assoc, Option, Some, None}
+use Rattle.std.proofs.Common.{◌≡◌, ℕ, List, [], ◌∷◌, ◌++◌, ◌||◌, Bool, true, false, refl, sym, ◌∙◌, ap, append_assoc, Option, Some, None}
 use Rattle.std.specs.Prelude.{Result, Ok, Err}
+use Rattle.std.specs.List.{list_any}
 use Rattle.sdt_fault.specs.declared.kinds.LineKind.{LineKind}
 use Rattle.sdt_fault.specs.declared.kinds.LineKind.TheVariants.{Syntax}
 use Rattle.asm_model.specs.declared.tokens.Token.{Token}
 use Rattle.asm_model.specs.declared.exprs.Expr.{Expr}
+use Rattle.asm_model.specs.declared.directives.AreaAttributes.{AreaAttributes}
 use Rattle.asm_model.specs.declared.directives.Attribute.{Attribute}
-use Rattle.asm_model.specs.Areas.{attributes_in, attribute_in, listed, ReadsAttribute, ReadsAttributes, either}
+use Rattle.asm_model.specs.Areas.{attributes_in, attribute_in, is_bad_word, attributes_of, listed, ReadsAttribute, ReadsAttributes, either}
 use Rattle.asm_model.specs.Directives.{or_else}
 use Rattle.asm_model.specs.Grammar.{ParsesTokens}
 use Rattle.asm_model.specs.Operands.{operands_at, lengthened}
-use Rattle.asm_model.specs.Says.{Expressions, on_both, Aligned}
+use Rattle.asm_model.specs.Says.{Expressions, on_both, mapped, Aligned}
+use Rattle.asm_expr.specs.AreaSteps.{ReadsBehind, has_bad_word_in}
 use Rattle.asm_expr.specs.Steps.{CutsOperands}
 use Rattle.asm_expr.proofs.OperandLemmas.{begins}
 use Rattle.asm_model.proofs.FaultLemmas.{earlier_assoc}
@@ -118,3 +121,33 @@ pub words_end : (text : List ℕ) (all : List Attribute) (left o : List Token) (
     → CutsOperands text left o None → n ≡ s ++ attributes_in text (o ∷ [])
     → s ++ attributes_in text (operands_at text 0 left) ≡ all → n ≡ all
 words_end text all left o s n cut more inv = more ∙ ap (λ x. s ++ attributes_in text x) (sym cut) ∙ inv
+
+-- whether one of the operands writes no attribute
+or_nothing : (a b : Bool) → a || (b || false) ≡ a || b
+or_nothing true b = refl
+or_nothing false true = refl
+or_nothing false false = refl
+
+or_between : (a b c : Bool) → a || (b || c) ≡ (a || b) || c
+or_between true b c = refl
+or_between false b c = refl
+
+pub other_step : (text : List ℕ) (all : Bool) (left o behind : List Token) (s n : Bool)
+    → CutsOperands text left o (Some behind) → n ≡ s || is_bad_word text o
+    → s || list_any (is_bad_word text) (operands_at text 0 left) ≡ all → n || list_any (is_bad_word text) (operands_at text 0 behind) ≡ all
+other_step text all left o behind s n cut more inv =
+    ap (λ x. x || list_any (is_bad_word text) (operands_at text 0 behind)) more
+    ∙ sym (or_between s (is_bad_word text o) (list_any (is_bad_word text) (operands_at text 0 behind)))
+    ∙ ap (λ x. s || list_any (is_bad_word text) x) (sym cut.0) ∙ inv
+
+pub other_end : (text : List ℕ) (all : Bool) (left o : List Token) (s n : Bool)
+    → CutsOperands text left o None → n ≡ s || is_bad_word text o
+    → s || list_any (is_bad_word text) (operands_at text 0 left) ≡ all → n ≡ all
+other_end text all left o s n cut more inv =
+    more ∙ sym (or_nothing s (is_bad_word text o)) ∙ ap (λ x. s || list_any (is_bad_word text) x) (sym cut) ∙ inv
+
+-- the attributes behind the name of an area
+pub attributes_behind : (text : List ℕ) (os : List (List Token)) (words : List Attribute) (other : Bool) (align : Result (Option Expr) LineKind) (r : Result AreaAttributes LineKind)
+    → words ≡ attributes_in text os → other ≡ list_any (is_bad_word text) os → ReadsAttributes text os align
+    → r ≡ mapped (attributes_of words (has_bad_word_in words other)) align → ReadsBehind text os r
+attributes_behind text os words other align r ew eo reads e = (align, reads, rw (e, ew, eo) refl)

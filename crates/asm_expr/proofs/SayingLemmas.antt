@@ -41,7 +41,7 @@ said_fault flat ts text s o d r k et es eo ed h e = let all = said flat ts text 
 pub said_statement : (flat : Flat) (ts : List Token) (text : List ℕ) (s : Sentence) (o : Option Directive) (d : Directive) (r : Result (Option (List ℕ) × DirectiveLine) LineKind)
     (source : List ℕ) (label : Option (List ℕ)) (l : DirectiveLine)
     → text ≡ flat.text → s ≡ sentence ts → o ≡ directive_of text s.operation → o ≡ Some d → IsReadAs text s d r → r ≡ Ok (label, l) → source ≡ flat.source
-    → SaysDirective flat ts (Ok (Some (record { source = source; number = flat.number; label = label; what = what.Directive l })))
+    → SaysDirective flat ts (Ok (Some (record { source = source; number = flat.number; label = label; what = what.Directive l; is_long = false })))
 said_statement flat ts text s o d r source label l et es eo ed h e same =
     let all = said flat ts text s o d r et es eo ed h in
     let found : SaysDirective flat ts (Ok (statement_of flat label l)) = rw e at all in

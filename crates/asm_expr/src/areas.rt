@@ -4,8 +4,9 @@ ghost use Rattle.std.specs.Prelude.{◌≡◌, IfOk};
 ghost use Rattle.asm_model.specs.Areas as areas;
 ghost use Rattle.asm_model.specs.Directives as directives;
 ghost use Rattle.asm_model.specs.Operands as operands;
+ghost use Rattle.asm_model.specs.Says as says;
 ghost use Rattle.std.specs.Option.{option_copied};
-ghost use Rattle.asm_expr.specs.AreaSteps.{ReadsAlignment, TakesAttribute, IsWritten, ReadsBehind, operands_behind};
+ghost use Rattle.asm_expr.specs.AreaSteps.{ReadsAlignment, TakesAttribute, IsWritten, ReadsBehind, operands_behind, has_bad_word_in};
 
 use crate::kinds::earlier;
 use crate::operands::{first_operand, is, piece_of};
@@ -140,26 +141,27 @@ fn is_read_only(words: &[Attribute]) -> bool
     has(Attribute::ReadOnly, words)
 }
 
-fn attributes_of(words: &[Attribute], align: Option<Expr>) -> AreaAttributes
-    ensures { result ≡ areas.attributes_of words.now align }
+fn attributes_of(words: &[Attribute], has_bad_word: bool, align: Option<Expr>) -> AreaAttributes
+    ensures { result ≡ areas.attributes_of words.now has_bad_word align }
 {
     AreaAttributes {
         contents: contents_of(words),
         read_only: is_read_only(words),
-        interwork: has(Attribute::Interwork, words),
-        halfword: has(Attribute::Halfword, words),
+        interwork: has(Attribute::Code, words) && has(Attribute::Interwork, words),
+        halfword: has(Attribute::Code, words) && has(Attribute::Halfword, words),
         pic: has(Attribute::Pic, words),
         reentrant: has(Attribute::Reentrant, words),
         align,
+        has_bad_word,
     }
 }
 
-/// A word that is an attribute by itself.
+/// A word by itself: ALIGN has a number.
 fn plain_attribute(attribute: Option<Attribute>) -> Result<Option<Expr>, LineKind>
     ensures { result ≡ areas.plain_attribute attribute }
 {
     match attribute {
-        None => Err(LineKind::BadOperand),
+        None => Ok(None),
         Some(Attribute::Align) => Err(LineKind::Syntax),
         Some(_) => Ok(None),
     }
@@ -269,6 +271,8 @@ fn either(
 #[derive(Debug, Drop)]
 pub struct Written {
     pub words: Vec<Attribute>,
+    /// Whether an operand is no attribute.
+    pub has_other: bool,
     pub align: Result<Option<Expr>, LineKind>,
 }
 
@@ -277,13 +281,20 @@ impl Written {
     fn take(self, alloc: Global, text: &[u8], operand: &[Token]) -> Result<Written, NoMemory>
         ensures { IfOk result (λ written. TakesAttribute text.now operand.now self written) }
     {
-        let Written { mut words, align } = self;
-        if let Some(word) = attribute_in(text, operand) {
+        let Written {
+            mut words,
+            has_other,
+            align,
+        } = self;
+        let attribute = attribute_in(text, operand);
+        let has_other = has_other || attribute.is_none();
+        if let Some(word) = attribute {
             words.push(word)?;
         }
         let reading = read_attribute(alloc, text, operand)?;
         Ok(Written {
             words,
+            has_other,
             align: either(align, reading),
         })
     }
@@ -296,6 +307,7 @@ fn read_attributes(alloc: Global, text: &[u8], tokens: &[Token]) -> Result<Writt
 {
     let mut written = Written {
         words: Vec::new(alloc),
+        has_other: false,
         align: Ok(None),
     };
     let mut left = tokens;
@@ -309,19 +321,25 @@ fn read_attributes(alloc: Global, text: &[u8], tokens: &[Token]) -> Result<Writt
     }
 }
 
-/// Attributes that agree.
-fn agreed(
+/// Whether a word is no attribute, or words don't agree.
+fn has_bad_word(words: &[Attribute], has_other: bool) -> bool
+    ensures { result ≡ has_bad_word_in words.now has_other }
+{
+    has_other || is_repeated(words) || is_contradicting(words)
+}
+
+/// Attributes, where the number of an alignment is read.
+fn attributes_with(
     words: &[Attribute],
+    has_other: bool,
     align: Result<Option<Expr>, LineKind>,
 ) -> Result<AreaAttributes, LineKind>
-    ensures { result ≡ areas.agreed words.now align }
+    ensures { result ≡ says.mapped
+        (areas.attributes_of words.now (has_bad_word_in words.now has_other)) align }
 {
-    let disagree = is_repeated(words) || is_contradicting(words);
-    match (disagree, align) {
-        (true, Ok(_)) => Err(LineKind::BadOperand),
-        (true, Err(kind)) => Err(earlier(LineKind::BadOperand, kind)),
-        (false, Ok(number)) => Ok(attributes_of(words, number)),
-        (false, Err(kind)) => Err(kind),
+    match align {
+        Ok(number) => Ok(attributes_of(words, has_bad_word(words, has_other), number)),
+        Err(kind) => Err(kind),
     }
 }
 
@@ -336,10 +354,14 @@ pub fn attributes(
         (operands_behind text.now (option_copied behind.entry)) reading) }
 {
     match behind {
-        None => Ok(agreed(&[], Ok(None))),
+        None => Ok(attributes_with(&[], false, Ok(None))),
         Some(tokens) => {
-            let Written { words, align } = read_attributes(alloc, text, tokens)?;
-            Ok(agreed(words.as_slice(), align))
+            let Written {
+                words,
+                has_other,
+                align,
+            } = read_attributes(alloc, text, tokens)?;
+            Ok(attributes_with(words.as_slice(), has_other, align))
         }
     }
 }

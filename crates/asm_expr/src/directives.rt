@@ -272,9 +272,8 @@ fn directive_of(text: &[u8], operation: Option<Token>) -> Option<Directive>
 
 /// What a line says as a directive, from its tokens; None where it has no operation, or its operation is no
 /// directive. A line with faults is refused, and of several kinds the first in the order of the kinds is told:
-/// Syntax where the tokens have no form, UnknownWord for a word that expansion takes away, FloatingPoint for
-/// DCFS, DCFD and FN, and BadOperand for attributes of AREA that no area has or that exclude each other, and for a
-/// mark of an import other than WEAK.
+/// Syntax where the tokens have no form, UnknownWord for a word that expansion takes away, and FloatingPoint for
+/// DCFS, DCFD and FN.
 pub fn parse_directive(
     alloc: Global,
     line: &Flat,
@@ -296,6 +295,7 @@ pub fn parse_directive(
                 number: line.number,
                 label,
                 what: What::Directive(said),
+                is_long: false,
             }))
         }
     }

@@ -56,23 +56,23 @@ pub fn name_alone(
     }
 }
 
-/// A token as the word WEAK.
-fn weak_word(kind: TokenKind, word: &[u8]) -> Result<bool, LineKind>
+/// A token as the word WEAK, or as another word.
+fn weak_word(kind: TokenKind, word: &[u8]) -> Result<Option<bool>, LineKind>
     ensures { result ≡ says.weak_word kind word.now }
 {
     match kind {
         TokenKind::Name => {
             if is_called(b"WEAK", word) {
-                return Ok(true);
+                return Ok(Some(true));
             }
-            Err(LineKind::BadOperand)
+            Ok(None)
         }
         _ => Err(LineKind::Syntax),
     }
 }
 
 /// A word behind a comma.
-fn weak_behind(text: &[u8], sign: Token, word: Token) -> Result<bool, LineKind>
+fn weak_behind(text: &[u8], sign: Token, word: Token) -> Result<Option<bool>, LineKind>
     ensures { result ≡ says.weak_mark text.now (sign ∷ word ∷ []) }
 {
     if is(piece_of(text, sign), b",") {
@@ -82,7 +82,12 @@ fn weak_behind(text: &[u8], sign: Token, word: Token) -> Result<bool, LineKind>
 }
 
 /// A word in brackets.
-fn weak_between(text: &[u8], left: Token, word: Token, right: Token) -> Result<bool, LineKind>
+fn weak_between(
+    text: &[u8],
+    left: Token,
+    word: Token,
+    right: Token,
+) -> Result<Option<bool>, LineKind>
     ensures { result ≡ says.weak_mark text.now (left ∷ word ∷ right ∷ []) }
 {
     if !is(piece_of(text, left), b"[") {
@@ -94,12 +99,12 @@ fn weak_between(text: &[u8], left: Token, word: Token, right: Token) -> Result<b
     weak_word(word.kind, piece_of(text, word))
 }
 
-/// What stands behind the name of an import: nothing, or a mark that it is weak.
-fn weak_mark(text: &[u8], tokens: &[Token]) -> Result<bool, LineKind>
+/// What stands behind the name of an import: nothing, a mark that it is weak, or another word in its place.
+fn weak_mark(text: &[u8], tokens: &[Token]) -> Result<Option<bool>, LineKind>
     ensures { result ≡ says.weak_mark text.now tokens.now }
 {
     match tokens {
-        [] => Ok(false),
+        [] => Ok(Some(false)),
         [_] => Err(LineKind::Syntax),
         [sign, word] => weak_behind(text, *sign, *word),
         [left, word, right] => weak_between(text, *left, *word, *right),
@@ -110,8 +115,8 @@ fn weak_mark(text: &[u8], tokens: &[Token]) -> Result<bool, LineKind>
 /// Two readings of one line.
 fn both(
     name: Result<Text, LineKind>,
-    weak: Result<bool, LineKind>,
-) -> Result<(Text, bool), LineKind>
+    weak: Result<Option<bool>, LineKind>,
+) -> Result<(Text, Option<bool>), LineKind>
     ensures { result ≡ says.on_both (λ n w. (n, w)) name weak }
 {
     match (name, weak) {
@@ -122,12 +127,12 @@ fn both(
     }
 }
 
-/// A name, and whether it is weak.
+/// A name, and whether it is weak, where that can be told.
 pub fn import(
     alloc: Global,
     text: &[u8],
     tokens: &[Token],
-) -> Result<Result<(Text, bool), LineKind>, NoMemory>
+) -> Result<Result<(Text, Option<bool>), LineKind>, NoMemory>
     ensures { IfOk result (λ import. import ≡ says.import_of text.now tokens.now) }
 {
     match tokens {

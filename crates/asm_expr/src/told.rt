@@ -5,7 +5,7 @@ ghost use Rattle.sdt_fault.specs.declared.kinds.LineKind.{LineKind};
 ghost use Rattle.asm_model.specs.declared.values.Value.{Value};
 ghost use Rattle.asm_model.specs.FaultSets as sets;
 ghost use Rattle.asm_model.specs.Kinds.{told_kind};
-ghost use Rattle.asm_model.specs.LayoutKinds as layout;
+ghost use Rattle.asm_model.specs.Kinds as kinds;
 ghost use Rattle.asm_model.specs.Meaning.{IsValue};
 
 use crate::kinds::earlier;
@@ -15,7 +15,7 @@ use sdt_fault::kinds::LineKind;
 
 /// A fault where a test holds.
 pub fn kind_if(holds: bool, kind: LineKind) -> Option<LineKind>
-    ensures { result ≡ told_kind (layout.kind_if holds kind) }
+    ensures { result ≡ told_kind (kinds.kind_if holds kind) }
 {
     if holds {
         return Some(kind);

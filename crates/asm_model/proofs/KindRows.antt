@@ -63,7 +63,7 @@ place_before_area = refl
 pub two_labels : told (words 3 (Some (codes "x")) ∷ words 2 (Some (codes "x")) ∷ area 1 contents.Code false ∷ []) ≡ Some (3, DuplicateName)
 two_labels = refl
 
-pub imported_label : told (says 3 None (line.Import (codes "x") false) ∷ words 2 (Some (codes "x")) ∷ area 1 contents.Code false ∷ []) ≡ Some (3, DuplicateName)
+pub imported_label : told (says 3 None (line.Import (codes "x") (Some false)) ∷ words 2 (Some (codes "x")) ∷ area 1 contents.Code false ∷ []) ≡ Some (3, DuplicateName)
 imported_label = refl
 
 pub two_entries : told (words 4 None ∷ says 3 None line.Entry ∷ says 2 None line.Entry ∷ area 1 contents.Code false ∷ []) ≡ Some (3, DuplicateName)

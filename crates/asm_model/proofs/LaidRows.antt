@@ -62,7 +62,7 @@ abbrev source : List Statement
 source =
     says (Some (codes "end")) (what.Directive (line.Dcd (items (name (codes "out") ∷ []) ∷ items (name (codes "far") ∷ []) ∷ items (name (codes "x") ∷ []) ∷ [])))
     ∷ area (codes "a") contents.Code
-    ∷ says None (what.Directive (line.Import (codes "far") false))
+    ∷ says None (what.Directive (line.Import (codes "far") (Some false)))
     ∷ says (Some (codes "x")) (what.Directive (line.Dcb (items (item.Constant (Words (codes "abc")) ∷ []) ∷ [])))
     ∷ area (codes "b") contents.Data
     ∷ says (Some (codes "out")) (what.Directive (line.Equ (items (item.Here ∷ []))))

@@ -87,9 +87,9 @@ abbrev flat : List ℕ → Flat
 flat text = record { source = codes "t.s"; number = 7; text = text }
 
 pub weak_line : SaysDirective (flat (codes "x IMPORT y,WEAK")) (at kind.Name 0 1 ∷ at kind.Name 2 8 ∷ at kind.Name 9 10 ∷ at kind.Sign 10 11 ∷ at kind.Name 11 15 ∷ [])
-    (Ok (statement_of (flat (codes "x IMPORT y,WEAK")) (Some (codes "x")) (line.Import (codes "y") true)))
+    (Ok (statement_of (flat (codes "x IMPORT y,WEAK")) (Some (codes "x")) (line.Import (codes "y") (Some true))))
 unfolding directive_named named_data named_symbol
-weak_line = (Ok (line.Import (codes "y") true), refl, refl)
+weak_line = (Ok (line.Import (codes "y") (Some true)), refl, refl)
 
 pub rn_line : SaysDirective (flat (codes "x RN r5")) (at kind.Name 0 1 ∷ at kind.Name 2 4 ∷ at kind.Name 5 7 ∷ [])
     (Ok (statement_of (flat (codes "x RN r5")) (Some (codes "x")) (line.Rn (rn.Register 5))))

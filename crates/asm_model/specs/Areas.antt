@@ -139,13 +139,13 @@ ReadsAttributes text (o ∷ os) r =
 abbrev pub has_bad_word : List ℕ → List (List Token) → List Attribute → Bool
 has_bad_word text os words = list_any (is_bad_word text) os || is_repeated words || is_contradicting words
 
--- an area with these attributes and this alignment
+-- an area with these attributes and this alignment; only code has the marks of code
 abbrev pub attributes_of : List Attribute → Bool → Option Expr → AreaAttributes
 attributes_of words bad align = record {
   contents = contents_of words;
   read_only = is_read_only words;
-  interwork = has Interwork words;
-  halfword = has Halfword words;
+  interwork = has Code words && has Interwork words;
+  halfword = has Code words && has Halfword words;
   pic = has Pic words;
   reentrant = has Reentrant words;
   align = align;

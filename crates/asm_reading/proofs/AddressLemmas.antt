@@ -2,7 +2,7 @@
 use Rattle.std.proofs.Common.{ℕ, List, Bool, true, false, Option, Some, None}
 use Rattle.std.specs.Prelude.{codes, Result, Ok, Err}
 use Rattle.sdt_fault.specs.declared.kinds.LineKind.{LineKind}
-use Rattle.sdt_fault.specs.declared.kinds.LineKind.TheVariants.{Syntax, BadOperand}
+use Rattle.sdt_fault.specs.declared.kinds.LineKind.TheVariants.{Syntax}
 use Rattle.asm_model.specs.declared.tokens.Token.{Token}
 use Rattle.asm_model.specs.declared.operands.Register.{Register}
 use Rattle.asm_model.specs.declared.operands.Shift.{Shift}
@@ -16,7 +16,7 @@ use Rattle.asm_arm.specs.declared.operands.Scale.TheVariants as scale
 use Rattle.asm_arm.specs.declared.addresses.Offset.{Offset}
 use Rattle.asm_arm.specs.declared.addresses.Offset.TheVariants as offset_is
 use Rattle.asm_arm.specs.declared.addresses.Addressed.{Addressed}
-use Rattle.asm_arm.specs.Addresses.{signed_by, signed_register, number_shift, ReadsPlainOffset, ReadsOffset, at, ReadsAt, ReadsScaledAt, ReadsInside, bracketed, before_of, ReadsBracketed, ReadsBefore, base, ReadsBehind, ReadsAfter, translated_of, is_base, refused, translated_before, before_as, after_as, unshifted, half_offset}
+use Rattle.asm_arm.specs.Addresses.{signed_by, signed_register, number_shift, ReadsPlainOffset, ReadsOffset, at, ReadsAt, ReadsScaledAt, ReadsInside, bracketed, before_of, ReadsBracketed, ReadsBefore, base, ReadsBehind, ReadsAfter, translated_of, is_base, translated_before, before_as, after_as, unshifted, half_offset}
 use Rattle.asm_arm.specs.Operands.{Cuts, one, two, three, cut, followed, without_first, register}
 use Rattle.said_model.specs.Said.{IsRead, RegisterSaid, ShiftSaid, HalfOffsetSaid, IsUntranslated}
 use Rattle.asm_reading.proofs.ExpressionLemmas.{zero_read, expression_gives}
@@ -115,27 +115,23 @@ after_said text a x s r f g h = behind_said text (base text a) x s r f g h
 
 -- ---- the suffix T
 
-refused_gives : {A : Type 0} (P : A → Type 0) (k : LineKind) (r : Result A LineKind) → Gives P (refused k r)
-refused_gives P k (Ok a) = tt
-refused_gives P k (Err j) = tt
-
 placed_addressed : (p : Result Addressed LineKind) → Gives PlacedSaid p → Gives AddressedSaid p
 placed_addressed (Ok a) h = h.0
 placed_addressed (Err k) h = tt
 
-translated_said : (p : Result Addressed LineKind) → Gives PlacedSaid p → Gives AddressedSaid (mapped translated_of p)
-translated_said p h = mapped_gives PlacedSaid AddressedSaid translated_of p (λ a q. q.0) h
+translated_said : (i : Indexing) (p : Result Addressed LineKind) → Gives PlacedSaid p → Gives AddressedSaid (mapped (translated_of i) p)
+translated_said i p h = mapped_gives PlacedSaid AddressedSaid (translated_of i) p (λ a q. q.0) h
 
 translated_before_said : (b : Bool) (p : Result Addressed LineKind) → Gives PlacedSaid p → Gives AddressedSaid (translated_before b p)
-translated_before_said true p h = translated_said p h
-translated_before_said false p h = refused_gives AddressedSaid BadOperand p
+translated_before_said true p h = translated_said indexing_is.Translated p h
+translated_before_said false p h = translated_said indexing_is.TranslatedBefore p h
 
 pub before_as_said : (text : List ℕ) (t : Bool) (a : List Token) (p : Result Addressed LineKind) → Gives PlacedSaid p → Gives AddressedSaid (before_as text t a p)
 before_as_said text true a p h = translated_before_said (is_base text (base text a)) p h
 before_as_said text false a p h = placed_addressed p h
 
 pub after_as_said : (t : Bool) (p : Result Addressed LineKind) → Gives PlacedSaid p → Gives AddressedSaid (after_as t p)
-after_as_said true p h = translated_said p h
+after_as_said true p h = translated_said indexing_is.Translated p h
 after_as_said false p h = placed_addressed p h
 
 -- ---- half-words

@@ -1,18 +1,17 @@
 -- Directives: their expressions are read, the number of RN's register is below 16, their names have a character and hold no
 -- zero byte, and only an area of code has the marks of code.
-use Rattle.std.proofs.Common.{◌≡◌, ℕ, List, [], ◌∷◌, ◌||◌, ◌&&◌, not, Bool, true, false, cond, refl, Option, Some, None}
+use Rattle.std.proofs.Common.{◌≡◌, ℕ, List, [], ◌∷◌, ◌&&◌, Bool, true, false, cond, refl, Option, Some, None}
 use Rattle.std.specs.Prelude.{Result, Ok, Err, MatchBool}
 use Rattle.std.specs.List.{AllByRecursion}
-use Rattle.std.proofs.lemmas.Bool.{or_parts}
 use Rattle.sdt_fault.specs.declared.kinds.LineKind.{LineKind}
-use Rattle.sdt_fault.specs.declared.kinds.LineKind.TheVariants.{Syntax, BadOperand}
+use Rattle.sdt_fault.specs.declared.kinds.LineKind.TheVariants.{Syntax}
 use Rattle.asm_model.specs.declared.tokens.Token.{Token}
 use Rattle.asm_model.specs.declared.tokens.TokenKind.{TokenKind}
 use Rattle.asm_model.specs.declared.tokens.TokenKind.TheVariants as kind
 use Rattle.asm_model.specs.declared.exprs.Expr.{Expr}
 use Rattle.asm_model.specs.declared.directives.AreaAttributes.{AreaAttributes}
 use Rattle.asm_model.specs.declared.directives.Attribute.{Attribute}
-use Rattle.asm_model.specs.declared.directives.Attribute.TheVariants.{Align, Code, Data, ReadOnly, ReadWrite, NoInit, Interwork, Halfword}
+use Rattle.asm_model.specs.declared.directives.Attribute.TheVariants.{Align, Code, NoInit, Interwork, Halfword}
 use Rattle.asm_model.specs.declared.directives.Boundary.TheVariants as limit
 use Rattle.asm_model.specs.declared.directives.Contents.TheVariants as contents
 use Rattle.asm_model.specs.declared.directives.Directive.{Directive}
@@ -23,10 +22,9 @@ use Rattle.asm_model.specs.declared.directives.LabelNeed.{LabelNeed}
 use Rattle.asm_model.specs.declared.directives.LabelNeed.TheVariants as need
 use Rattle.asm_model.specs.declared.directives.RnOperand.TheVariants as rn
 use Rattle.asm_model.specs.declared.statements.What.TheVariants as what
-use Rattle.asm_model.specs.Areas.{has, is_repeated, is_contradicting, contents_of, attributes_of, attributes_in, attribute_named, plain_attribute, word_attribute, begins_alignment, alignment, ReadsAttribute, either, ReadsAttributes, agreed}
+use Rattle.asm_model.specs.Areas.{has, attributes_written, attributes_in, attribute_named, plain_attribute, word_attribute, begins_alignment, alignment, ReadsAttribute, either, ReadsAttributes}
 use Rattle.asm_model.specs.Forms.{is_short}
 use Rattle.asm_model.specs.Grammar.{ParsesTokens}
-use Rattle.asm_model.specs.Kinds.{earlier}
 use Rattle.asm_model.specs.Operands.{operands}
 use Rattle.asm_model.specs.Parts.{piece}
 use Rattle.asm_model.specs.Says.{Form, bare, name, imported, expression, expressions, area, register, boundary, refused, form_of_directive, on_both, mapped, name_of, name_alone, weak_mark, import_of, register_alone, Expressions, SomeExpressions, Area, Register, Aligned, bare_of, Reads, label_of, label_field}
@@ -35,7 +33,7 @@ use Rattle.said_model.specs.Said.{IsRead, AllRead, OptionRead, DirectiveSaid, di
 use Rattle.said_model.proofs.SharedLemmas.{IsText, MarksFit}
 use Rattle.asm_reading.proofs.ExpressionLemmas.{parsed_read, expression_gives}
 use Rattle.asm_reading.proofs.FormLemmas.{AllHaveForm, operands_form}
-use Rattle.asm_reading.proofs.GivesLemmas.{Gives, OptionGives, any_gives, equal_gives, fault_gives, mapped_gives, both_give, cond_gives}
+use Rattle.asm_reading.proofs.GivesLemmas.{Gives, OptionGives, any_gives, equal_gives, fault_gives, mapped_gives, both_give}
 use Rattle.asm_reading.proofs.NameLemmas.{short_text, word_text}
 use Rattle.asm_reading.proofs.OperandLemmas.{IsRegister, register_small}
 use Rattle.asm_reading.proofs.TokenLemmas.{HasForm, EachHasForm, OptionHasForm}
@@ -66,7 +64,7 @@ alone_text : (text : List ℕ) (ts : List Token) → EachHasForm text ts → Giv
 alone_text text (t ∷ []) h = word_text t.kind (piece text t) h.0
 alone_text text ts h = tt
 
-abbrev ImportText : List ℕ × Bool → Type 0
+abbrev ImportText : List ℕ × Option Bool → Type 0
 ImportText i = IsText i.0
 
 import_text : (text : List ℕ) (ts : List Token) → EachHasForm text ts → Gives ImportText (import_of text ts)
@@ -113,29 +111,18 @@ attributes_read text [] r f h = equal_gives OptionRead r (Ok None) h tt
 attributes_read text (o ∷ os) r f h =
     equal_gives OptionRead r (either h.0 h.1) h.4 (either_read h.0 h.1 (attribute_read text o h.0 f.0 h.2) (attributes_read text os h.1 f.1 h.3))
 
-code_alone : (c d n i h : Bool) (other : Bool) → (other || (not c && (i || h))) ≡ false → MarksAgree (cond c contents.Code (cond n contents.Zeroes contents.Data)) i h
-code_alone true d n i h other e = tt
-code_alone false d true i h other e = or_parts i h (or_parts other (i || h) e).1
-code_alone false d false i h other e = or_parts i h (or_parts other (i || h) e).1
-
-marks_agree : (words : List Attribute) → is_contradicting words ≡ false → MarksAgree (contents_of words) (has Interwork words) (has Halfword words)
-unfolding is_contradicting
-marks_agree words e =
-    code_alone (has Code words) (has Data words) (has NoInit words) (has Interwork words) (has Halfword words)
-    ((has Code words && (has Data words || has NoInit words)) || (not (has Code words) && not (has Data words) && not (has NoInit words))
-    || (has ReadOnly words && has ReadWrite words))
-    e
+code_alone : (c n i h : Bool) → MarksAgree (cond c contents.Code (cond n contents.Zeroes contents.Data)) (c && i) (c && h)
+code_alone true n i h = tt
+code_alone false true i h = (refl, refl)
+code_alone false false i h = (refl, refl)
 
 abbrev AttributesFine : AreaAttributes → Type 0
 AttributesFine a = OptionRead a.align × MarksAgree a.contents a.interwork a.halfword
 
-agreed_fine : (words : List Attribute) (align : Result (Option Expr) LineKind) → Gives OptionRead align → Gives AttributesFine (agreed words align)
-agreed_fine words (Ok e) h = by_test (is_repeated words || is_contradicting words) refl
-  where
-    by_test : (b : Bool) → (is_repeated words || is_contradicting words) ≡ b → Gives AttributesFine (cond b (Err BadOperand) (Ok (attributes_of words e)))
-    by_test true x = tt
-    by_test false x = (h, marks_agree words (or_parts (is_repeated words) (is_contradicting words) x).1)
-agreed_fine words (Err k) h = cond_gives AttributesFine (is_repeated words || is_contradicting words) (Err (earlier BadOperand k)) (Err k) tt tt
+attributes_fine : (text : List ℕ) (os : List (List Token)) (align : Option Expr) → OptionRead align → AttributesFine (attributes_written text os align)
+attributes_fine text os align h =
+    let words = attributes_in text os in
+    (h, code_alone (has Code words) (has NoInit words) (has Interwork words) (has Halfword words))
 
 -- ---- the forms of directives
 
@@ -145,7 +132,7 @@ DirectiveFine l = DirectiveSaid l × AllByRecursion IsText (directive_names l) �
 abbrev FormFine : Form → Type 0
 FormFine (bare l) = DirectiveFine l
 FormFine (name make) = (n : List ℕ) → IsText n → DirectiveFine (make n)
-FormFine (imported make) = (n : List ℕ) (weak : Bool) → IsText n → DirectiveFine (make n weak)
+FormFine (imported make) = (n : List ℕ) (weak : Option Bool) → IsText n → DirectiveFine (make n weak)
 FormFine (expression make) = (e : Expr) → IsRead e → DirectiveFine (make e)
 FormFine (expressions make) = (es : List Expr) → AllRead es → DirectiveFine (make es)
 FormFine _ = Unit {0}
@@ -167,10 +154,11 @@ some_read text (o ∷ os) r f h = all_read text (o ∷ os) r f h
 area_fine : (text : List ℕ) (os : List (List Token)) (r : Result DirectiveLine LineKind) → AllHaveForm text os → Area text os r → Gives DirectiveFine r
 area_fine text [] r f h = fault_gives DirectiveFine Syntax r h
 area_fine text (o ∷ os) r f h =
-    let attributes = agreed (attributes_in text os) h.0 in
+    let attributes = mapped (attributes_written text os) h.0 in
     equal_gives DirectiveFine r (on_both (λ n a. line.Area n a) (name_alone text o) attributes) h.2
     (both_give IsText AttributesFine DirectiveFine (λ n a. line.Area n a) (name_alone text o) attributes (λ n a p q. (q.0, (p, tt), q.1))
-    (alone_text text o f.0) (agreed_fine (attributes_in text os) h.0 (attributes_read text os h.0 f.1 h.1)))
+    (alone_text text o f.0)
+    (mapped_gives OptionRead AttributesFine (attributes_written text os) h.0 (attributes_fine text os) (attributes_read text os h.0 f.1 h.1)))
 
 alone_small : (text : List ℕ) (ts : List Token) → OptionGives IsRegister (register_alone text ts)
 alone_small text (t ∷ []) = register_small (piece text t)

@@ -12,7 +12,7 @@ use Rattle.asm_model.specs.declared.operands.ListItem.TheVariants as entry
 use Rattle.asm_model.specs.Forms.{same}
 use Rattle.asm_model.specs.Operands.{operands_at}
 use Rattle.asm_model.specs.Parts.{piece}
-use Rattle.asm_arm.specs.Lists.{base, range_of, item, items, pc_alone, is_pc, content, list, register_list, status_begun, or_bad, occurrences, are_fields, fields_with, fields_named, with_fields, fields_of, fields}
+use Rattle.asm_arm.specs.Lists.{base, range_of, item, items, pc_alone, is_pc, content, list, register_list, status_begun, or_none, occurrences, are_fields, fields_with, fields_named, with_fields, fields_of, fields}
 use Rattle.asm_arm.specs.Operands.{marked, between, register, register_of}
 use Rattle.said_model.specs.Said.{RegisterSaid, ItemSaid, AllItemsSaid}
 use Rattle.asm_reading.proofs.GivesLemmas.{Gives, OptionGives, mapped_gives, both_give, cond_gives}
@@ -89,9 +89,9 @@ fields_with_said f s x c n = by_test (are_fields f s x c n) refl
 abbrev pub FieldsSaid : Bool × ℕ → Type 0
 FieldsSaid p = IsMask p.1
 
-pub with_fields_said : (o : Option Bool) (f : Option ℕ) → OptionGives IsMask f → Gives FieldsSaid (or_bad (with_fields o f))
-with_fields_said None f h = tt
-with_fields_said (Some p) None h = tt
+pub with_fields_said : (o : Option Bool) (f : Option ℕ) → OptionGives IsMask f → FieldsSaid (or_none (with_fields o f))
+with_fields_said None f h = omega arith
+with_fields_said (Some p) None h = omega arith
 with_fields_said (Some p) (Some f) h = h
 
 pub fields_of_said : (k : TokenKind) (s : List ℕ) → Gives FieldsSaid (fields_of k s)

@@ -11,11 +11,11 @@ use crate::lines::instruction;
 use crate::words::operation_named;
 use asm_arm::lines::unnamed;
 use asm_arm::operands::both;
-use asm_arm::says::{Labelled, Said, alone, directive, statement, told, within_limit};
+use asm_arm::says::{Labelled, Said, alone, directive, measured, statement, told};
 use asm_expr::directives::{Sentence, label_field, one_directive, parts_of};
 use asm_expr::operands::piece_of;
 use asm_expr::read::one_parse;
-use asm_lines::scan::scan;
+use asm_lines::scan::{one_scan, scan};
 use asm_model::{Flat, LabelNeed, Statement, Token};
 use sdt_fault::NoMemory;
 use sdt_fault::answer::Fault;
@@ -86,14 +86,14 @@ pub fn said_in_thumb(alloc: Global, line: &Flat) -> Result<Said, NoMemory>
         return Ok(Err(LineKind::Syntax));
     };
     let said = said_by(alloc, line, tokens.as_slice())?;
-    Ok(within_limit(tokens.as_slice(), said))
+    Ok(measured(tokens.as_slice(), said))
 }
 
 /// What a line of Thumb state says; None exactly for a blank line. A line with faults is refused, and of several kinds
 /// the first in the order of the kinds is told: Syntax where the line has no tokens, its tokens have no form or its
 /// operation is no word, UnknownWord for an operation word that nothing names in this state, FloatingPoint for a word
-/// of the FPA, TooMany for a name beyond the limit; and the faults of directives. The values of expressions are judged
-/// elsewhere, and so are registers.
+/// of the FPA; and the faults of directives. Registers, the values of expressions, words that a form doesn't have and names
+/// beyond the limit are judged elsewhere.
 pub fn parse_thumb(alloc: Global, line: &Flat) -> Result<Option<Statement>, Fault>
     requires { length line.now.text < 2 ^ 32 }
     ensures { Told line.now.source line.now.number (says.SaysThumb line.now) result }
@@ -108,4 +108,5 @@ pub fn one_thumb()
 {
     one_parse();
     one_directive();
+    one_scan();
 }

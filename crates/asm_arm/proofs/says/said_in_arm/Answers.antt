@@ -10,5 +10,5 @@ returns c =
     let found : Tokens c.as_slice.result.now c.in-Some.tokens.items =
     subst (λ o. MatchOption o (NoTokens c.as_slice.result.now) (λ v. Tokens c.as_slice.result.now v.items)) c.in-Some.is c.in_ok-tokens.ensures in
     line_said ReadsArm c.args.line.now c.as_slice.result.now c.in-Some.tokens.items c.as_slice-2.result.now c.as_slice-3.result.now
-    c.in_ok-said.said c.within_limit.result c.as_slice.ensures found c.as_slice-2.ensures.value c.as_slice-3.ensures.value
-    c.in_ok-said.ensures c.within_limit.ensures
+    c.in_ok-said.said c.measured.result c.as_slice.ensures found c.as_slice-2.ensures.value c.as_slice-3.ensures.value
+    c.in_ok-said.ensures c.measured.ensures
