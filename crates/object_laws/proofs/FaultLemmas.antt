@@ -2,16 +2,16 @@
 use Rattle.std.proofs.Common.{◌≡◌, ℕ, ◌+◌, List, [], ◌∷◌, ◌++◌, append-nil, refl, ◌∙◌, subst, None, nat_lt}
 use Rattle.std.specs.Prelude.{Result, Ok, Err}
 use Rattle.sdt_fault.specs.declared.kinds.LineKind.{LineKind}
-use Rattle.sdt_fault.specs.declared.kinds.LineKind.TheVariants.{Constant, TooMany}
+use Rattle.sdt_fault.specs.declared.kinds.LineKind.TheVariants.{TooMany}
 use Rattle.asm_model.specs.declared.statements.Statement.{Statement}
 use Rattle.asm_model.specs.declared.values.Value.{Value}
 use Rattle.asm_model.specs.Kinds.{told_kind, kind_if}
-use Rattle.asm_model.specs.Exprs.{has_large}
 use Rattle.asm_model.specs.Labels.{defined_by}
 use Rattle.asm_model.specs.Laid.{LaidLine, statements_of, taken, pieces_of, reversed, laid, final_names}
 use Rattle.asm_model.specs.LayoutKinds.{fault_kinds, map_kinds, no_area_kinds, contents_kinds, contents_behind, area_kinds, name_kinds, settled_kinds, first_equal, state_kinds, area_bytes, layout_kinds, told_at, first_fault, entry_kinds, literal_kinds, first_late, settled, equals_in}
 use Rattle.asm_model.specs.Marks.{datum_names}
 use Rattle.asm_model.specs.Offsets.{area_size}
+use Rattle.asm_model.specs.OwnKinds.{own_kinds}
 use Rattle.asm_model.specs.Symbols.{literal_value}
 use Rattle.layout_laws.proofs.SoundLemmas.{both_empty, or_none, told_none}
 use Rattle.source_model.specs.Contexts.{sees}

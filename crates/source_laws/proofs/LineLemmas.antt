@@ -2,15 +2,15 @@
 use Rattle.std.proofs.Common.{◌≡◌, ℕ, ◌+◌, ◌≤◌, List, [], ◌∷◌, ◌++◌, refl, sym, ◌∙◌, ap, subst, arith, Some, None}
 use Rattle.std.specs.Prelude.{Result, Ok, Err}
 use Rattle.sdt_fault.specs.declared.kinds.LineKind.{LineKind}
-use Rattle.sdt_fault.specs.declared.kinds.LineKind.TheVariants.{Constant, TooMany}
+use Rattle.sdt_fault.specs.declared.kinds.LineKind.TheVariants.{TooMany}
 use Rattle.asm_model.specs.declared.statements.Statement.{Statement}
 use Rattle.asm_model.specs.Kinds.{told_kind, kind_if}
-use Rattle.asm_model.specs.Exprs.{has_large}
 use Rattle.asm_model.specs.Extents.{Extent}
 use Rattle.asm_model.specs.Laid.{LaidLine, statements_of, taken, pieces_of, laid_behind, laid_of, laid}
 use Rattle.asm_model.specs.Labels.{defined_by, declared_names}
 use Rattle.asm_model.specs.LayoutKinds.{fault_kinds, map_kinds, no_area_kinds, contents_kinds, contents_behind, area_kinds, name_kinds, settled_kinds, first_equal, state_kinds, equals_in, settled, layout_kinds, told_at, first_fault, area_bytes}
 use Rattle.asm_model.specs.Offsets.{Piece, lacking, waiting, alignment_of, end_behind, start_in, size_of, offset_of, size_behind, end_from, area_size}
+use Rattle.asm_model.specs.OwnKinds.{own_kinds}
 use Rattle.asm_model.proofs.LaidLemmas.{lines_stand_at_offsets}
 use Rattle.asm_model.proofs.OffsetLemmas.{more, through, end_here, end_rises, all_rise, up_to_size}
 use Rattle.asm_model.specs.Sound.{IsSound}

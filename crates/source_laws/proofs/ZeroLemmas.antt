@@ -5,7 +5,7 @@ use Rattle.std.specs.List.{list_any}
 use Rattle.std.proofs.lemmas.Bool.{cond-true, cond-false, eq-eqb, or_parts, or_left, or_right}
 use Rattle.std.proofs.lemmas.List.Folds.{list_any-append}
 use Rattle.sdt_fault.specs.declared.kinds.LineKind.{LineKind}
-use Rattle.sdt_fault.specs.declared.kinds.LineKind.TheVariants.{Constant, BadOperand, TooMany}
+use Rattle.sdt_fault.specs.declared.kinds.LineKind.TheVariants.{BadOperand, TooMany}
 use Rattle.asm_model.specs.declared.directives.AreaAttributes.{AreaAttributes}
 use Rattle.asm_model.specs.declared.directives.Contents.{Contents}
 use Rattle.asm_model.specs.declared.directives.Contents.TheVariants as contents
@@ -20,11 +20,11 @@ use Rattle.asm_model.specs.Kinds.{told_kind, kind_if}
 use Rattle.asm_model.proofs.WordLemmas.{same_refl, same_true}
 use Rattle.asm_model.specs.Before.{area_named, with_name, areas_behind, place_of, area_from, area_behind}
 use Rattle.asm_model.specs.Labels.{defined_by, declared_names}
-use Rattle.asm_model.specs.Exprs.{has_large}
 use Rattle.asm_model.specs.Laid.{LaidLine, statements_of, laid_of, laid}
 use Rattle.asm_model.specs.LayoutKinds.{fault_kinds, map_kinds, no_area_kinds, is_zero_statement, contents_kinds, contents_from, contents_behind, exponent, exponent_kinds, same_contents, same_mark, same_exponent, same_attributes, again_with, is_named_otherwise, area_kinds, name_kinds, equals_in, settled, settled_kinds, first_equal, state_kinds, layout_kinds, told_at, first_fault, area_bytes}
 use Rattle.asm_model.specs.Marks.{datum_names}
 use Rattle.asm_model.specs.Offsets.{is_of}
+use Rattle.asm_model.specs.OwnKinds.{own_kinds}
 use Rattle.asm_model.proofs.OffsetLemmas.{is_here}
 use Rattle.layout_laws.proofs.SoundLemmas.{both_empty, or_none, told_none, kind_none}
 use Rattle.source_model.specs.Contexts.{Context}

@@ -40,7 +40,7 @@ area c = says 1 None (what.Directive (line.Area (codes "words") (record {
 })))
 
 abbrev import_far : Statement
-import_far = says 2 None (what.Directive (line.Import (codes "far") false))
+import_far = says 2 None (what.Directive (line.Import (codes "far") (Some false)))
 
 abbrev items : List ExprItem → Expr
 items is = record { items = is }
