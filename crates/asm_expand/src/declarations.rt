@@ -69,7 +69,8 @@ pub fn say_global(
     sort: Sort,
 ) -> Result<Next, NoMemory>
     ensures says { IfOk result (λ next. Says at state.old state.new next (λ s l ls.
-        model.declares_global l (words_shown words.entry) sort s ls (as_name (operand_text words.entry.behind.now)))) }
+        model.declares_global l (words_shown words.entry) sort s ls
+        (as_name (operand_text words.entry.behind.now)))) }
     ensures visits { state.new.visits ≤ state.old.visits }
     ensures flats { state.new.flats.items ≡ state.old.flats.items }
 {
@@ -108,7 +109,8 @@ pub fn say_local(
     sort: Sort,
 ) -> Result<Next, NoMemory>
     ensures says { IfOk result (λ next. Says at state.old state.new next (λ s l ls.
-        model.declares_local l (words_shown words.entry) sort s ls (as_name (operand_text words.entry.behind.now)))) }
+        model.declares_local l (words_shown words.entry) sort s ls
+        (as_name (operand_text words.entry.behind.now)))) }
     ensures visits { state.new.visits ≤ state.old.visits }
     ensures flats { state.new.flats.items ≡ state.old.flats.items }
 {

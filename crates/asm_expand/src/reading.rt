@@ -194,7 +194,8 @@ fn say_macro(
     words: Words<'_>,
 ) -> Result<Next, NoMemory>
     ensures says { IfOk result (λ next. Says at state.old state.new next (λ s l ls.
-        model.judged l (told_kind (model.alone_kinds (words_shown words.entry))) (model.definition l s ls))) }
+        model.judged l (told_kind (model.alone_kinds (words_shown words.entry)))
+        (model.definition l s ls))) }
     ensures visits { state.new.visits ≤ state.old.visits }
     ensures flats { state.new.flats.items ≡ state.old.flats.items }
 {
@@ -216,7 +217,8 @@ fn say_word(
 ) -> Result<Next, NoMemory>
     requires { WasRead operand.now }
     ensures says { IfOk result (λ next. SaysFrom at state.old state.new next (λ sources s l ls.
-        model.said_word sources (depth_of depth) l (words_shown words.entry) operand.now s ls operation)) }
+        model.said_word sources (depth_of depth) l (words_shown words.entry) operand.now s ls
+        operation)) }
     ensures visits { state.new.visits ≤ state.old.visits }
     ensures flats { state.new.flats.items ≡ state.old.flats.items }
 {

@@ -107,7 +107,8 @@ fn take_byte(
     pieces: &mut Vec<Text>,
 ) -> Result<(), NoMemory>
     ensures { OnOk result
-        (Takes (first, standing) pieces.old.items piece.old.items pieces.new.items piece.new.items) }
+        (Takes (first, standing) pieces.old.items piece.old.items pieces.new.items
+        piece.new.items) }
 {
     if first == b',' && !is_quoted(standing) {
         end_piece(alloc, piece, pieces)?;
