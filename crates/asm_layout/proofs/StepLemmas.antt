@@ -3,7 +3,7 @@ use Rattle.std.proofs.Common.{◌≡◌, ◌≤◌, ℕ, ◌+◌, ◌||◌, Bool
 use Rattle.std.specs.Prelude.{nat_lt}
 use Rattle.std.specs.List.{list_any}
 use Rattle.sdt_fault.specs.declared.kinds.LineKind.{LineKind}
-use Rattle.sdt_fault.specs.declared.kinds.LineKind.TheVariants.{BadOperand, Constant}
+use Rattle.sdt_fault.specs.declared.kinds.LineKind.TheVariants.{BadOperand}
 use Rattle.asm_areas.specs.Starts.{IsSmall, IsAligned}
 use Rattle.asm_checks.specs.Areas.{IsExponent}
 use Rattle.asm_checks.specs.Checked.{checked_kinds, IsCircular}
@@ -16,13 +16,13 @@ use Rattle.asm_model.specs.declared.names.LaidName.{LaidName}
 use Rattle.asm_model.specs.declared.statements.Statement.{Statement}
 use Rattle.asm_model.specs.declared.statements.What.{What}
 use Rattle.asm_model.specs.declared.statements.What.TheVariants as what
-use Rattle.asm_model.specs.Exprs.{has_large}
 use Rattle.asm_model.specs.FaultSets.{first_told}
 use Rattle.asm_model.specs.Kinds.{told_kind, kind_if}
 use Rattle.asm_model.proofs.FaultLemmas.{told_by_parts}
 use Rattle.asm_model.specs.Labels.{Defined, Unnamed, Label, Equal, MapField, RegisterName, defined_by}
 use Rattle.asm_model.specs.Laid.{LaidLine, laid_behind, statements_of}
 use Rattle.asm_model.specs.LayoutKinds.{exponent, exponent_kinds, area_kinds, no_area_kinds, contents_kinds, contents_behind, name_kinds, settled_kinds, state_kinds, in_thumb_area, is_named_otherwise, names_behind, first_equal, told_at}
+use Rattle.asm_model.specs.OwnKinds.{own_kinds}
 use Rattle.std.specs.Global.{Vec}
 use Rattle.sdt_fault.specs.declared.answer.Fault.{Fault}
 use Rattle.asm_areas.specs.declared.starts.AreaStart.{AreaStart}
@@ -79,8 +79,8 @@ area_part w settled all l before is none =
     let names = name_kinds l.statement (statements_of before) in
     let last = settled_kinds settled (first_equal (defined_by l.statement) (statements_of before)) in
     let state = state_kinds l.area l.thumb l.statement.what all in
-    let large = own_kinds l.statement in
-    let most = none_parts (here ++ areas ++ names ++ last) state (none_parts (here ++ areas ++ names ++ last ++ state) large none).0 in
+    let own = own_kinds l.statement in
+    let most = none_parts (here ++ areas ++ names ++ last) state (none_parts (here ++ areas ++ names ++ last ++ state) own none).0 in
     let part = none_parts (here ++ areas) names (none_parts (here ++ areas ++ names) last most.0).0 in
     subst (λ (v : What). told_kind (area_kinds l.seen v before) ≡ None) is (none_parts here areas part.0).1
 

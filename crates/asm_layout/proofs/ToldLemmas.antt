@@ -6,13 +6,13 @@ use Rattle.sdt_fault.specs.declared.kinds.LineKind.TheVariants.{Syntax, UnknownW
 use Rattle.asm_checks.specs.Checked.{checked_kinds}
 use Rattle.asm_laying.specs.Laying.{told_of}
 use Rattle.asm_model.specs.declared.statements.Statement.{Statement}
-use Rattle.asm_model.specs.Exprs.{has_large}
 use Rattle.asm_model.specs.FaultSets.{first_told}
 use Rattle.asm_model.specs.Kinds.{rank, earlier, told_kind, kind_if}
 use Rattle.asm_model.proofs.FaultLemmas.{takes, stays, first_assoc, told_by_parts}
 use Rattle.asm_model.specs.Labels.{defined_by}
 use Rattle.asm_model.specs.Laid.{LaidLine, statements_of}
 use Rattle.asm_model.specs.LayoutKinds.{fault_kinds, map_kinds, no_area_kinds, contents_kinds, contents_behind, area_kinds, name_kinds, settled_kinds, first_equal, state_kinds, area_bytes}
+use Rattle.asm_model.specs.OwnKinds.{own_kinds}
 use Rattle.source_model.specs.Registers.{register_kinds}
 use Rattle.asm_layout.specs.Walking.{told_by}
 
