@@ -1,14 +1,11 @@
--- Each line has tokens, or one fault.
+-- Each line has tokens, or none.
 use Rattle.std.proofs.Common.{◌≡◌, ℕ, zero, suc, ◌+◌, ◌<◌, ◌≤◌, List, [], ◌∷◌, length, take, drop, Bool, true, false, refl, ◌∙◌, ap, arith, length-drop, ◌⊎◌, inl, inr}
-use Rattle.std.specs.Prelude.{Option, Some, None, Result, Ok, Err}
-use Rattle.std.specs.List.{list_any}
-use Rattle.sdt_fault.specs.declared.kinds.LineKind.{LineKind}
-use Rattle.sdt_fault.specs.declared.kinds.LineKind.TheVariants.{Syntax, TooMany}
+use Rattle.std.specs.Prelude.{Option, Some, None}
 use Rattle.asm_model.specs.declared.tokens.Due.{Due}
 use Rattle.asm_model.specs.declared.tokens.Due.TheVariants.{Label, Operation, Operands, Nothing}
 use Rattle.asm_model.specs.declared.tokens.Token.{Token}
 use Rattle.asm_model.specs.declared.tokens.TokenKind.{TokenKind}
-use Rattle.asm_model.specs.Tokens.{is_operation_sign, blanks, is_end, is_long, due_behind, TokensFrom, Scans, first_due}
+use Rattle.asm_model.specs.Tokens.{is_operation_sign, blanks, is_end, due_behind, TokensFrom, AreTokens, first_due}
 use Rattle.asm_lines.specs.Lengths.{best_of}
 use Rattle.asm_lines.specs.Steps.{IsTheToken}
 use Rattle.asm_lines.proofs.KindLemmas.{best_longest, best_none}
@@ -96,14 +93,10 @@ found (suc f) = λ due place rest h. found_at f (found f) due place rest h (is_e
 
 -- ---- lines
 
-scanned : (text : List ℕ) → Found (first_due text) 0 text → (r : Result (List Token) LineKind) × Scans text r
-scanned text (inr none) = (Err Syntax, inl (refl, none))
-scanned text (inl found) = by (list_any is_long found.0) refl
-  where
-    by : (b : Bool) → list_any is_long found.0 ≡ b → (r : Result (List Token) LineKind) × Scans text r
-    by true e = (Err TooMany, inr (refl, (found.0, found.1, e)))
-    by false e = (Ok found.0, (found.1, e))
+scanned : (text : List ℕ) → Found (first_due text) 0 text → (o : Option (List Token)) × AreTokens text o
+scanned text (inr none) = (None, none)
+scanned text (inl found) = (Some found.0, found.1)
 
--- a line has tokens, or one fault
-pub some_scan : (text : List ℕ) → (r : Result (List Token) LineKind) × Scans text r
+-- a line has tokens, or none
+pub some_scan : (text : List ℕ) → (o : Option (List Token)) × AreTokens text o
 some_scan text = scanned text (found (length text + 1) (first_due text) 0 text (omega arith))

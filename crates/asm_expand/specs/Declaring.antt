@@ -5,6 +5,7 @@ use Rattle.sdt_fault.specs.declared.kinds.LineKind.{LineKind}
 use Rattle.sdt_fault.specs.declared.kinds.LineKind.TheVariants.{DuplicateName, Nesting, TooMany}
 use Rattle.asm_model.specs.Kinds.{told_kind, kind_if}
 use Rattle.expand_model.specs.declared.operations.Sort.{Sort}
+use Rattle.expand_model.specs.Known.{Operand, long_kinds}
 use Rattle.expand_model.specs.Prototypes.{is_long}
 use Rattle.expand_model.specs.States.{found, locals_of, variable}
 use Rattle.expand_model.specs.Steps.{label_kinds, target_kinds}
@@ -24,3 +25,7 @@ LocalFault c w name told =
 
 abbrev pub TargetFault : Expansion → Sort → List ℕ → Option LineKind → Type 0
 TargetFault c sort name told = Values c (λ s. told ≡ told_kind (target_kinds sort (variable s name)))
+
+abbrev pub SetFault : Expansion → Sort → List ℕ → Operand → Option LineKind → Type 0
+SetFault c sort name x told =
+    Values c (λ s. told ≡ told_kind (target_kinds sort (variable s name) ++ long_kinds x))

@@ -1,7 +1,7 @@
 //! IF and WHILE: the lines that they let read, and those that they skip.
 
 ghost use Rattle.std.specs.Prelude.{◌≡◌, ◌≤◌, ◌++◌, IfOk};
-ghost use Rattle.expand_model.specs.Known.{value_of};
+ghost use Rattle.expand_model.specs.Known.{long_kinds, value_of};
 ghost use Rattle.expand_model.specs.Steps as model;
 ghost use Rattle.asm_variables.specs.Known.{WasRead};
 ghost use Rattle.asm_expand.specs.Saying.{Says, SkipsFrom, Shortens, depth_of};
@@ -102,14 +102,15 @@ pub fn say_if(
 ) -> Result<Next, NoMemory>
     requires { WasRead operand.now }
     ensures says { IfOk result (λ next. Says at state.old state.new next (λ s l ls.
-        model.valued l (model.label_kinds (words_shown words.entry) ++ model.depth_kinds (depth_of depth))
+        model.valued l (model.label_kinds (words_shown words.entry)
+        ++ model.depth_kinds (depth_of depth) ++ long_kinds operand.now)
         (model.truth (value_of s operand.now)) (model.branch l s ls))) }
     ensures visits { state.new.visits ≤ state.old.visits }
     ensures flats { state.new.flats.items ≡ state.old.flats.items }
 {
     let value = value_of(alloc, state, operand)?;
     let truth = truth_of(value);
-    let told = opening_fault(words, depth);
+    let told = opening_fault(words, depth, operand);
     match settle(told, truth) {
         Err(kind) => Ok(Next::Bad(at, kind)),
         Ok(truth) => branch(alloc, state, at, truth),
@@ -127,14 +128,15 @@ pub fn say_while(
 ) -> Result<Next, NoMemory>
     requires { WasRead operand.now }
     ensures says { IfOk result (λ next. Says at state.old state.new next (λ s l ls.
-        model.valued l (model.label_kinds (words_shown words.entry) ++ model.depth_kinds (depth_of depth))
+        model.valued l (model.label_kinds (words_shown words.entry)
+        ++ model.depth_kinds (depth_of depth) ++ long_kinds operand.now)
         (model.truth (value_of s operand.now)) (model.loop l s ls))) }
     ensures visits { state.new.visits ≤ state.old.visits }
     ensures flats { state.new.flats.items ≡ state.old.flats.items }
 {
     let value = value_of(alloc, state, operand)?;
     let truth = truth_of(value);
-    let told = opening_fault(words, depth);
+    let told = opening_fault(words, depth, operand);
     match settle(told, truth) {
         Err(kind) => Ok(Next::Bad(at, kind)),
         Ok(truth) => turn_around(alloc, state, at, truth),

@@ -2,20 +2,18 @@
 
 ghost use Rattle.std.specs.Prelude.{◌≡◌, ◌≤◌, ◌++◌, not, IfOk};
 ghost use Rattle.asm_model.specs.Kinds.{told_kind};
-ghost use Rattle.expand_model.specs.Known.{value_of};
-ghost use Rattle.expand_model.specs.Prototypes.{is_long};
+ghost use Rattle.expand_model.specs.Known.{long_kinds, value_of};
 ghost use Rattle.expand_model.specs.Steps as model;
 ghost use Rattle.expand_model.specs.Words.{as_name, operand_text};
-ghost use Rattle.asm_expand.specs.Declaring.{GlobalFault, LocalFault, TargetFault};
+ghost use Rattle.asm_expand.specs.Declaring.{GlobalFault, LocalFault, SetFault, TargetFault};
 ghost use Rattle.asm_variables.specs.Known.{WasRead};
 ghost use Rattle.asm_expand.specs.Saying.{Says};
 ghost use Rattle.asm_variables.specs.Steps.{words_shown};
 
-use crate::faults::{label_fault, settle};
+use crate::faults::{is_long, label_fault, long_fault, settle};
 use crate::places::Place;
 use crate::steps::Next;
 use asm_expr::told::{first_told, kind_if};
-use asm_lines::scan::NAME_BYTES;
 use asm_model::{Expr, Value};
 use asm_variables::expansion::Expansion;
 use asm_variables::operands::operand_text;
@@ -48,13 +46,6 @@ fn is_of(sort: Sort, value: &Value) -> bool
         (Sort::Textual, Value::Words(_)) => true,
         _ => false,
     }
-}
-
-/// Whether a name is beyond the limit.
-pub fn is_long(name: &[u8]) -> bool
-    ensures { result ≡ is_long name.now }
-{
-    name.len() > NAME_BYTES
 }
 
 /// The fault of a global variable more.
@@ -145,6 +136,19 @@ fn target_fault(state: &Expansion, sort: Sort, name: &Text) -> Option<LineKind>
     }
 }
 
+/// The faults of a SETA, SETL or SETS but for its value's.
+#[tactic(auto, using(asm_model::proofs::FaultLemmas::told_by_parts))]
+fn set_fault(
+    state: &Expansion,
+    sort: Sort,
+    name: &Text,
+    operand: &Result<Expr, LineKind>,
+) -> Option<LineKind>
+    ensures { SetFault state.now sort name.now operand.now result }
+{
+    first_told(target_fault(state, sort, name), long_fault(operand))
+}
+
 /// A value of the type.
 fn of_type(sort: Sort, value: Result<Value, LineKind>) -> Result<Value, LineKind>
     ensures { result ≡ model.of_type sort value }
@@ -171,7 +175,8 @@ pub fn say_set(
 ) -> Result<Next, NoMemory>
     requires { WasRead operand.now }
     ensures says { IfOk result (λ next. Says at state.old state.new next (λ s l ls.
-        model.sets l sort s ls (as_name words.entry.label.now) (value_of s operand.now))) }
+        model.sets l sort s ls (as_name words.entry.label.now) (long_kinds operand.now)
+        (value_of s operand.now))) }
     ensures visits { state.new.visits ≤ state.old.visits }
     ensures flats { state.new.flats.items ≡ state.old.flats.items }
 {
@@ -181,7 +186,7 @@ pub fn say_set(
     let name = Text::from_slice(alloc, name)?;
     let value = value_of(alloc, state, operand)?;
     let typed = of_type(sort, value);
-    let told = target_fault(state, sort, &name);
+    let told = set_fault(state, sort, &name, operand);
     match settle(told, typed) {
         Err(kind) => Ok(Next::Bad(at, kind)),
         Ok(value) => {

@@ -8,7 +8,7 @@ ghost use Rattle.asm_expand.specs.Defining.{Defines, IsPrototype, IsDefinition, 
 ghost use Rattle.asm_expand.specs.Saying.{Says};
 ghost use Rattle.expand_model.specs.Words.{listed};
 
-use crate::declarations::is_long;
+use crate::faults::is_long;
 use crate::places::Place;
 use crate::steps::{End, Next};
 use asm_expr::told::{first_told, kind_if};

@@ -23,7 +23,7 @@ use crate::steps::{Depth, End, Next};
 use asm_expr::directives::parts_of;
 use asm_expr::read::expression;
 use asm_expr::told::{first_told, kind_if};
-use asm_lines::scan::{has_long, scan};
+use asm_lines::scan::scan;
 use asm_lines::split::LINE_BYTES;
 use asm_model::Expr;
 use asm_variables::expansion::{Definition, Expansion};
@@ -57,9 +57,6 @@ fn expression_in(alloc: Global, text: &[u8]) -> Result<Result<Expr, LineKind>, N
     let Some(tokens) = found else {
         return Ok(Err(LineKind::Syntax));
     };
-    if has_long(tokens.as_slice()) {
-        return Ok(Err(LineKind::TooMany));
-    }
     expression(alloc, text, parts_of(tokens.as_slice()).behind)
 }
 
