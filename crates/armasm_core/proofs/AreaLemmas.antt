@@ -68,11 +68,11 @@ first_alike (Some a) b (Some c) d h k = h
 line_alike : (area : ℕ) (thumb : Bool) (l : LaidLine) (before : List LaidLine) (w : What) → area_kinds l.seen w before ≡ [] → AreAlike (says_area area l w thumb) (contents_in area l w)
 line_alike area thumb l before (what.Directive (line.Area name a)) e = by_area (is_of area l.area)
   where
-    small : or_two (exponent l.seen a.align) ≤ 16
-    small = exponent_small (exponent l.seen a.align) (both_empty (exponent_kinds (exponent l.seen a.align)) (kind_if (is_named_otherwise name l.seen a before) BadOperand) e).0
+    small : or_two (exponent l.seen a.alignments) ≤ 16
+    small = exponent_small (exponent l.seen a.alignments) (both_empty (exponent_kinds (exponent l.seen a.alignments)) (kind_if (is_named_otherwise name l.seen a before) BadOperand) e).0
 
-    by_area : (b : Bool) → AreAlike (cond b (Some (attributes_word a (or_two (exponent l.seen a.align)) thumb)) None) (cond b (Some a.contents) None)
-    by_area true = code_bit a (or_two (exponent l.seen a.align)) thumb small
+    by_area : (b : Bool) → AreAlike (cond b (Some (attributes_word a (or_two (exponent l.seen a.alignments)) thumb)) None) (cond b (Some a.contents) None)
+    by_area true = code_bit a (or_two (exponent l.seen a.alignments)) thumb small
     by_area false = tt
 line_alike area thumb l before _ e = tt
 

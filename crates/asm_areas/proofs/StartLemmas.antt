@@ -95,7 +95,7 @@ kept_none : (all : List Statement) (l : LaidLine) (before : List LaidLine) (name
 kept_none all l before name a k w e h = rw (h, w, e) refl
 
 says_word : (k : ℕ) (l : LaidLine) (name : List ℕ) (a : AreaAttributes) (thumb : Bool) (x : Result ℕ LineKind) → IsArea l name a → is_of k l.area ≡ true
-    → x ≡ exponent l.seen a.align → says_area k l l.statement.what thumb ≡ Some (begun name a thumb x).attributes
+    → x ≡ exponent l.seen a.alignments → says_area k l l.statement.what thumb ≡ Some (begun name a thumb x).attributes
 says_word k l name a thumb x w e is = rw (w, e, sym is) refl
 
 -- an area that is there goes on
@@ -114,7 +114,7 @@ old_area all l before starts name a w there within h = record {
 -- and a new one stands behind the others
 new_area : (all : List Statement) (l : LaidLine) (before : List LaidLine) (starts : List AreaStart) (name : List ℕ) (a : AreaAttributes) (thumb : Bool) (x : Result ℕ LineKind)
     → IsArea l name a → thumb ≡ is_thumb_area (length starts) all
-    → list_any (same name) (areas_behind (statements_of before)) ≡ false → l.area ≡ Some (length starts) → x ≡ exponent l.seen a.align
+    → list_any (same name) (areas_behind (statements_of before)) ≡ false → l.area ≡ Some (length starts) → x ≡ exponent l.seen a.alignments
     → AreStarts all before starts → AreStarts all (l ∷ before) (starts ++ begun name a thumb x ∷ [])
 new_area all l before starts name a thumb x w state there at is h = record {
   names = map_more starts new ∙ ap (λ (ns : List (List ℕ)). ns ++ name ∷ []) h.names ∙ sym (rw (w, there) refl);

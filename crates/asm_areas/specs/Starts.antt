@@ -32,7 +32,7 @@ IsSmall (Err k) = Unit {0}
 
 -- the exponent of an AREA's alignment, which is no fault
 abbrev pub IsAligned : What → Result ℕ LineKind → LaidLine → Type 0
-IsAligned (what.Directive (line.Area name a)) x l = (x ≡ exponent l.seen a.align) × IsSmall x
+IsAligned (what.Directive (line.Area name a)) x l = (x ≡ exponent l.seen a.alignments) × IsSmall x
 IsAligned _ x l = Unit {0}
 
 -- what is known of a line behind others

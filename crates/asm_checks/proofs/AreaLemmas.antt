@@ -120,18 +120,18 @@ again a n (Some m) b y e = rw (agreed a n m (not_false (agrees a (Ok n) m) e)) (
     not_false false f = absurd (cc)
 
 pub named_again : (before : List LaidLine) (l : LaidLine) (name : List ℕ) (a : AreaAttributes) (x : Result ℕ LineKind) (old new : Areas)
-    → AreAreasOf before old → IsNoted name a x old new → l.statement.what ≡ what.Directive (line.Area name a) → x ≡ exponent l.seen a.align
+    → AreAreasOf before old → IsNoted name a x old new → l.statement.what ≡ what.Directive (line.Area name a) → x ≡ exponent l.seen a.alignments
     → told_kind (exponent_kinds x ++ kind_if (is_otherwise a x (marks_in old name)) BadOperand) ≡ None → AreAreasOf (l ∷ before) new
 named_again before l name a x old new areas note said aligned none other t b =
     let good = is_good a x (marks_in old name) none in
     ap (λ w. again_with other t b l.seen w (is_named_otherwise other t b before)) said
     ∙ by_test good (same other name) refl
-    ∙ ap (is_otherwise b (exponent t b.align)) (sym (note other))
+    ∙ ap (is_otherwise b (exponent t b.alignments)) (sym (note other))
   where
     by_test : IsGood a x (marks_in old name) → (c : Bool) → same other name ≡ c
         → cond c (not (same_attributes t b l.seen a) || is_named_otherwise other t b before) (is_named_otherwise other t b before)
-        ≡ is_otherwise b (exponent t b.align) (cond c (noted a x (marks_in old name)) (marks_in old other))
+        ≡ is_otherwise b (exponent t b.alignments) (cond c (noted a x (marks_in old name)) (marks_in old other))
     by_test good false e = areas other t b
     by_test good true e =
         rw (areas other t b, same_true other name e, ← aligned, good.is)
-        (again a good.number (marks_in old name) b (exponent t b.align) good.as_before)
+        (again a good.number (marks_in old name) b (exponent t b.alignments) good.as_before)

@@ -53,9 +53,9 @@ IsNoted name a x before after = (q : List ℕ) → marks_in after q ≡ (if same
 abbrev pub AreAreasOf : List LaidLine → Areas → Type 0
 AreAreasOf before areas =
     (name : List ℕ) (s : Names) (a : AreaAttributes)
-    → is_named_otherwise name s a before ≡ is_otherwise a (exponent s a.align) (marks_in areas name)
+    → is_named_otherwise name s a before ≡ is_otherwise a (exponent s a.alignments) (marks_in areas name)
 
 -- the exponent of an AREA's alignment, by what its line sees
 abbrev pub IsExponent : Names → What → Result ℕ LineKind → Type 0
-IsExponent s (what.Directive (line.Area name a)) x = x ≡ exponent s a.align
+IsExponent s (what.Directive (line.Area name a)) x = x ≡ exponent s a.alignments
 IsExponent s _ x = Unit {0}

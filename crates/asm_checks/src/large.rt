@@ -152,20 +152,11 @@ fn in_register(register: &RnOperand) -> bool
     }
 }
 
-fn in_option(e: &Option<Expr>) -> bool
-    ensures { result ≡ has_one (exprs.option_exprs e.now) }
-{
-    match e {
-        None => false,
-        Some(e) => in_expression(e),
-    }
-}
-
 fn in_directive(line: &DirectiveLine) -> bool
     ensures { result ≡ has_one (exprs.directive_exprs line.now) }
 {
     match line {
-        DirectiveLine::Area { attributes, .. } => in_option(&attributes.align),
+        DirectiveLine::Area { attributes, .. } => in_expressions(attributes.alignments.as_slice()),
         DirectiveLine::Equ { value } | DirectiveLine::Map { value } => in_expression(value),
         DirectiveLine::Rn { register } => in_register(register),
         DirectiveLine::Assert { condition } => in_expression(condition),

@@ -8,12 +8,11 @@ use Rattle.asm_model.specs.declared.tokens.Token.{Token}
 use Rattle.asm_model.specs.declared.exprs.Expr.{Expr}
 use Rattle.asm_model.specs.declared.directives.AreaAttributes.{AreaAttributes}
 use Rattle.asm_model.specs.declared.directives.Attribute.{Attribute}
-use Rattle.asm_model.specs.Areas.{attributes_in, attribute_in, is_bad_word, attributes_of, listed, ReadsAttribute, ReadsAttributes, either}
-use Rattle.asm_model.specs.Directives.{or_else}
+use Rattle.asm_model.specs.Areas.{attributes_in, attribute_in, is_bad_word, attributes_of, listed, joined, ReadsAttribute, ReadsAttributes}
 use Rattle.asm_model.specs.Grammar.{ParsesTokens}
 use Rattle.asm_model.specs.Operands.{operands_at, lengthened}
 use Rattle.asm_model.specs.Says.{Expressions, on_both, mapped, Aligned}
-use Rattle.asm_expr.specs.AreaSteps.{ReadsBehind, has_bad_word_in}
+use Rattle.asm_expr.specs.AreaSteps.{ReadsBehind, has_bad_word_in, with_alignment}
 use Rattle.asm_expr.specs.Steps.{CutsOperands}
 use Rattle.asm_expr.proofs.OperandLemmas.{begins}
 use Rattle.asm_model.proofs.FaultLemmas.{earlier_assoc}
@@ -63,42 +62,45 @@ past_two text os o p ts e =
     let more = some_operand [] (operands_at text 0 ts) in
     rw (e, begins text 0 ts, more.2) refl
 
-no_number_behind : (a : Result (Option Expr) LineKind) → either a (Ok None) ≡ a
-no_number_behind (Ok None) = refl
-no_number_behind (Ok (Some e)) = refl
-no_number_behind (Err k) = refl
+-- the numbers of alignments behind others
+abbrev pub both_lists : Result (List Expr) LineKind → Result (List Expr) LineKind → Result (List Expr) LineKind
+both_lists s b = on_both (λ es fs. es ++ fs) s b
 
-first_of_three : (a b c : Option Expr) → or_else a (or_else b c) ≡ or_else (or_else a b) c
-first_of_three None b c = refl
-first_of_three (Some e) b c = refl
+last_alignment : (s : Result (List Expr) LineKind) (a : Result (Option Expr) LineKind) → both_lists s (joined a (Ok [])) ≡ with_alignment s a
+last_alignment (Ok es) (Ok None) = refl
+last_alignment (Ok es) (Ok (Some e)) = refl
+last_alignment (Ok es) (Err k) = refl
+last_alignment (Err k) (Ok e) = refl
+last_alignment (Err k) (Err j) = refl
 
-either_assoc : (a b c : Result (Option Expr) LineKind) → either a (either b c) ≡ either (either a b) c
-either_assoc (Ok a) (Ok b) (Ok c) = ap Ok (first_of_three a b c)
-either_assoc (Ok a) (Ok b) (Err k) = refl
-either_assoc (Ok a) (Err j) (Ok c) = refl
-either_assoc (Ok a) (Err j) (Err k) = refl
-either_assoc (Err i) (Ok b) (Ok c) = refl
-either_assoc (Err i) (Ok b) (Err k) = refl
-either_assoc (Err i) (Err j) (Ok c) = refl
-either_assoc (Err i) (Err j) (Err k) = ap Err (earlier_assoc i j k)
+next_alignment : (s : Result (List Expr) LineKind) (a : Result (Option Expr) LineKind) (b : Result (List Expr) LineKind)
+    → both_lists s (joined a b) ≡ both_lists (with_alignment s a) b
+next_alignment (Ok es) (Ok e) (Ok fs) = ap Ok (sym (append_assoc es (listed e) fs))
+next_alignment (Ok es) (Ok e) (Err k) = refl
+next_alignment (Ok es) (Err j) (Ok fs) = refl
+next_alignment (Ok es) (Err j) (Err k) = refl
+next_alignment (Err i) (Ok e) (Ok fs) = refl
+next_alignment (Err i) (Ok e) (Err k) = refl
+next_alignment (Err i) (Err j) (Ok fs) = refl
+next_alignment (Err i) (Err j) (Err k) = ap Err (earlier_assoc i j k)
 
-pub attribute_step : (text : List ℕ) (all : List (List Token)) (left o behind : List Token) (s n a : Result (Option Expr) LineKind)
-    → CutsOperands text left o (Some behind) → ReadsAttribute text o a → n ≡ either s a
-    → ((b : Result (Option Expr) LineKind) → ReadsAttributes text (operands_at text 0 left) b → ReadsAttributes text all (either s b))
-    → (b : Result (Option Expr) LineKind) → ReadsAttributes text (operands_at text 0 behind) b → ReadsAttributes text all (either n b)
+pub attribute_step : (text : List ℕ) (all : List (List Token)) (left o behind : List Token) (s n : Result (List Expr) LineKind) (a : Result (Option Expr) LineKind)
+    → CutsOperands text left o (Some behind) → ReadsAttribute text o a → n ≡ with_alignment s a
+    → ((b : Result (List Expr) LineKind) → ReadsAttributes text (operands_at text 0 left) b → ReadsAttributes text all (both_lists s b))
+    → (b : Result (List Expr) LineKind) → ReadsAttributes text (operands_at text 0 behind) b → ReadsAttributes text all (both_lists n b)
 attribute_step text all left o behind s n a cut reads more inv b h =
-    let before : ReadsAttributes text (operands_at text 0 left) (either a b) = rw cut.0 (a, b, reads, h, refl) in
-    let next = inv (either a b) before in
-    rw more (rw either_assoc at next)
+    let before : ReadsAttributes text (operands_at text 0 left) (joined a b) = rw cut.0 (a, b, reads, h, refl) in
+    let next = inv (joined a b) before in
+    rw more (rw next_alignment at next)
 
-pub attribute_end : (text : List ℕ) (all : List (List Token)) (left o : List Token) (s n a : Result (Option Expr) LineKind)
-    → CutsOperands text left o None → ReadsAttribute text o a → n ≡ either s a
-    → ((b : Result (Option Expr) LineKind) → ReadsAttributes text (operands_at text 0 left) b → ReadsAttributes text all (either s b))
+pub attribute_end : (text : List ℕ) (all : List (List Token)) (left o : List Token) (s n : Result (List Expr) LineKind) (a : Result (Option Expr) LineKind)
+    → CutsOperands text left o None → ReadsAttribute text o a → n ≡ with_alignment s a
+    → ((b : Result (List Expr) LineKind) → ReadsAttributes text (operands_at text 0 left) b → ReadsAttributes text all (both_lists s b))
     → ReadsAttributes text all n
 attribute_end text all left o s n a cut reads more inv =
-    let before : ReadsAttributes text (operands_at text 0 left) (either a (Ok None)) = rw cut (a, Ok None, reads, refl, refl) in
-    let next = inv (either a (Ok None)) before in
-    rw more (rw no_number_behind at next)
+    let before : ReadsAttributes text (operands_at text 0 left) (joined a (Ok [])) = rw cut (a, Ok [], reads, refl, refl) in
+    let next = inv (joined a (Ok [])) before in
+    rw more (rw last_alignment at next)
 
 -- the words of operands
 words_cons : (text : List ℕ) (o : List Token) (os : List (List Token)) → attributes_in text (o ∷ os) ≡ attributes_in text (o ∷ []) ++ attributes_in text os
@@ -147,7 +149,7 @@ other_end text all left o s n cut more inv =
     more ∙ sym (or_nothing s (is_bad_word text o)) ∙ ap (λ x. s || list_any (is_bad_word text) x) (sym cut) ∙ inv
 
 -- the attributes behind the name of an area
-pub attributes_behind : (text : List ℕ) (os : List (List Token)) (words : List Attribute) (other : Bool) (align : Result (Option Expr) LineKind) (r : Result AreaAttributes LineKind)
-    → words ≡ attributes_in text os → other ≡ list_any (is_bad_word text) os → ReadsAttributes text os align
-    → r ≡ mapped (attributes_of words (has_bad_word_in words other)) align → ReadsBehind text os r
-attributes_behind text os words other align r ew eo reads e = (align, reads, rw (e, ew, eo) refl)
+pub attributes_behind : (text : List ℕ) (os : List (List Token)) (words : List Attribute) (other : Bool) (alignments : Result (List Expr) LineKind) (r : Result AreaAttributes LineKind)
+    → words ≡ attributes_in text os → other ≡ list_any (is_bad_word text) os → ReadsAttributes text os alignments
+    → r ≡ mapped (attributes_of words (has_bad_word_in words other)) alignments → ReadsBehind text os r
+attributes_behind text os words other alignments r ew eo reads e = (alignments, reads, rw (e, ew, eo) refl)

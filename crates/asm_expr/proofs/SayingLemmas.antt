@@ -9,7 +9,7 @@ use Rattle.asm_model.specs.declared.directives.Directive.{Directive}
 use Rattle.asm_model.specs.declared.directives.DirectiveLine.{DirectiveLine}
 use Rattle.asm_model.specs.declared.statements.Statement.{Statement}
 use Rattle.asm_model.specs.declared.statements.What.TheVariants as what
-use Rattle.asm_model.specs.Areas.{ReadsAttribute, ReadsAttributes, begins_alignment, alignment, either}
+use Rattle.asm_model.specs.Areas.{ReadsAttribute, ReadsAttributes, begins_alignment, alignment, joined}
 use Rattle.asm_model.specs.Grammar.{ParsesTokens}
 use Rattle.asm_model.specs.Operands.{operands}
 use Rattle.asm_model.specs.Parts.{part_of}
@@ -73,10 +73,10 @@ one_attribute text [] a b p q = p ∙ sym q
 one_attribute text (t ∷ []) a b p q = p ∙ sym q
 one_attribute text (t ∷ u ∷ ts) a b p q = one_alignment text ts (begins_alignment text t u) _ a b p q
 
-one_attributes : (text : List ℕ) (os : List (List Token)) (a b : Result (Option Expr) LineKind) → ReadsAttributes text os a → ReadsAttributes text os b → a ≡ b
+one_attributes : (text : List ℕ) (os : List (List Token)) (a b : Result (List Expr) LineKind) → ReadsAttributes text os a → ReadsAttributes text os b → a ≡ b
 one_attributes text [] a b p q = p ∙ sym q
 one_attributes text (o ∷ os) a b p q =
-    p.4 ∙ ap (λ x. either x p.1) (one_attribute text o p.0 q.0 p.2 q.2) ∙ ap (either q.0) (one_attributes text os p.1 q.1 p.3 q.3) ∙ sym q.4
+    p.4 ∙ ap (λ x. joined x p.1) (one_attribute text o p.0 q.0 p.2 q.2) ∙ ap (joined q.0) (one_attributes text os p.1 q.1 p.3 q.3) ∙ sym q.4
 
 one_area : (text : List ℕ) (os : List (List Token)) (a b : Result DirectiveLine LineKind) → Area text os a → Area text os b → a ≡ b
 one_area text [] a b p q = p ∙ sym q

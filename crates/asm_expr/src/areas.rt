@@ -1,19 +1,19 @@
 //! The attributes of AREA.
 
-ghost use Rattle.std.specs.Prelude.{◌≡◌, IfOk};
+ghost use Rattle.std.specs.Prelude.{◌≡◌, ◌++◌, IfOk};
 ghost use Rattle.asm_model.specs.Areas as areas;
-ghost use Rattle.asm_model.specs.Directives as directives;
 ghost use Rattle.asm_model.specs.Operands as operands;
 ghost use Rattle.asm_model.specs.Says as says;
 ghost use Rattle.std.specs.Option.{option_copied};
-ghost use Rattle.asm_expr.specs.AreaSteps.{ReadsAlignment, TakesAttribute, IsWritten, ReadsBehind, operands_behind, has_bad_word_in};
+ghost use Rattle.asm_expr.specs.AreaSteps.{ReadsAlignment, TakesAttribute, IsWritten, ReadsBehind};
+ghost use Rattle.asm_expr.specs.AreaSteps.{operands_behind, has_bad_word_in, with_alignment};
 
 use crate::kinds::earlier;
 use crate::operands::{first_operand, is, piece_of};
 use crate::read::expression;
 use asm_model::{AreaAttributes, Attribute, Contents, Expr, Token, TokenKind, is_called};
-use sdt_fault::NoMemory;
 use sdt_fault::kinds::LineKind;
+use sdt_fault::{List, NoMemory};
 use std::alloc::Global;
 
 /// The attribute that a word names, in any case; None where it names none.
@@ -141,8 +141,12 @@ fn is_read_only(words: &[Attribute]) -> bool
     has(Attribute::ReadOnly, words)
 }
 
-fn attributes_of(words: &[Attribute], has_bad_word: bool, align: Option<Expr>) -> AreaAttributes
-    ensures { result ≡ areas.attributes_of words.now has_bad_word align }
+fn attributes_of(
+    words: &[Attribute],
+    has_bad_word: bool,
+    alignments: List<Expr>,
+) -> AreaAttributes
+    ensures { result ≡ areas.attributes_of words.now has_bad_word alignments }
 {
     AreaAttributes {
         contents: contents_of(words),
@@ -151,7 +155,7 @@ fn attributes_of(words: &[Attribute], has_bad_word: bool, align: Option<Expr>) -
         halfword: has(Attribute::Code, words) && has(Attribute::Halfword, words),
         pic: has(Attribute::Pic, words),
         reentrant: has(Attribute::Reentrant, words),
-        align,
+        alignments,
         has_bad_word,
     }
 }
@@ -242,38 +246,39 @@ fn read_attribute(
     }
 }
 
-/// The first number that is there.
-fn or_else(a: Option<Expr>, b: Option<Expr>) -> Option<Expr>
-    ensures { result ≡ directives.or_else a b }
+/// A list, with what an option holds behind it.
+fn with_listed<T: Drop>(list: List<T>, more: Option<T>) -> Result<List<T>, NoMemory>
+    ensures { IfOk result (λ all. all ≡ list ++ areas.listed more) }
 {
-    match a {
-        Some(number) => Some(number),
-        None => b,
+    let mut items = list.into_vec();
+    if let Some(item) = more {
+        items.push(item)?;
+    }
+    Ok(List::from_vec(items))
+}
+
+/// The numbers of alignments, with what one operand more reads as.
+fn with_alignment(
+    alignments: Result<List<Expr>, LineKind>,
+    reading: Result<Option<Expr>, LineKind>,
+) -> Result<Result<List<Expr>, LineKind>, NoMemory>
+    ensures { IfOk result (λ all. all ≡ with_alignment alignments reading) }
+{
+    match (alignments, reading) {
+        (Ok(list), Ok(more)) => Ok(Ok(with_listed(list, more)?)),
+        (Ok(_), Err(kind)) => Ok(Err(kind)),
+        (Err(kind), Ok(_)) => Ok(Err(kind)),
+        (Err(kind), Err(other)) => Ok(Err(earlier(kind, other))),
     }
 }
 
-/// The first number of two readings, or the fault of them that is told.
-fn either(
-    a: Result<Option<Expr>, LineKind>,
-    b: Result<Option<Expr>, LineKind>,
-) -> Result<Option<Expr>, LineKind>
-    ensures { result ≡ areas.either a b }
-{
-    match (a, b) {
-        (Ok(a), Ok(b)) => Ok(or_else(a, b)),
-        (Ok(_), Err(kind)) => Err(kind),
-        (Err(kind), Ok(_)) => Err(kind),
-        (Err(kind), Err(other)) => Err(earlier(kind, other)),
-    }
-}
-
-/// Attributes as they are written: their words, and the number of an alignment among them.
+/// Attributes as they are written: their words, and the numbers of alignments among them.
 #[derive(Debug, Drop)]
 pub struct Written {
     pub words: Vec<Attribute>,
     /// Whether an operand is no attribute.
     pub has_other: bool,
-    pub align: Result<Option<Expr>, LineKind>,
+    pub alignments: Result<List<Expr>, LineKind>,
 }
 
 impl Written {
@@ -284,7 +289,7 @@ impl Written {
         let Written {
             mut words,
             has_other,
-            align,
+            alignments,
         } = self;
         let attribute = attribute_in(text, operand);
         let has_other = has_other || attribute.is_none();
@@ -295,7 +300,7 @@ impl Written {
         Ok(Written {
             words,
             has_other,
-            align: either(align, reading),
+            alignments: with_alignment(alignments, reading)?,
         })
     }
 }
@@ -308,7 +313,7 @@ fn read_attributes(alloc: Global, text: &[u8], tokens: &[Token]) -> Result<Writt
     let mut written = Written {
         words: Vec::new(alloc),
         has_other: false,
-        align: Ok(None),
+        alignments: Ok(List::from_vec(Vec::new(alloc))),
     };
     let mut left = tokens;
     'operands: loop {
@@ -328,17 +333,17 @@ fn has_bad_word(words: &[Attribute], has_other: bool) -> bool
     has_other || is_repeated(words) || is_contradicting(words)
 }
 
-/// Attributes, where the number of an alignment is read.
+/// Attributes, where the numbers of alignments are read.
 fn attributes_with(
     words: &[Attribute],
     has_other: bool,
-    align: Result<Option<Expr>, LineKind>,
+    alignments: Result<List<Expr>, LineKind>,
 ) -> Result<AreaAttributes, LineKind>
     ensures { result ≡ says.mapped
-        (areas.attributes_of words.now (has_bad_word_in words.now has_other)) align }
+        (areas.attributes_of words.now (has_bad_word_in words.now has_other)) alignments }
 {
-    match align {
-        Ok(number) => Ok(attributes_of(words, has_bad_word(words, has_other), number)),
+    match alignments {
+        Ok(numbers) => Ok(attributes_of(words, has_bad_word(words, has_other), numbers)),
         Err(kind) => Err(kind),
     }
 }
@@ -354,14 +359,14 @@ pub fn attributes(
         (operands_behind text.now (option_copied behind.entry)) reading) }
 {
     match behind {
-        None => Ok(attributes_with(&[], false, Ok(None))),
+        None => Ok(attributes_with(&[], false, Ok(List::from_vec(Vec::new(alloc))))),
         Some(tokens) => {
             let Written {
                 words,
                 has_other,
-                align,
+                alignments,
             } = read_attributes(alloc, text, tokens)?;
-            Ok(attributes_with(words.as_slice(), has_other, align))
+            Ok(attributes_with(words.as_slice(), has_other, alignments))
         }
     }
 }

@@ -45,7 +45,7 @@ map_after map s _ = Ok map
 
 -- the number that a line says which checks ask for
 abbrev pub said_number : Names → What → Result ℕ LineKind
-said_number s (what.Directive (line.Area name a)) = exponent s a.align
+said_number s (what.Directive (line.Area name a)) = exponent s a.alignments
 said_number s (what.Directive (line.Rn (rn.Number e))) = number_there s e
 -- nobody asks for one
 said_number s _ = Ok 0

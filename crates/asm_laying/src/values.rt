@@ -1,17 +1,18 @@
 //! Values of a statement's expressions by what is known at its line.
 
 ghost use Rattle.std.specs.Prelude.{◌≡◌, ◌+◌, ◌%◌, ◌^◌, ℕ, Result, IfOk};
-ghost use Rattle.asm_model.specs.Says.{mapped};
+ghost use Rattle.asm_model.specs.Says.{mapped, on_both};
 ghost use Rattle.sdt_fault.specs.declared.kinds.LineKind.{LineKind};
 ghost use Rattle.asm_model.specs.Extents as extents;
 ghost use Rattle.asm_model.specs.LayoutKinds.{exponent};
 ghost use Rattle.asm_expr.specs.Seeing.{seen_names};
 ghost use Rattle.asm_names.specs.Values.{IsNumber};
-ghost use Rattle.said_model.specs.Said.{DirectiveSaid, GivenSaid, IsRead, OptionRead, WhatSaid};
+ghost use Rattle.said_model.specs.Said.{AllRead, DirectiveSaid, GivenSaid, IsRead, WhatSaid};
 ghost use Rattle.asm_model.specs.declared.statements.What.TheVariants as kinds;
 ghost use Rattle.asm_model.specs.declared.directives.DirectiveLine.TheVariants as lines;
 ghost use Rattle.asm_laying.specs.Reading.{map_after, said_number};
 
+use asm_expr::kinds::earlier;
 use asm_expr::told::told_value;
 use asm_expr::{Seen, evaluate};
 use asm_model::{DirectiveLine, EvalFault, Expr, RnOperand, Value, What};
@@ -66,19 +67,33 @@ pub fn literal_there(
     told_value(literal_at(alloc, e, seen))
 }
 
-/// The exponent of an area's alignment, or the kind of its fault.
+/// The first of two numbers, or the kind of their faults that is told.
+fn first_of(first: Result<u32, LineKind>, second: Result<u32, LineKind>) -> Result<u32, LineKind>
+    ensures { result ≡ on_both (λ n m. n) first second }
+{
+    match (first, second) {
+        (Ok(number), Ok(_)) => Ok(number),
+        (Ok(_), Err(kind)) => Err(kind),
+        (Err(kind), Ok(_)) => Err(kind),
+        (Err(kind), Err(other)) => Err(earlier(kind, other)),
+    }
+}
+
+/// The exponent of an area's alignment, or the kind of its fault: 2 where none is written, and of several the first.
 fn exponent_there(
     alloc: Global,
-    align: &Option<Expr>,
+    alignments: &[Expr],
     seen: &Seen<'_>,
 ) -> Result<Result<u32, LineKind>, NoMemory>
-    requires { OptionRead align.now }
-    ensures { IfOk result (λ number. number ≡ exponent (seen_names seen.now) align.now) }
+    requires { AllRead alignments.now }
+    ensures { IfOk result (λ number. number ≡ exponent (seen_names seen.now) alignments.now) }
 {
-    match align {
-        None => Ok(Ok(2)),
-        Some(e) => number_there(alloc, e, seen),
+    let mut exponent = Ok(2);
+    for i in (0..alignments.len()).rev() {
+        let number = number_there(alloc, &alignments[i], seen)?;
+        exponent = first_of(number, exponent);
     }
+    Ok(exponent)
 }
 
 /// The number that RN gives a name, or the kind of its fault; 0 for a register.
@@ -107,7 +122,7 @@ fn directive_number(
         ≡ said_number (seen_names seen.now) (kinds.Directive line.now)) }
 {
     match line {
-        DirectiveLine::Area { attributes, .. } => exponent_there(alloc, &attributes.align, seen),
+        DirectiveLine::Area { attributes, .. } => exponent_there(alloc, attributes.alignments.as_slice(), seen),
         DirectiveLine::Rn { register } => given_there(alloc, register, seen),
         _ => Ok(Ok(0)),
     }

@@ -90,7 +90,7 @@ directive_aligned (line.Area name a) l before settled all x w e none =
     let parts = area_part (what.Directive (line.Area name a)) settled all l before w none in (
       e,
       exponent_small x (subst (λ (y : Result ℕ LineKind). told_kind (exponent_kinds y) ≡ None) (sym e)
-          (none_parts (exponent_kinds (exponent l.seen a.align)) (kind_if (is_named_otherwise name l.seen a before) BadOperand) parts).0),
+          (none_parts (exponent_kinds (exponent l.seen a.alignments)) (kind_if (is_named_otherwise name l.seen a before) BadOperand) parts).0),
     )
 directive_aligned d l before settled all x w e none = tt
 

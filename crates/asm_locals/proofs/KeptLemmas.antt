@@ -37,9 +37,9 @@ use Rattle.asm_model.specs.Grammar.{Tree, Leaf, Before, Between, postfix, plain,
 use Rattle.asm_model.specs.Sound.{HasNoPlace, HaveNoPlaces}
 use Rattle.said_model.proofs.SharedLemmas.{IsText, MarksFit, IsFine}
 use Rattle.said_model.specs.Named.{ItemNamed, AllItemsNamed}
-use Rattle.said_model.specs.Said.{IsRead, AllRead, OptionRead, ShiftSaid, AddressSaid, HalfOffsetSaid, ArmSaid, ThumbOperandSaid, LiteralSaid, ThumbSaid, PseudoSaid, BoundaryRead, GivenSaid, DirectiveSaid, WhatSaid, what_names, label_names, HoldsNoZero}
+use Rattle.said_model.specs.Said.{IsRead, AllRead, ShiftSaid, AddressSaid, HalfOffsetSaid, ArmSaid, ThumbOperandSaid, LiteralSaid, ThumbSaid, PseudoSaid, BoundaryRead, GivenSaid, DirectiveSaid, WhatSaid, what_names, label_names, HoldsNoZero}
 use Rattle.asm_locals.specs.Labels.{local_number, target}
-use Rattle.asm_locals.specs.Naming.{Targets, hidden_name, reference, named_item, named, all_named, option_named, named_shift, named_address, named_half, named_arm, named_operand, named_literal, named_thumb, named_pseudo, named_boundary, named_register, named_directive, named_what, named_label, named_behind, in_names}
+use Rattle.asm_locals.specs.Naming.{Targets, hidden_name, reference, named_item, named, all_named, named_shift, named_address, named_half, named_arm, named_operand, named_literal, named_thumb, named_pseudo, named_boundary, named_register, named_directive, named_what, named_label, named_behind, in_names}
 
 -- ---- expressions are spelled
 
@@ -140,10 +140,6 @@ all_read : (t : Targets) (es : List Expr) → AllRead es → AllRead (all_named 
 all_read t [] h = tt
 all_read t (e ∷ es) h = (read_named t e h.0, all_read t es h.1)
 
-option_read : (t : Targets) (o : Option Expr) → OptionRead o → OptionRead (option_named t o)
-option_read t None h = tt
-option_read t (Some e) h = read_named t e h
-
 shift_named : (t : Targets) (s : Shift) → ShiftSaid s → ShiftSaid (named_shift t s)
 shift_named t (shift.By kind e) h = read_named t e h
 shift_named t shift.Unshifted h = tt
@@ -215,7 +211,7 @@ given_named t (rn.Register n) h = h
 given_named t (rn.Number e) h = read_named t e h
 
 directive_named : (t : Targets) (l : DirectiveLine) → DirectiveSaid l → DirectiveSaid (named_directive t l)
-directive_named t (line.Area name a) h = option_read t a.align h
+directive_named t (line.Area name a) h = all_read t a.alignments h
 directive_named t (line.Equ e) h = read_named t e h
 directive_named t (line.Rn r) h = given_named t r h
 directive_named t (line.Assert e) h = read_named t e h

@@ -31,7 +31,7 @@ use Rattle.asm_model.specs.declared.statements.What.{What}
 use Rattle.asm_model.specs.declared.statements.What.TheVariants as what
 use Rattle.asm_model.specs.Directives.{or_else}
 use Rattle.asm_locals.specs.Labels.{number_on, begins_stretch, label_behind, label_ahead, back_to, forth_to}
-use Rattle.asm_locals.specs.Naming.{Targets, reference, named_item, named, all_named, option_named, named_shift, named_address, named_half, named_arm, named_operand, named_literal, named_thumb, named_pseudo, named_attributes, named_boundary, named_register, named_directive, named_what, named_behind, in_names}
+use Rattle.asm_locals.specs.Naming.{Targets, reference, named_item, named, all_named, named_shift, named_address, named_half, named_arm, named_operand, named_literal, named_thumb, named_pseudo, named_attributes, named_boundary, named_register, named_directive, named_what, named_behind, in_names}
 use Rattle.asm_locals.specs.Passes.{looked_back, looked_ahead}
 
 -- ---- what lines say
@@ -64,10 +64,6 @@ both g f e = ap (λ (is : List ExprItem). record { items = is }) (both_items g f
 pub both_all : (g f : Targets) (es : List Expr) → all_named f (all_named g es) ≡ all_named (Either g f) es
 both_all g f [] = refl
 both_all g f (e ∷ es) = rw (both g f e, both_all g f es) refl
-
-pub both_option : (g f : Targets) (o : Option Expr) → option_named f (option_named g o) ≡ option_named (Either g f) o
-both_option g f None = refl
-both_option g f (Some e) = ap (λ z. Some z) (both g f e)
 
 pub both_shift : (g f : Targets) (s : Shift) → named_shift f (named_shift g s) ≡ named_shift (Either g f) s
 both_shift g f (shift.By kind e) = ap (λ z. shift.By kind z) (both g f e)
@@ -125,7 +121,7 @@ both_pseudo g f (pseudo.LongAddress condition rd e) = ap (λ z. pseudo.LongAddre
 both_pseudo g f pseudo.NoOperation = refl
 
 pub both_attributes : (g f : Targets) (a : AreaAttributes) → named_attributes f (named_attributes g a) ≡ named_attributes (Either g f) a
-both_attributes g f a = ap (λ z. record a { align = z }) (both_option g f a.align)
+both_attributes g f a = ap (λ z. record a { alignments = z }) (both_all g f a.alignments)
 
 pub both_boundary : (g f : Targets) (b : Boundary) → named_boundary f (named_boundary g b) ≡ named_boundary (Either g f) b
 both_boundary g f limit.Word = refl

@@ -22,7 +22,7 @@ area = says None (what.Directive (line.Area (codes "a") (record {
   halfword = false;
   pic = false;
   reentrant = false;
-  align = None;
+  alignments = [];
   has_bad_word = false;
 })))
 

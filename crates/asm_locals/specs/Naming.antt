@@ -57,10 +57,6 @@ named t e = record { items = map (named_item t) e.items }
 abbrev pub all_named : Targets → List Expr → List Expr
 all_named t es = map (named t) es
 
-abbrev pub option_named : Targets → Option Expr → Option Expr
-option_named t None = None
-option_named t (Some e) = Some (named t e)
-
 -- ---- what lines say
 
 abbrev pub named_shift : Targets → Shift → Shift
@@ -127,7 +123,7 @@ named_pseudo t (pseudo.LongAddress condition rd e) = pseudo.LongAddress conditio
 named_pseudo t pseudo.NoOperation = pseudo.NoOperation
 
 abbrev pub named_attributes : Targets → AreaAttributes → AreaAttributes
-named_attributes t a = record a { align = option_named t a.align }
+named_attributes t a = record a { alignments = all_named t a.alignments }
 
 abbrev pub named_boundary : Targets → Boundary → Boundary
 named_boundary t limit.Word = limit.Word

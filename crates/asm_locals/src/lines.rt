@@ -140,10 +140,7 @@ fn name_attributes(
     ensures { OnOk result (attributes.new
         ≡ naming.named_attributes (found labels.now) attributes.old) }
 {
-    match &mut attributes.align {
-        None => Ok(()),
-        Some(align) => name_expr(alloc, align, labels),
-    }
+    name_all(alloc, &mut attributes.alignments, labels)
 }
 
 fn name_boundary(alloc: Global, boundary: &mut Boundary, labels: &Nearest) -> Result<(), NoMemory>

@@ -18,7 +18,7 @@ use Rattle.asm_model.specs.declared.directives.DirectiveLine.{DirectiveLine}
 use Rattle.asm_model.specs.declared.directives.DirectiveLine.TheVariants as line
 use Rattle.asm_model.specs.declared.directives.Boundary.TheVariants as limit
 use Rattle.asm_model.specs.declared.statements.Statement.{Statement}
-use Rattle.asm_model.specs.Areas.{ReadsAttribute, ReadsAttributes, word_attribute, begins_alignment, alignment, either, attributes_written}
+use Rattle.asm_model.specs.Areas.{ReadsAttribute, ReadsAttributes, word_attribute, begins_alignment, alignment, joined, attributes_written}
 use Rattle.asm_model.specs.Directives.{label_need}
 use Rattle.asm_model.specs.FaultSets.{IsToldOf, fault, first_told, Among, FailsBefore, FailsBetween, HasKind, OperandsKind, SomeOperandsKind, ImportKind, AttributeKind, AttributesKind, AreaKind, RegisterKind, BoundaryKind, FormKind, SentenceKind, DirectiveKind}
 use Rattle.asm_model.specs.Grammar.{Tree, Leaf, Before, Between, Parses, ParsesTokens}
@@ -213,12 +213,12 @@ told_both f (Ok x) (Err j) A B p q = told_union None (Some j) A B p q
 told_both f (Err k) (Ok y) A B p q = told_union (Some k) None A B p q
 told_both f (Err k) (Err j) A B p q = told_union (Some k) (Some j) A B p q
 
-pub told_either : (r s : Result (Option Expr) LineKind) (A B : LineKind → Type 0)
-    → IsToldOf (fault r) A → IsToldOf (fault s) B → IsToldOf (fault (either r s)) (λ k. A k ⊎ B k)
-told_either (Ok x) (Ok y) A B p q = told_union None None A B p q
-told_either (Ok x) (Err j) A B p q = told_union None (Some j) A B p q
-told_either (Err k) (Ok y) A B p q = told_union (Some k) None A B p q
-told_either (Err k) (Err j) A B p q = told_union (Some k) (Some j) A B p q
+pub told_joined : (r : Result (Option Expr) LineKind) (s : Result (List Expr) LineKind) (A B : LineKind → Type 0)
+    → IsToldOf (fault r) A → IsToldOf (fault s) B → IsToldOf (fault (joined r s)) (λ k. A k ⊎ B k)
+told_joined (Ok x) (Ok y) A B p q = told_union None None A B p q
+told_joined (Ok x) (Err j) A B p q = told_union None (Some j) A B p q
+told_joined (Err k) (Ok y) A B p q = told_union (Some k) None A B p q
+told_joined (Err k) (Err j) A B p q = told_union (Some k) (Some j) A B p q
 
 pub not_parsed : (ps : List Part) (e : Expr) (k : LineKind) → Parses ps (Ok e) → Parses ps (Err k) → ⊥
 not_parsed ps e k p q = q.1 p.0 p.1
@@ -264,10 +264,10 @@ told_attribute text [] r p = rw p (told_kind_alone Syntax)
 told_attribute text (t ∷ []) r p = rw p (told_self (word_attribute t.kind (piece text t)))
 told_attribute text (t ∷ u ∷ ts) r p = told_alignment text ts (begins_alignment text t u) r p
 
-pub told_attributes : (text : List ℕ) (os : List (List Token)) (r : Result (Option Expr) LineKind) → ReadsAttributes text os r → IsToldOf (fault r) (AttributesKind text os)
+pub told_attributes : (text : List ℕ) (os : List (List Token)) (r : Result (List Expr) LineKind) → ReadsAttributes text os r → IsToldOf (fault r) (AttributesKind text os)
 told_attributes text [] r p = rw p (λ k h. h)
 told_attributes text (o ∷ os) r p =
-    rw (p.4) (told_either p.0 p.1 (AttributeKind text o) (AttributesKind text os) (told_attribute text o p.0 p.2) (told_attributes text os p.1 p.3))
+    rw (p.4) (told_joined p.0 p.1 (AttributeKind text o) (AttributesKind text os) (told_attribute text o p.0 p.2) (told_attributes text os p.1 p.3))
 
 pub told_area : (text : List ℕ) (os : List (List Token)) (r : Result DirectiveLine LineKind) → Area text os r → IsToldOf (fault r) (AreaKind text os)
 told_area text [] r p = rw p (told_kind_alone Syntax)

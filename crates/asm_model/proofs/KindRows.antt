@@ -27,7 +27,7 @@ area n holds interwork = says n None (line.Area (codes "a") (record {
   halfword = false;
   pic = false;
   reentrant = false;
-  align = None;
+  alignments = [];
   has_bad_word = false;
 }))
 

@@ -32,7 +32,7 @@ area name holds = says None (what.Directive (line.Area name (record {
   halfword = false;
   pic = false;
   reentrant = false;
-  align = None;
+  alignments = [];
   has_bad_word = false;
 })))
 

@@ -14,7 +14,7 @@ use Rattle.asm_model.specs.declared.directives.Attribute.TheVariants.{Code, Data
 use Rattle.asm_model.specs.declared.directives.Contents.{Contents}
 use Rattle.asm_model.specs.declared.directives.Contents.TheVariants as contents
 use Rattle.asm_model.specs.declared.directives.AreaAttributes.{AreaAttributes}
-use Rattle.asm_model.specs.Directives.{row_of, or_else}
+use Rattle.asm_model.specs.Directives.{row_of}
 use Rattle.asm_model.specs.Forms.{same}
 use Rattle.asm_model.specs.Grammar.{ParsesTokens}
 use Rattle.asm_model.specs.Kinds.{earlier}
@@ -95,7 +95,8 @@ attribute_in text [] = None
 attribute_in text (t ∷ []) = attribute_named (piece text t)
 attribute_in text (t ∷ u ∷ ts) = if begins_alignment text t u then Some Align else None
 
-abbrev pub listed : Option Attribute → List Attribute
+-- what an option holds, as a list
+abbrev pub listed : {A : Type 0} → Option A → List A
 listed None = []
 listed (Some a) = a ∷ []
 
@@ -122,36 +123,38 @@ ReadsAttribute text (t ∷ u ∷ ts) r =
     ((e : Result Expr LineKind) × ParsesTokens text ts e × (r ≡ alignment e))
     (r ≡ Err Syntax)
 
--- the first number of two readings, or the fault of them that is told
-abbrev pub either : Result (Option Expr) LineKind → Result (Option Expr) LineKind → Result (Option Expr) LineKind
-either (Ok a) (Ok b) = Ok (or_else a b)
-either (Ok a) (Err k) = Err k
-either (Err k) (Ok b) = Err k
-either (Err k) (Err j) = Err (earlier k j)
+-- the numbers of two readings, or the fault of them that is told
+abbrev pub joined : Result (Option Expr) LineKind → Result (List Expr) LineKind → Result (List Expr) LineKind
+joined (Ok e) (Ok es) = Ok (listed e ++ es)
+joined (Ok e) (Err k) = Err k
+joined (Err k) (Ok es) = Err k
+joined (Err k) (Err j) = Err (earlier k j)
 
--- what operands read as
-abbrev pub ReadsAttributes : List ℕ → List (List Token) → Result (Option Expr) LineKind → Type 0
-ReadsAttributes text [] r = r ≡ Ok None
+-- what operands read as: the numbers of all alignments among them
+abbrev pub ReadsAttributes : List ℕ → List (List Token) → Result (List Expr) LineKind → Type 0
+ReadsAttributes text [] r = r ≡ Ok []
 ReadsAttributes text (o ∷ os) r =
-    (a b : Result (Option Expr) LineKind) × ReadsAttribute text o a × ReadsAttributes text os b × (r ≡ either a b)
+    (a : Result (Option Expr) LineKind) × (b : Result (List Expr) LineKind)
+    × ReadsAttribute text o a × ReadsAttributes text os b × (r ≡ joined a b)
 
 -- whether a word is no attribute, or words don't agree
 abbrev pub has_bad_word : List ℕ → List (List Token) → List Attribute → Bool
 has_bad_word text os words = list_any (is_bad_word text) os || is_repeated words || is_contradicting words
 
--- an area with these attributes and this alignment; only code has the marks of code
-abbrev pub attributes_of : List Attribute → Bool → Option Expr → AreaAttributes
-attributes_of words bad align = record {
+-- an area with these attributes and these numbers of alignments; only code has the marks of code
+abbrev pub attributes_of : List Attribute → Bool → List Expr → AreaAttributes
+attributes_of words bad alignments = record {
   contents = contents_of words;
   read_only = is_read_only words;
   interwork = has Code words && has Interwork words;
   halfword = has Code words && has Halfword words;
   pic = has Pic words;
   reentrant = has Reentrant words;
-  align = align;
+  alignments = alignments;
   has_bad_word = bad;
 }
 
 -- the attributes of an area that operands write
-abbrev pub attributes_written : List ℕ → List (List Token) → Option Expr → AreaAttributes
-attributes_written text os align = attributes_of (attributes_in text os) (has_bad_word text os (attributes_in text os)) align
+abbrev pub attributes_written : List ℕ → List (List Token) → List Expr → AreaAttributes
+attributes_written text os alignments =
+    attributes_of (attributes_in text os) (has_bad_word text os (attributes_in text os)) alignments

@@ -1,6 +1,6 @@
 -- The expressions that a statement says, in the order in which they stand. SDT 2.50 Reference Guide, chapter on the
 -- assembler.
-use Rattle.std.specs.Prelude.{List, [], ◌∷◌, Bool, true, false, Option, Some, None}
+use Rattle.std.specs.Prelude.{List, [], ◌∷◌, Bool, true, false}
 use Rattle.std.specs.List.{list_any}
 use Rattle.asm_model.specs.declared.exprs.Expr.{Expr}
 use Rattle.asm_model.specs.declared.exprs.ExprItem.{ExprItem}
@@ -96,12 +96,8 @@ abbrev pub given_exprs : RnOperand → List Expr
 given_exprs (rn.Register n) = []
 given_exprs (rn.Number e) = e ∷ []
 
-abbrev pub option_exprs : Option Expr → List Expr
-option_exprs None = []
-option_exprs (Some e) = e ∷ []
-
 abbrev pub directive_exprs : DirectiveLine → List Expr
-directive_exprs (line.Area name a) = option_exprs a.align
+directive_exprs (line.Area name a) = a.alignments
 directive_exprs (line.Equ e) = e ∷ []
 directive_exprs (line.Rn r) = given_exprs r
 directive_exprs (line.Assert e) = e ∷ []

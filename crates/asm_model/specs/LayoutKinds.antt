@@ -28,6 +28,7 @@ use Rattle.asm_model.specs.Labels.{Defined, Label, Equal, MapField, RegisterName
 use Rattle.asm_model.specs.Laid.{LaidLine, statements_of, taken, pieces_of, laid, reversed}
 use Rattle.asm_model.specs.Offsets.{Piece, is_of, area_size, literal_word}
 use Rattle.asm_model.specs.OwnKinds.{own_kinds}
+use Rattle.asm_model.specs.Says.{on_both}
 
 abbrev pub fault_kinds : {X : Type 0} → Result X LineKind → List LineKind
 fault_kinds (Ok x) = []
@@ -113,10 +114,11 @@ contents_behind (s ∷ before) = contents_from s.what (contents_behind before)
 
 -- ---- areas that are named again
 
--- the exponent of an area's alignment, which is 2 unless more is said
-abbrev pub exponent : Names → Option Expr → Result ℕ LineKind
-exponent s None = Ok 2
-exponent s (Some e) = number_there s e
+-- the exponent of an area's alignment, which is 2 unless more is said; of several that are written each must have a
+-- number, and the first counts
+abbrev pub exponent : Names → List Expr → Result ℕ LineKind
+exponent s [] = Ok 2
+exponent s (e ∷ es) = on_both (λ n m. n) (number_there s e) (exponent s es)
 
 abbrev pub exponent_kinds : Result ℕ LineKind → List LineKind
 exponent_kinds (Ok n) = kind_if (nat_lt n 2 || nat_lt 16 n) BadOperand
@@ -140,7 +142,7 @@ abbrev pub same_attributes : Names → AreaAttributes → Names → AreaAttribut
 same_attributes s a t b =
     same_contents a.contents b.contents && same_mark a.read_only b.read_only && same_mark a.interwork b.interwork
     && same_mark a.halfword b.halfword && same_mark a.pic b.pic && same_mark a.reentrant b.reentrant
-    && same_exponent (exponent s a.align) (exponent t b.align)
+    && same_exponent (exponent s a.alignments) (exponent t b.alignments)
 
 abbrev pub again_with : List ℕ → Names → AreaAttributes → Names → What → Bool → Bool
 again_with name s a t (what.Directive (line.Area other b)) rest = if same name other then not (same_attributes s a t b) || rest else rest
@@ -153,7 +155,7 @@ is_named_otherwise name s a (l ∷ before) = again_with name s a l.seen l.statem
 
 abbrev pub area_kinds : Names → What → List LaidLine → List LineKind
 area_kinds s (what.Directive (line.Area name a)) before =
-    exponent_kinds (exponent s a.align) ++ kind_if (is_named_otherwise name s a before) BadOperand
+    exponent_kinds (exponent s a.alignments) ++ kind_if (is_named_otherwise name s a before) BadOperand
 area_kinds s _ before = []
 
 -- ---- names

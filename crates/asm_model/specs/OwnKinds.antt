@@ -48,5 +48,6 @@ has_bad_word (what.Arm l) = is_bad_arm l
 has_bad_word (what.Directive l) = is_bad_directive l
 has_bad_word _ = false
 
+-- the kinds that a statement has by itself
 abbrev pub own_kinds : Statement → List LineKind
 own_kinds s = kind_if (has_bad_word s.what) BadOperand ++ kind_if (has_large s.what) Constant ++ kind_if s.is_long TooMany

@@ -3,7 +3,9 @@
 -- Reference Guide, chapter on the assembler; the profile of the forms is this project's. The text of TTL and SUBT is
 -- not read, and the number of OPT is read as a form and has no effect. What needs other lines is judged elsewhere:
 -- names that nothing defines or that are defined twice, values and their types and ranges, what is known at the
--- line, places before the first AREA, a second ENTRY, attributes of an area that is named again, and states.
+-- line, places before the first AREA, a second ENTRY, attributes of an area that is named again, and states; and so are
+-- words that a form doesn't have, as attributes that exclude each other, numbers that are too large, and names beyond
+-- the limit.
 use Rattle.std.specs.Prelude.{◌≡◌, ℕ, List, [], ◌∷◌, length, take, drop, codes, ◌-◌, ◌==◌, ◌&&◌, Bool, true, false, if◌then◌else◌, Option, Some, None, Result, Ok, Err}
 use Rattle.sdt_fault.specs.declared.kinds.LineKind.{LineKind}
 use Rattle.sdt_fault.specs.declared.kinds.LineKind.TheVariants.{Syntax, UnknownWord, FloatingPoint}
@@ -156,8 +158,8 @@ SomeExpressions text (o ∷ os) r = Expressions text (o ∷ os) r
 abbrev pub Area : List ℕ → List (List Token) → Result DirectiveLine LineKind → Type 0
 Area text [] r = r ≡ Err Syntax
 Area text (o ∷ os) r =
-    (align : Result (Option Expr) LineKind) × ReadsAttributes text os align
-    × (r ≡ on_both (λ n attributes. line.Area n attributes) (name_alone text o) (mapped (attributes_written text os) align))
+    (alignments : Result (List Expr) LineKind) × ReadsAttributes text os alignments
+    × (r ≡ on_both (λ n attributes. line.Area n attributes) (name_alone text o) (mapped (attributes_written text os) alignments))
 
 abbrev pub Register : List ℕ → Option ℕ → List Token → Result DirectiveLine LineKind → Type 0
 Register text (Some n) ts r = r ≡ Ok (line.Rn (rn.Register n))

@@ -138,8 +138,8 @@ pub struct AreaAttributes {
     pub halfword: bool,
     pub pic: bool,
     pub reentrant: bool,
-    /// The exponent of the area's alignment.
-    pub align: Option<Expr>,
+    /// The exponent of the area's alignment, where one is written; of several, which is a bad word, all.
+    pub alignments: List<Expr>,
     /// Whether a word is no attribute, stands twice or excludes another.
     pub has_bad_word: bool,
 }

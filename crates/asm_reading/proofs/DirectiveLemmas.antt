@@ -22,14 +22,14 @@ use Rattle.asm_model.specs.declared.directives.LabelNeed.{LabelNeed}
 use Rattle.asm_model.specs.declared.directives.LabelNeed.TheVariants as need
 use Rattle.asm_model.specs.declared.directives.RnOperand.TheVariants as rn
 use Rattle.asm_model.specs.declared.statements.What.TheVariants as what
-use Rattle.asm_model.specs.Areas.{has, attributes_written, attributes_in, attribute_named, plain_attribute, word_attribute, begins_alignment, alignment, ReadsAttribute, either, ReadsAttributes}
+use Rattle.asm_model.specs.Areas.{has, attributes_written, attributes_in, attribute_named, plain_attribute, word_attribute, begins_alignment, alignment, listed, joined, ReadsAttribute, ReadsAttributes}
 use Rattle.asm_model.specs.Forms.{is_short}
 use Rattle.asm_model.specs.Grammar.{ParsesTokens}
 use Rattle.asm_model.specs.Operands.{operands}
 use Rattle.asm_model.specs.Parts.{piece}
 use Rattle.asm_model.specs.Says.{Form, bare, name, imported, expression, expressions, area, register, boundary, refused, form_of_directive, on_both, mapped, name_of, name_alone, weak_mark, import_of, register_alone, Expressions, SomeExpressions, Area, Register, Aligned, bare_of, Reads, label_of, label_field}
 use Rattle.said_model.specs.Fit.{MarksAgree}
-use Rattle.said_model.specs.Said.{IsRead, AllRead, OptionRead, DirectiveSaid, directive_names}
+use Rattle.said_model.specs.Said.{IsRead, AllRead, DirectiveSaid, directive_names}
 use Rattle.said_model.proofs.SharedLemmas.{IsText, MarksFit}
 use Rattle.asm_reading.proofs.ExpressionLemmas.{parsed_read, expression_gives}
 use Rattle.asm_reading.proofs.FormLemmas.{AllHaveForm, operands_form}
@@ -75,41 +75,44 @@ import_text text (t ∷ ts) h =
 
 -- ---- attributes of areas
 
-plain_attribute_read : (o : Option Attribute) → Gives OptionRead (plain_attribute o)
+abbrev NumberRead : Option Expr → Type 0
+NumberRead o = AllRead (listed o)
+
+plain_attribute_read : (o : Option Attribute) → Gives NumberRead (plain_attribute o)
 plain_attribute_read None = tt
 plain_attribute_read (Some Align) = tt
 plain_attribute_read (Some a) = tt
 
-word_attribute_read : (k : TokenKind) (s : List ℕ) → Gives OptionRead (word_attribute k s)
+word_attribute_read : (k : TokenKind) (s : List ℕ) → Gives NumberRead (word_attribute k s)
 word_attribute_read kind.Name s = plain_attribute_read (attribute_named s)
 word_attribute_read k s = tt
 
-alignment_read : (e : Result Expr LineKind) → Gives IsRead e → Gives OptionRead (alignment e)
-alignment_read (Ok e) h = h
+alignment_read : (e : Result Expr LineKind) → Gives IsRead e → Gives NumberRead (alignment e)
+alignment_read (Ok e) h = (h, tt)
 alignment_read (Err k) h = tt
 
 begun_read : (text : List ℕ) (ts : List Token) (b : Bool) (r : Result (Option Expr) LineKind) → EachHasForm text ts
-    → MatchBool b ((e : Result Expr LineKind) × ParsesTokens text ts e × (r ≡ alignment e)) (r ≡ Err Syntax) → Gives OptionRead r
-begun_read text ts true r f h = equal_gives OptionRead r (alignment h.0) h.2 (alignment_read h.0 (parsed_read text ts h.0 f h.1))
-begun_read text ts false r f h = fault_gives OptionRead Syntax r h
+    → MatchBool b ((e : Result Expr LineKind) × ParsesTokens text ts e × (r ≡ alignment e)) (r ≡ Err Syntax) → Gives NumberRead r
+begun_read text ts true r f h = equal_gives NumberRead r (alignment h.0) h.2 (alignment_read h.0 (parsed_read text ts h.0 f h.1))
+begun_read text ts false r f h = fault_gives NumberRead Syntax r h
 
-attribute_read : (text : List ℕ) (ts : List Token) (r : Result (Option Expr) LineKind) → EachHasForm text ts → ReadsAttribute text ts r → Gives OptionRead r
-attribute_read text [] r f h = fault_gives OptionRead Syntax r h
+attribute_read : (text : List ℕ) (ts : List Token) (r : Result (Option Expr) LineKind) → EachHasForm text ts → ReadsAttribute text ts r → Gives NumberRead r
+attribute_read text [] r f h = fault_gives NumberRead Syntax r h
 attribute_read text (t ∷ []) r f h =
-    equal_gives OptionRead r (word_attribute t.kind (piece text t)) h (word_attribute_read t.kind (piece text t))
+    equal_gives NumberRead r (word_attribute t.kind (piece text t)) h (word_attribute_read t.kind (piece text t))
 attribute_read text (t ∷ u ∷ ts) r f h = begun_read text ts (begins_alignment text t u) r f.1.1 h
 
-either_read : (a b : Result (Option Expr) LineKind) → Gives OptionRead a → Gives OptionRead b → Gives OptionRead (either a b)
-either_read (Ok (Some a)) (Ok b) h k = h
-either_read (Ok None) (Ok b) h k = k
-either_read (Ok a) (Err j) h k = tt
-either_read (Err i) (Ok b) h k = tt
-either_read (Err i) (Err j) h k = tt
+joined_read : (a : Result (Option Expr) LineKind) (b : Result (List Expr) LineKind) → Gives NumberRead a → Gives AllRead b → Gives AllRead (joined a b)
+joined_read (Ok (Some e)) (Ok es) h k = (h.0, k)
+joined_read (Ok None) (Ok es) h k = k
+joined_read (Ok e) (Err j) h k = tt
+joined_read (Err i) (Ok es) h k = tt
+joined_read (Err i) (Err j) h k = tt
 
-attributes_read : (text : List ℕ) (os : List (List Token)) (r : Result (Option Expr) LineKind) → AllHaveForm text os → ReadsAttributes text os r → Gives OptionRead r
-attributes_read text [] r f h = equal_gives OptionRead r (Ok None) h tt
+attributes_read : (text : List ℕ) (os : List (List Token)) (r : Result (List Expr) LineKind) → AllHaveForm text os → ReadsAttributes text os r → Gives AllRead r
+attributes_read text [] r f h = equal_gives AllRead r (Ok []) h tt
 attributes_read text (o ∷ os) r f h =
-    equal_gives OptionRead r (either h.0 h.1) h.4 (either_read h.0 h.1 (attribute_read text o h.0 f.0 h.2) (attributes_read text os h.1 f.1 h.3))
+    equal_gives AllRead r (joined h.0 h.1) h.4 (joined_read h.0 h.1 (attribute_read text o h.0 f.0 h.2) (attributes_read text os h.1 f.1 h.3))
 
 code_alone : (c n i h : Bool) → MarksAgree (cond c contents.Code (cond n contents.Zeroes contents.Data)) (c && i) (c && h)
 code_alone true n i h = tt
@@ -117,10 +120,10 @@ code_alone false true i h = (refl, refl)
 code_alone false false i h = (refl, refl)
 
 abbrev AttributesFine : AreaAttributes → Type 0
-AttributesFine a = OptionRead a.align × MarksAgree a.contents a.interwork a.halfword
+AttributesFine a = AllRead a.alignments × MarksAgree a.contents a.interwork a.halfword
 
-attributes_fine : (text : List ℕ) (os : List (List Token)) (align : Option Expr) → OptionRead align → AttributesFine (attributes_written text os align)
-attributes_fine text os align h =
+attributes_fine : (text : List ℕ) (os : List (List Token)) (alignments : List Expr) → AllRead alignments → AttributesFine (attributes_written text os alignments)
+attributes_fine text os alignments h =
     let words = attributes_in text os in
     (h, code_alone (has Code words) (has NoInit words) (has Interwork words) (has Halfword words))
 
@@ -158,7 +161,7 @@ area_fine text (o ∷ os) r f h =
     equal_gives DirectiveFine r (on_both (λ n a. line.Area n a) (name_alone text o) attributes) h.2
     (both_give IsText AttributesFine DirectiveFine (λ n a. line.Area n a) (name_alone text o) attributes (λ n a p q. (q.0, (p, tt), q.1))
     (alone_text text o f.0)
-    (mapped_gives OptionRead AttributesFine (attributes_written text os) h.0 (attributes_fine text os) (attributes_read text os h.0 f.1 h.1)))
+    (mapped_gives AllRead AttributesFine (attributes_written text os) h.0 (attributes_fine text os) (attributes_read text os h.0 f.1 h.1)))
 
 alone_small : (text : List ℕ) (ts : List Token) → OptionGives IsRegister (register_alone text ts)
 alone_small text (t ∷ []) = register_small (piece text t)

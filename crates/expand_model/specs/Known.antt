@@ -1,7 +1,7 @@
 -- The expressions of IF, WHILE, SETA, SETL and SETS. They know the variables and each name that an EQU of an earlier
 -- flat line made a number by what was known there, without variables; a label, this place, the storage map and every
--- other name is Forward, a number that is too large is Constant, and a name beyond the limit is TooMany. `:DEF:` is true of a variable and of what stands in
--- the label field of an earlier flat line. This project's.
+-- other name is Forward, a number that is too large is Constant, and a name beyond the limit is TooMany. `:DEF:` is true
+-- of a variable and of what stands in the label field of an earlier flat line. This project's.
 use Rattle.std.specs.Prelude.{◌≡◌, ℕ, List, [], ◌∷◌, ◌++◌, map, Bool, false, if◌then◌else◌, Option, Some, None, Result, Ok, Err}
 use Rattle.std.specs.List.{list_any}
 use Rattle.std.specs.Option.{is_some}

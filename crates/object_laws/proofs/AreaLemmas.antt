@@ -53,7 +53,7 @@ pub record FirstLine (area : ℕ) (thumb : Bool) (lines : List LaidLine) (w : �
   pub attributes : AreaAttributes
   pub parts : lines ≡ later ++ owner ∷ earlier
   pub says : owner.statement.what ≡ what.Directive (line.Area name attributes)
-  pub word : w ≡ attributes_word attributes (or_two (exponent owner.seen attributes.align)) thumb
+  pub word : w ≡ attributes_word attributes (or_two (exponent owner.seen attributes.alignments)) thumb
   pub holds : c ≡ attributes.contents
 
 abbrev pub Told : ℕ → Bool → List LaidLine → Option ℕ → Option Contents → Type 0
@@ -66,7 +66,7 @@ pub told_here : (area : ℕ) (thumb : Bool) (l : LaidLine) (ls : List LaidLine) 
 told_here area thumb l ls (what.Directive (line.Area name a)) e = by_test (is_of area l.area)
   where
     by_test : (b : Bool)
-        → Told area thumb (l ∷ ls) (cond b (Some (attributes_word a (or_two (exponent l.seen a.align)) thumb)) None) (cond b (Some a.contents) None)
+        → Told area thumb (l ∷ ls) (cond b (Some (attributes_word a (or_two (exponent l.seen a.alignments)) thumb)) None) (cond b (Some a.contents) None)
     by_test true =
         record { later = []; earlier = ls; owner = l; name = name; attributes = a; parts = refl; says = e; word = refl; holds = refl }
     by_test false = tt
@@ -197,17 +197,17 @@ first_facts ss h area a c e f =
     let t = f.attributes in
     let kinds = (line_kinds (settled (equals_in ss)) ss l f.earlier (layout_here ss h.layout f.later f.earlier l f.parts)).1 in
     let own = subst (λ w. area_kinds l.seen w f.earlier ≡ []) f.says kinds in
-    let low = exponent_fine (exponent l.seen t.align)
-    (both_empty (exponent_kinds (exponent l.seen t.align)) (kind_if (is_named_otherwise f.name l.seen t f.earlier) BadOperand) own).0 in
+    let low = exponent_fine (exponent l.seen t.alignments)
+    (both_empty (exponent_kinds (exponent l.seen t.alignments)) (kind_if (is_named_otherwise f.name l.seen t f.earlier) BadOperand) own).0 in
     let marks = subst WhatFits f.says (each_there IsFit ss h.fit f.later f.earlier l f.parts) in
     let thumb = is_thumb_area area ss in
     let state = state_agrees ss h area t.contents (e ∙ ap Some f.holds) in
-    let bits = area_bits (or_two (exponent l.seen t.align)) t.contents t.read_only t.pic t.reentrant thumb t.halfword t.interwork low marks state in
+    let bits = area_bits (or_two (exponent l.seen t.alignments)) t.contents t.read_only t.pic t.reentrant thumb t.halfword t.interwork low marks state in
     record {
-      low = or_two (exponent l.seen t.align);
+      low = or_two (exponent l.seen t.alignments);
       kind = t.contents;
       exponent = low;
-      bits = subst (λ w. AreIn w (or_two (exponent l.seen t.align)) t.contents thumb) (sym f.word) bits;
+      bits = subst (λ w. AreIn w (or_two (exponent l.seen t.alignments)) t.contents thumb) (sym f.word) bits;
       contents = e ∙ ap Some f.holds;
     }
 

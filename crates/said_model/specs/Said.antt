@@ -64,10 +64,6 @@ abbrev pub AllRead : List Expr → Type 0
 AllRead [] = Unit {0}
 AllRead (e ∷ es) = IsRead e × AllRead es
 
-abbrev pub OptionRead : Option Expr → Type 0
-OptionRead None = Unit {0}
-OptionRead (Some e) = IsRead e
-
 abbrev pub RegisterSaid : Register → Type 0
 RegisterSaid (register.Number n) = n < 16
 RegisterSaid (register.Named name) = Unit {0}
@@ -209,7 +205,7 @@ GivenSaid (rn.Register n) = n < 16
 GivenSaid (rn.Number e) = IsRead e
 
 abbrev pub DirectiveSaid : DirectiveLine → Type 0
-DirectiveSaid (line.Area name a) = OptionRead a.align
+DirectiveSaid (line.Area name a) = AllRead a.alignments
 DirectiveSaid (line.Equ e) = IsRead e
 DirectiveSaid (line.Rn r) = GivenSaid r
 DirectiveSaid (line.Assert e) = IsRead e

@@ -176,14 +176,14 @@ attributes_same s a =
       mark_same a.halfword,
       mark_same a.pic,
       mark_same a.reentrant,
-      exponent_same (exponent s a.align),
+      exponent_same (exponent s a.alignments),
     ) refl
 
 pub attributes_true : (s : Names) (a : AreaAttributes) (t : Names) (b : AreaAttributes) → same_attributes s a t b ≡ true → a.contents ≡ b.contents
 attributes_true s a t b h =
     contents_true a.contents b.contents
     (first_of_all (same_contents a.contents b.contents) (same_mark a.read_only b.read_only) (same_mark a.interwork b.interwork)
-    (same_mark a.halfword b.halfword) (same_mark a.pic b.pic) (same_mark a.reentrant b.reentrant) (same_exponent (exponent s a.align) (exponent t b.align)) h)
+    (same_mark a.halfword b.halfword) (same_mark a.pic b.pic) (same_mark a.reentrant b.reentrant) (same_exponent (exponent s a.alignments) (exponent t b.alignments)) h)
 
 pub rest_false : (c x r : Bool) → cond c (x || r) r ≡ false → r ≡ false
 rest_false true true r h = absurd (cc)
@@ -308,7 +308,7 @@ pub behind_line : (l : LaidLine) (before : List LaidLine) (xs : List (List ℕ))
     → Behind k (or_else (contents_of k before) (contents_in k l w)) (contents_from w c)
 behind_line l before xs o k (what.Directive (line.Area name b)) c known fine earlier e =
     let p = known name (named_with name xs) in
-    let q = both_empty (exponent_kinds (exponent l.seen b.align)) (kind_if (is_named_otherwise name l.seen b before) BadOperand) fine in
+    let q = both_empty (exponent_kinds (exponent l.seen b.alignments)) (kind_if (is_named_otherwise name l.seen b before) BadOperand) fine in
     let r = kind_none (is_named_otherwise name l.seen b before) BadOperand q.1 in
     let x = p.alike l.seen b (otherwise_false name l.seen b (is_named_otherwise name l.seen b before) r) in
     let y : place_of name (with_name (Some name) xs) ≡ k = cc in (

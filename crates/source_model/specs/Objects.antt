@@ -59,7 +59,7 @@ or_two (Err k) = 2
 
 abbrev pub says_area : ℕ → LaidLine → What → Bool → Option ℕ
 says_area area l (what.Directive (line.Area name a)) thumb =
-    if is_of area l.area then Some (attributes_word a (or_two (exponent l.seen a.align)) thumb) else None
+    if is_of area l.area then Some (attributes_word a (or_two (exponent l.seen a.alignments)) thumb) else None
 says_area area l _ thumb = None
 
 -- the attributes of an area, by its first line; lines are listed with the last first

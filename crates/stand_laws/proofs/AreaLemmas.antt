@@ -123,12 +123,12 @@ line_agrees : (area : ℕ) (thumb : Bool) (l : LaidLine) (before : List LaidLine
     → Agree (says_area area l w thumb) (contents_in area l w)
 line_agrees area thumb l before (what.Directive (line.Area name a)) fine = by_test (is_of area l.area)
   where
-    by_test : (b : Bool) → Agree (cond b (Some (attributes_word a (or_two (exponent l.seen a.align)) thumb)) None) (cond b (Some a.contents) None)
+    by_test : (b : Bool) → Agree (cond b (Some (attributes_word a (or_two (exponent l.seen a.alignments)) thumb)) None) (cond b (Some a.contents) None)
     by_test false = tt
     by_test true =
-        attributes_agree a a.contents (or_two (exponent l.seen a.align)) thumb refl
-        (exponent_small (exponent l.seen a.align)
-        (both_empty (exponent_kinds (exponent l.seen a.align)) (kind_if (is_named_otherwise name l.seen a before) BadOperand) fine).0)
+        attributes_agree a a.contents (or_two (exponent l.seen a.alignments)) thumb refl
+        (exponent_small (exponent l.seen a.alignments)
+        (both_empty (exponent_kinds (exponent l.seen a.alignments)) (kind_if (is_named_otherwise name l.seen a before) BadOperand) fine).0)
 line_agrees area thumb l before w fine = tt
 
 pub lines_agree : (S : List (List ℕ)) (all : List Statement) (area : ℕ) (thumb : Bool) (lines : List LaidLine) → first_fault S all lines ≡ None

@@ -35,7 +35,7 @@ area c = says 1 None (what.Directive (line.Area (codes "words") (record {
   halfword = false;
   pic = false;
   reentrant = false;
-  align = None;
+  alignments = [];
   has_bad_word = false;
 })))
 

@@ -15,7 +15,7 @@ returns-in-None c =
       other_end c.args.text.now (list_any (is_bad_word c.args.text.now) all) c.operands.left.now o
           c.operands.written.has_other c.in_ok-written.written.has_other cut taken.1 c.operands.invariant.other,
       attribute_end c.args.text.now all c.operands.left.now o
-          c.operands.written.align c.in_ok-written.written.align taken.2.0 cut taken.2.1 taken.2.2 c.operands.invariant.align,
+          c.operands.written.alignments c.in_ok-written.written.alignments taken.2.0 cut taken.2.1 taken.2.2 c.operands.invariant.alignments,
     )
 
 pub operands-preserved : goal.operands-preserved
@@ -31,7 +31,7 @@ operands-preserved c =
       other =
           other_step c.args.text.now (list_any (is_bad_word c.args.text.now) all) c.operands.left.now o c.in-Some.tokens.now
           c.operands.written.has_other c.in_ok-written.written.has_other cut taken.1 c.operands.invariant.other;
-      align =
+      alignments =
           attribute_step c.args.text.now all c.operands.left.now o c.in-Some.tokens.now
-          c.operands.written.align c.in_ok-written.written.align taken.2.0 cut taken.2.1 taken.2.2 c.operands.invariant.align;
+          c.operands.written.alignments c.in_ok-written.written.alignments taken.2.0 cut taken.2.1 taken.2.2 c.operands.invariant.alignments;
     }
