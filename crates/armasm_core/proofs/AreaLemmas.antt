@@ -28,7 +28,7 @@ use Rattle.object_laws.proofs.BitLemmas.{flag_small}
 use Rattle.source_laws.proofs.FaultlessLemmas.{layout_sound}
 use Rattle.source_laws.proofs.ZeroLemmas.{line_kinds}
 use Rattle.source_laws.proofs.WithinLemmas.{IsWithin, area_within, areas_more}
-use Rattle.armasm_core.specs.Drafting.{marks_zeroes}
+use Rattle.armasm_core.specs.Building.{marks_zeroes}
 use Rattle.armasm_core.specs.Gathering.{marks_code}
 use Rattle.asm_model.proofs.OffsetLemmas.{through as low_of}
 use Rattle.stand_laws.proofs.AreaLemmas.{Agree, exponent_small, lines_agree}

@@ -65,9 +65,9 @@ lines_of_line : (ss : List Statement) (before : ℕ) (u : Option Unread) → IsO
 lines_of_line ss before None = of_line (layout_faults ss)
 lines_of_line ss before (Some u) = either_of_line (told (front_laid ss before)) (Some (unread_told u)) (of_line (front_laid ss before)) tt
 
-beside_of_line : (name : List ℕ) (t : Option Refusal) → IsOfLine (Some (without_area name t))
-beside_of_line name (Some (BadLine file n k)) = tt
-beside_of_line name t = tt
+tables_of_line : (name : List ℕ) (t : Option Refusal) → IsOfLine (Some (without_area name t))
+tables_of_line name (Some (BadLine file n k)) = tt
+tables_of_line name t = tt
 
 reading_of_line : (name : List ℕ) (flats : List Flat) (r : Reading) → IsOfLine (reading_faults name flats r)
 reading_of_line name flats r = by_area (list_any says_area flats)
@@ -75,7 +75,7 @@ reading_of_line name flats r = by_area (list_any says_area flats)
     by_area : (b : Bool)
         → IsOfLine (cond b (line_faults (said_by r) r.before r.unread) (Some (without_area name (line_faults (said_by r) r.before r.unread))))
     by_area true = lines_of_line (said_by r) r.before r.unread
-    by_area false = beside_of_line name (line_faults (said_by r) r.before r.unread)
+    by_area false = tables_of_line name (line_faults (said_by r) r.before r.unread)
 
 source_of_line : (name : List ℕ) (flats : List Flat) (r : Reading) → IsOfLine (source_faults name flats r)
 source_of_line name flats r =

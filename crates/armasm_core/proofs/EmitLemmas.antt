@@ -2,8 +2,8 @@
 use Rattle.std.proofs.Common.{◌≡◌, inl, inr, ⊎_elim, ◌≤◌, ◌<◌, ◌-◌, ℕ, List, [], ◌∷◌, ◌++◌, length, map, take, drop, get_or, cond, Option, Some, None, refl, sym, ap, ◌∙◌, subst, append_assoc, append-nil}
 use Rattle.std.specs.List.{slice_get}
 use Rattle.std.proofs.lemmas.Bool.{cond-true}
-use Rattle.armasm_core.specs.declared.drafts.Draft.{Draft}
-use Rattle.armasm_core.specs.Drafts.{IsDraft, MeetNone}
+use Rattle.armasm_core.specs.declared.builders.AreaBuilder.{AreaBuilder}
+use Rattle.armasm_core.specs.Builders.{HasPieces, MeetNone}
 use Rattle.armasm_core.specs.Pools.{pool_words, pooled_words, words_in}
 use Rattle.asm_units.specs.declared.emitted.LineUnits.{LineUnits}
 use Rattle.armasm_core.specs.declared.whole.Whole.{Whole}
@@ -34,8 +34,8 @@ use Rattle.source_laws.proofs.ListedLemmas.{among_either, among_first, among_las
 use Rattle.source_model.specs.Objects.{Piece, Source, IsAmong, StandsIn, source_of, things_of, things_behind, things_in, words_of}
 use Rattle.source_model.specs.Registers.{Named, register_in, registers_behind, named_by}
 use Rattle.source_model.specs.SourceFaults.{first_valued, layout_faults, value_faults}
-use Rattle.armasm_core.specs.declared.drafting.Growing.{Growing}
-use Rattle.armasm_core.specs.Drafting.{AreDrafts, MeetNoneThere, frame_of, frames, pieces_put, with_line}
+use Rattle.armasm_core.specs.declared.building.Growing.{Growing}
+use Rattle.armasm_core.specs.Building.{HavePieces, MeetNoneThere, frame_of, frames, pieces_put, with_line}
 use Rattle.armasm_core.specs.Emission.{IsEmittable, IsGrown, things_so_far}
 use Rattle.armasm_core.proofs.FrameLemmas.{frame_there}
 use Rattle.armasm_core.proofs.ListLemmas.{nothing}
@@ -77,21 +77,21 @@ apart_there apart ss sound states before rest l own more parts same e = λ area 
     (subst (IsAmong q) (sym (things_here ss area before rest l more (sym same ∙ here) e))
     (among_last q (things_so_far (source_of ss) before (l ∷ rest) area) more u)))
 
-drafts_there : (ss : List Statement) (names : List (List ℕ)) (before rest : List LaidLine) (l : LaidLine) (own : Option ℕ) (more : List Piece) (gs : List Growing)
+builders_there : (ss : List Statement) (names : List (List ℕ)) (before rest : List LaidLine) (l : LaidLine) (own : Option ℕ) (more : List Piece) (gs : List Growing)
     → own ≡ l.area → own_things ss l before rest ≡ more
-    → AreDrafts names (with_line (things_so_far (source_of ss) before (l ∷ rest)) own more) gs → AreDrafts names (things_so_far (source_of ss) (l ∷ before) rest) gs
-drafts_there ss names before rest l own more gs same e h = λ area g is.
+    → HavePieces names (with_line (things_so_far (source_of ss) before (l ∷ rest)) own more) gs → HavePieces names (things_so_far (source_of ss) (l ∷ before) rest) gs
+builders_there ss names before rest l own more gs same e h = λ area g is.
     let words = pooled_words (source_of ss) area in
     let things = things_behind (source_of ss) area before (l ∷ rest) in
-    subst (λ (ps : List Piece). IsDraft names ps g.draft)
+    subst (λ (ps : List Piece). HasPieces names ps g.builder)
     (ap (λ (o : Option ℕ). (words ++ things) ++ cond (is_of area o) more []) same
     ∙ ap (λ (ps : List Piece). (words ++ things) ++ cond (is_of area l.area) ps []) (sym e)
     ∙ append_assoc words things (cond (is_of area l.area) (own_things ss l before rest) [])) (h area g is)
 
 -- ---- the words of pools
 
--- the things of a draft in another order
-turned : (names : List (List ℕ)) (ps qs : List Piece) (d : Draft) → IsDraft names (ps ++ qs) d → IsDraft names (qs ++ ps) d
+-- the things of an area that is being built, in another order
+turned : (names : List (List ℕ)) (ps qs : List Piece) (d : AreaBuilder) → HasPieces names (ps ++ qs) d → HasPieces names (qs ++ ps) d
 turned names ps qs d h = record {
   held = record {
     standing = λ p k. h.held.standing p (swap p qs ps k);
@@ -123,36 +123,36 @@ words_apart apart ss xs sound states h area = by_area (slice_get xs area) refl
         (λ q u p k. apart ss sound states area p q (words_stand ss area p k) (words_stand ss area q u))
 
 pub pools_first : (ss : List Statement) (names : List (List ℕ)) (xs : List LaidArea) (gs : List Growing) → AreAreas (laid ss) xs → frames gs ≡ map frame_of xs
-    → AreDrafts names (pool_words (source_of ss) xs) gs → AreDrafts names (pooled_words (source_of ss)) gs
-pools_first ss names xs gs h same drafts = λ area g is.
+    → HavePieces names (pool_words (source_of ss) xs) gs → HavePieces names (pooled_words (source_of ss)) gs
+pools_first ss names xs gs h same builders = λ area g is.
     let f = frame_there gs xs same area g is in
-    subst (λ (ps : List Piece). IsDraft names ps g.draft)
-    (ap (words_in (source_of ss) area) f.there ∙ words_are ss xs area f.laid_area h f.there) (drafts area g is)
+    subst (λ (ps : List Piece). HasPieces names ps g.builder)
+    (ap (words_in (source_of ss) area) f.there ∙ words_are ss xs area f.laid_area h f.there) (builders area g is)
 
 -- ---- all lines
 
 pub grown_first : (ss : List Statement) (l : Layout) (w : Whole) (names : List (List ℕ)) (known : List Named) (gs : List Growing) → IsEmittable ss l w
-    → ((q : List ℕ) → register_in q known ≡ None) → AreDrafts names (pooled_words (source_of ss)) gs → IsGrown ss names l.statements known gs
-grown_first ss l w names known gs h none drafts = record {
+    → ((q : List ℕ) → register_in q known ≡ None) → HavePieces names (pooled_words (source_of ss)) gs → IsGrown ss names l.statements known gs
+grown_first ss l w names known gs h none builders = record {
   before = [];
   rest = reversed (laid ss) [];
   parts = turned_again (laid ss);
   lines = lines_from (laid ss) l.statements h.layout.lines;
   registers = none;
   none = refl;
-  drafts = λ area g is. subst (λ (ps : List Piece). IsDraft names ps g.draft) (sym (append-nil (pooled_words (source_of ss) area))) (drafts area g is);
+  builders = λ area g is. subst (λ (ps : List Piece). HasPieces names ps g.builder) (sym (append-nil (pooled_words (source_of ss) area))) (builders area g is);
 }
 
 pub grown_all : (ss : List Statement) (names : List (List ℕ)) (left : List LaidStatement) (known : List Named) (gs : List Growing) → length left < 1
-    → IsGrown ss names left known gs → (value_faults ss ≡ None) × AreDrafts names (things_in (source_of ss)) gs
+    → IsGrown ss names left known gs → (value_faults ss ≡ None) × HavePieces names (things_in (source_of ss)) gs
 grown_all ss names left known gs less h =
     let none = none_left h.before h.rest (subst (λ (xs : List LaidStatement). AreOn h.before h.rest xs) (nothing left less) h.lines) in
     let all : laid ss ≡ h.before = h.parts ∙ ap (λ (ls : List LaidLine). reversed ls h.before) none in (
       h.none ∙ ap (λ (ls : List LaidLine). first_valued (laid ss) ss h.before ls) none,
       λ area g is.
-          turned names (pooled_words (source_of ss) area) (things_behind (source_of ss) area (laid ss) []) g.draft
-          (subst (λ (ls : List LaidLine). IsDraft names (things_so_far (source_of ss) ls [] area) g.draft) (sym all)
-          (subst (λ (ls : List LaidLine). IsDraft names (things_so_far (source_of ss) h.before ls area) g.draft) none (h.drafts area g is))),
+          turned names (pooled_words (source_of ss) area) (things_behind (source_of ss) area (laid ss) []) g.builder
+          (subst (λ (ls : List LaidLine). HasPieces names (things_so_far (source_of ss) ls [] area) g.builder) (sym all)
+          (subst (λ (ls : List LaidLine). HasPieces names (things_so_far (source_of ss) h.before ls area) g.builder) none (h.builders area g is))),
     )
 
 -- the lines that are left begin with this one
@@ -163,7 +163,7 @@ pub record Next (ss : List Statement) (l : Layout) (w : Whole) (names : List (Li
   pub here : IsHere ss l.areas w known before rest line x
   pub lines : AreOn (line ∷ before) rest more
   pub none : value_faults ss ≡ first_valued (laid ss) ss before (line ∷ rest)
-  pub drafts : AreDrafts names (things_so_far (source_of ss) before (line ∷ rest)) gs
+  pub builders : HavePieces names (things_so_far (source_of ss) before (line ∷ rest)) gs
 
 next_of : (ss : List Statement) (l : Layout) (w : Whole) (names : List (List ℕ)) (x : LaidStatement) (more : List LaidStatement) (known : List Named) (gs : List Growing)
     → IsEmittable ss l w → IsGrown ss names (x ∷ more) known gs → Next ss l w names x more known gs
@@ -184,7 +184,7 @@ next_of ss l w names x more known gs j k =
       };
       lines = f.lines;
       none = k.none ∙ ap (λ (ls : List LaidLine). first_valued (laid ss) ss k.before ls) f.parts;
-      drafts = λ area g is. subst (λ (ls : List LaidLine). IsDraft names (things_so_far (source_of ss) k.before ls area) g.draft) f.parts (k.drafts area g is);
+      builders = λ area g is. subst (λ (ls : List LaidLine). HasPieces names (things_so_far (source_of ss) k.before ls area) g.builder) f.parts (k.builders area g is);
     }
 
 pub next_there : (ss : List Statement) (l : Layout) (w : Whole) (names : List (List ℕ)) (x : LaidStatement) (left : List LaidStatement) (known : List Named) (gs : List Growing)
@@ -213,10 +213,10 @@ told_here ss l w names x more known gs n f h =
 
 pub grown_more : (ss : List Statement) (l : Layout) (w : Whole) (names : List (List ℕ)) (x : LaidStatement) (more : List LaidStatement) (known new : List Named) (gs hs : List Growing)
     (n : Next ss l w names x more known gs) (u : LineUnits) (us : List Code) → us ≡ u.units.items → IsPut ss n.before n.rest n.line u
-    → AreDrafts names (with_line (things_so_far (source_of ss) n.before (n.line ∷ n.rest)) x.place.area (pieces_put x.place.offset us)) hs
+    → HavePieces names (with_line (things_so_far (source_of ss) n.before (n.line ∷ n.rest)) x.place.area (pieces_put x.place.offset us)) hs
     → ((q : List ℕ) → register_in q new ≡ register_in q (known ++ gives u.number (defined_by x.statement)))
     → IsGrown ss names more new hs
-grown_more ss l w names x more known new gs hs n u us is put drafts noted = record {
+grown_more ss l w names x more known new gs hs n u us is put builders noted = record {
   before = n.line ∷ n.before;
   rest = n.rest;
   parts = n.here.parts;
@@ -226,6 +226,6 @@ grown_more ss l w names x more known new gs hs n u us is put drafts noted = reco
       ∙ ap (λ (ns : List Named). register_in q (known ++ ns)) (ap (λ (s : Statement). gives u.number (defined_by s)) n.here.line.statement ∙ sym put.given)
       ∙ before_more q known (registers_behind n.before) (named_by n.line.seen (defined_by n.line.statement)) (n.here.registers q);
   none = n.none ∙ ap (λ o. or_else (told_at n.line.statement o) (first_valued (laid ss) ss (n.line ∷ n.before) n.rest)) put.faultless;
-  drafts = drafts_there ss names n.before n.rest n.line x.place.area (pieces_put x.place.offset us) hs n.here.line.place.area
-      (put_there ss l w names x more known gs n u us is put) drafts;
+  builders = builders_there ss names n.before n.rest n.line x.place.area (pieces_put x.place.offset us) hs n.here.line.place.area
+      (put_there ss l w names x more known gs n u us is put) builders;
 }

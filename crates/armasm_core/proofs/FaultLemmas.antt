@@ -27,8 +27,8 @@ no_area name flats r h = rw h refl
 
 pub area_missing_beside : (name : List ℕ) (flats : List Flat) (r : Reading) (e f : Fault) → list_any says_area flats ≡ false
     → LaysLines (said_by r) r.before r.unread (Err e) → ((t : Option Refusal) → IsToldAs t e → IsToldAs (Some (without_area name t)) f) → LaysOut name flats r (Err f)
-area_missing_beside name flats r e f h k beside =
-    subst (λ (t : Option Refusal). IsToldAs t f) (sym (no_area name flats r h)) (beside (line_faults (said_by r) r.before r.unread) k)
+area_missing_beside name flats r e f h k tables =
+    subst (λ (t : Option Refusal). IsToldAs t f) (sym (no_area name flats r h)) (tables (line_faults (said_by r) r.before r.unread) k)
 
 -- ---- the object
 

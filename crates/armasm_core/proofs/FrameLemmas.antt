@@ -2,8 +2,8 @@
 use Rattle.std.proofs.Common.{◌≡◌, ℕ, zero, suc, List, [], ◌∷◌, map, Some, refl, sym, ap, ◌∙◌}
 use Rattle.std.specs.List.{slice_get}
 use Rattle.asm_layout.specs.declared.laid.LaidArea.{LaidArea}
-use Rattle.armasm_core.specs.declared.drafting.Growing.{Growing}
-use Rattle.armasm_core.specs.Drafting.{frame, frame_of, frames}
+use Rattle.armasm_core.specs.declared.building.Growing.{Growing}
+use Rattle.armasm_core.specs.Building.{frame, frame_of, frames}
 
 pub record HasFrame (xs : List LaidArea) (area : ℕ) (g : Growing) : Type 0 where
   pub laid_area : LaidArea

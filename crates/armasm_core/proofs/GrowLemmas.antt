@@ -3,16 +3,16 @@ use Rattle.std.proofs.Common.{◌≡◌, ◌⊎◌, inl, inr, ◌<◌, ◌^◌, 
 use Rattle.std.specs.List.{slice_get, slice_set}
 use Rattle.std.proofs.lemmas.Bool.{cond-true, cond-false, eqb-true, false_from_ne_true}
 use Rattle.std.proofs.lemmas.Option.{slice_get_read}
-use Rattle.armasm_core.specs.Drafts.{IsDraft, MeetNone, TakesMore}
+use Rattle.armasm_core.specs.Builders.{HasPieces, MeetNone, TakesMore}
 use Rattle.armasm_core.specs.Writing.{AllCanStand}
 use Rattle.asm_layout.specs.declared.laid.LaidArea.{LaidArea}
 use Rattle.asm_model.specs.Offsets.{is_of}
 use Rattle.asm_model.proofs.OffsetLemmas.{is_here}
 use Rattle.source_model.specs.Objects.{Piece, words_of}
-use Rattle.armasm_core.specs.declared.drafting.Growing.{Growing}
+use Rattle.armasm_core.specs.declared.building.Growing.{Growing}
 use Rattle.armasm_core.specs.declared.whole.Whole.{Whole}
 use Rattle.armasm_core.specs.Pools.{BeginsWith, HoldPools, pool_words, words_in}
-use Rattle.armasm_core.specs.Drafting.{AreDrafts, CanTake, LineCanStand, MeetNoneThere, Frame, frame, frame_of, frames, with_line}
+use Rattle.armasm_core.specs.Building.{HavePieces, CanTake, LineCanStand, MeetNoneThere, Frame, frame, frame_of, frames, with_line}
 
 -- ---- one area of many
 
@@ -52,24 +52,24 @@ pub take_less : (names : List (List ℕ)) (gs : List Growing) (own : Option ℕ)
 take_less names gs own area more e h = let t = take_there names (frames gs) own area more e h in frame_less gs area t.own t.there
 
 pub take_small : (names : List (List ℕ)) (gs : List Growing) (own : Option ℕ) (area : ℕ) (more : List Piece) (x : Growing) → own ≡ Some area → x ≡ get_or gs area x
-    → LineCanStand names (frames gs) own more → length x.draft.bytes.items < 2 ^ 32
+    → LineCanStand names (frames gs) own more → length x.builder.bytes.items < 2 ^ 32
 take_small names gs own area more x e at h =
     let t = take_there names (frames gs) own area more e h in
     subst (λ (f : Frame). f.kept < 2 ^ 32) (frame_read gs area t.own x t.there at) t.small
 
 pub take_stand : (names : List (List ℕ)) (gs : List Growing) (own : Option ℕ) (area : ℕ) (more : List Piece) (x : Growing) → own ≡ Some area → x ≡ get_or gs area x
-    → LineCanStand names (frames gs) own more → AllCanStand names (length x.draft.bytes.items) more
+    → LineCanStand names (frames gs) own more → AllCanStand names (length x.builder.bytes.items) more
 take_stand names gs own area more x e at h =
     let t = take_there names (frames gs) own area more e h in
     subst (λ (f : Frame). AllCanStand names f.kept more) (frame_read gs area t.own x t.there at) t.stand
 
-pub drafts_put : (names : List (List ℕ)) (held : ℕ → List Piece) (gs : List Growing) (i : ℕ) (x y : Growing) (own : Option ℕ) (more : List Piece)
-    → own ≡ Some i → i < length gs → x ≡ get_or gs i x → AreDrafts names held gs → MeetNoneThere held own more
-    → TakesMore names more x.draft y.draft
-    → AreDrafts names (with_line held own more) (slice_set gs i y)
-drafts_put names held gs i x y own more here less at old apart grows = λ area g is. by_place area g (set_got gs i area y g is)
+pub builders_put : (names : List (List ℕ)) (held : ℕ → List Piece) (gs : List Growing) (i : ℕ) (x y : Growing) (own : Option ℕ) (more : List Piece)
+    → own ≡ Some i → i < length gs → x ≡ get_or gs i x → HavePieces names held gs → MeetNoneThere held own more
+    → TakesMore names more x.builder y.builder
+    → HavePieces names (with_line held own more) (slice_set gs i y)
+builders_put names held gs i x y own more here less at old apart grows = λ area g is. by_place area g (set_got gs i area y g is)
   where
-    grown : IsDraft names (held i ++ more) y.draft
+    grown : HasPieces names (held i ++ more) y.builder
     grown = grows (held i) (old i x (slice_get_read gs (length gs) i x refl less at)) (apart i here)
 
     own_there : with_line held own more i ≡ held i ++ more
@@ -81,42 +81,42 @@ drafts_put names held gs i x y own more here less at old apart grows = λ area g
     others_there : (area : ℕ) → (i ≡ area → ⊥) → with_line held own more area ≡ held area
     others_there area far = ap (λ (ms : List Piece). held area ++ ms) (cond-false (is_of area own) more [] (other area far)) ∙ append-nil (held area)
 
-    by_place : (area : ℕ) (g : Growing) → ((i ≡ area) × (y ≡ g)) ⊎ ((i ≡ area → ⊥) × (slice_get gs area ≡ Some g)) → IsDraft names (with_line held own more area) g.draft
+    by_place : (area : ℕ) (g : Growing) → ((i ≡ area) × (y ≡ g)) ⊎ ((i ≡ area → ⊥) × (slice_get gs area ≡ Some g)) → HasPieces names (with_line held own more area) g.builder
     by_place area g (inl h) =
-        subst (λ (n : ℕ). IsDraft names (with_line held own more n) g.draft) h.0
-        (subst (λ (z : Growing). IsDraft names (with_line held own more i) z.draft) h.1
-        (subst (λ (ps : List Piece). IsDraft names ps y.draft) (sym own_there) grown))
-    by_place area g (inr h) = subst (λ (ps : List Piece). IsDraft names ps g.draft) (sym (others_there area h.0)) (old area g h.1)
+        subst (λ (n : ℕ). HasPieces names (with_line held own more n) g.builder) h.0
+        (subst (λ (z : Growing). HasPieces names (with_line held own more i) z.builder) h.1
+        (subst (λ (ps : List Piece). HasPieces names ps y.builder) (sym own_there) grown))
+    by_place area g (inr h) = subst (λ (ps : List Piece). HasPieces names ps g.builder) (sym (others_there area h.0)) (old area g h.1)
 
 -- a line in no area puts nothing
-pub drafts_same : (names : List (List ℕ)) (held : ℕ → List Piece) (gs : List Growing) (own : Option ℕ) (more : List Piece) → own ≡ None → AreDrafts names held gs
-    → AreDrafts names (with_line held own more) gs
-drafts_same names held gs own more none old = λ area g is.
-    subst (λ (ps : List Piece). IsDraft names ps g.draft)
+pub builders_same : (names : List (List ℕ)) (held : ℕ → List Piece) (gs : List Growing) (own : Option ℕ) (more : List Piece) → own ≡ None → HavePieces names held gs
+    → HavePieces names (with_line held own more) gs
+builders_same names held gs own more none old = λ area g is.
+    subst (λ (ps : List Piece). HasPieces names ps g.builder)
     (sym (ap (λ (o : Option ℕ). held area ++ cond (is_of area o) more []) none ∙ append-nil (held area))) (old area g is)
 
 -- ---- areas one behind the other
 
-pub drafts_more : (names : List (List ℕ)) (held : ℕ → List Piece) (gs : List Growing) (y : Growing) → AreDrafts names held gs → IsDraft names (held (length gs)) y.draft
-    → AreDrafts names held (gs ++ y ∷ [])
-drafts_more names held [] y h k = λ area g is. one area g is
+pub builders_more : (names : List (List ℕ)) (held : ℕ → List Piece) (gs : List Growing) (y : Growing) → HavePieces names held gs → HasPieces names (held (length gs)) y.builder
+    → HavePieces names held (gs ++ y ∷ [])
+builders_more names held [] y h k = λ area g is. one area g is
   where
-    one : (area : ℕ) (g : Growing) → slice_get (y ∷ []) area ≡ Some g → IsDraft names (held area) g.draft
-    one zero g is = let same : y ≡ g = cc in subst (λ (z : Growing). IsDraft names (held zero) z.draft) same k
+    one : (area : ℕ) (g : Growing) → slice_get (y ∷ []) area ≡ Some g → HasPieces names (held area) g.builder
+    one zero g is = let same : y ≡ g = cc in subst (λ (z : Growing). HasPieces names (held zero) z.builder) same k
     one (suc area) g is = absurd (cc)
-drafts_more names held (x ∷ gs) y h k = λ area g is. by_place (drafts_more names (λ n. held (suc n)) gs y (λ n z e. h (suc n) z e) k) area g is
+builders_more names held (x ∷ gs) y h k = λ area g is. by_place (builders_more names (λ n. held (suc n)) gs y (λ n z e. h (suc n) z e) k) area g is
   where
-    by_place : AreDrafts names (λ n. held (suc n)) (gs ++ y ∷ []) → (area : ℕ) (g : Growing) → slice_get (x ∷ (gs ++ y ∷ [])) area ≡ Some g → IsDraft names (held area) g.draft
+    by_place : HavePieces names (λ n. held (suc n)) (gs ++ y ∷ []) → (area : ℕ) (g : Growing) → slice_get (x ∷ (gs ++ y ∷ [])) area ≡ Some g → HasPieces names (held area) g.builder
     by_place rest zero g is = h zero g is
     by_place rest (suc area) g is = rest area g is
 
 pub pools_more : (w : Whole) (names : List (List ℕ)) (areas : List LaidArea) (gs : List Growing) (n : ℕ) (a : LaidArea) (y : Growing) → length gs ≡ n → slice_get areas n ≡ Some a
-    → HoldPools w names areas gs → BeginsWith w names n a.pools.placed y.draft → HoldPools w names areas (gs ++ y ∷ [])
+    → HoldPools w names areas gs → BeginsWith w names n a.pools.placed y.builder → HoldPools w names areas (gs ++ y ∷ [])
 pools_more w names areas gs n a y count at held begins = λ s shares apart.
     let there : words_in s n (slice_get areas n) ≡ words_of s n a.pools.placed = ap (words_in s n) at in
-    drafts_more names (pool_words s areas) gs y (held s shares apart)
-    (subst (λ (m : ℕ). IsDraft names (pool_words s areas m) y.draft) (sym count)
-    (subst (λ (ps : List Piece). IsDraft names ps y.draft) (sym there) (begins s shares (subst (λ (ps : List Piece). MeetNone ps ps) there (apart n)))))
+    builders_more names (pool_words s areas) gs y (held s shares apart)
+    (subst (λ (m : ℕ). HasPieces names (pool_words s areas m) y.builder) (sym count)
+    (subst (λ (ps : List Piece). HasPieces names ps y.builder) (sym there) (begins s shares (subst (λ (ps : List Piece). MeetNone ps ps) there (apart n)))))
 
 pub frames_more : (gs : List Growing) (y : Growing) (xs : List LaidArea) (x : LaidArea) → frames gs ≡ map frame_of xs → frame y ≡ frame_of x
     → frames (gs ++ y ∷ []) ≡ map frame_of (xs ++ x ∷ [])

@@ -15,7 +15,7 @@ mod LoadLemmas
 mod ObjectLemmas
 pub mod PlacedLemmas
 mod StandLemmas
-pub mod DraftLemmas
+pub mod BuilderLemmas
 pub mod RelocLemmas
 mod WriteLemmas
 pub mod GivingLemmas

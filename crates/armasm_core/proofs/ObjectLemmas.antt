@@ -6,7 +6,7 @@ use Rattle.std.proofs.lemmas.Slice.Zip.{AllZip-long}
 use Rattle.aof_object.specs.declared.records.Area.{Area}
 use Rattle.aof_object.specs.declared.records.Reloc.{Reloc}
 use Rattle.aof_object.specs.declared.records.Symbol.{Symbol}
-use Rattle.armasm_core.specs.Drafts.{AreRelocs, HoldsPieces, IsDraft}
+use Rattle.armasm_core.specs.Builders.{AreRelocs, BytesOfPieces, HasPieces}
 use Rattle.armasm_core.specs.Relocations.{relocs_in}
 use Rattle.asm_layout.specs.Layout.{AreAreas}
 use Rattle.asm_model.specs.declared.statements.Statement.{Statement}
@@ -21,8 +21,8 @@ use Rattle.object_laws.proofs.RelocLemmas.{length_map}
 use Rattle.layout_laws.proofs.SoundLemmas.{statements_kept}
 use Rattle.source_model.specs.Objects.{Piece, source_of, things_in, attributes_of, KeepsBytes, HasRelocs, IsRelocOf, IsArea, contents_of, is_kept, relocs_of, symbol_named, symbol_records}
 use Rattle.source_model.specs.SourceFaults.{layout_faults}
-use Rattle.armasm_core.specs.declared.drafting.Growing.{Growing}
-use Rattle.armasm_core.specs.Drafting.{AreDrafts, Frame, IsFinished, frame, frame_of, frames, kept_size, marks_zeroes}
+use Rattle.armasm_core.specs.declared.building.Growing.{Growing}
+use Rattle.armasm_core.specs.Building.{HavePieces, Frame, IsFinished, frame, frame_of, frames, kept_size, marks_zeroes}
 use Rattle.armasm_core.proofs.AreaLemmas.{zeroes_there}
 use Rattle.armasm_core.proofs.FrameLemmas.{frame_there}
 use Rattle.armasm_core.proofs.RelocLemmas.{of_source}
@@ -30,9 +30,9 @@ use Rattle.armasm_core.proofs.RelocLemmas.{of_source}
 -- ---- an area by its number
 
 record IsPair (gs : List Growing) (area : ℕ) (a : Area) : Type 0 where
-  draft : Growing
-  there : slice_get gs area ≡ Some draft
-  finished : IsFinished draft a
+  builder : Growing
+  there : slice_get gs area ≡ Some builder
+  finished : IsFinished builder a
 
 pair_there : (gs : List Growing) (areas : List Area) → AllZip IsFinished gs areas → (area : ℕ) (a : Area) → slice_get areas area ≡ Some a → IsPair gs area a
 pair_there [] [] h area a is = absurd (cc)
@@ -40,10 +40,10 @@ pair_there [] (b ∷ areas) h area a is = absurd h
 pair_there (g ∷ gs) [] h area a is = absurd h
 pair_there (g ∷ gs) (b ∷ areas) h zero a is =
     let same : b ≡ a = cc in
-    record { draft = g; there = refl; finished = subst (λ (z : Area). IsFinished g z) same h.0 }
+    record { builder = g; there = refl; finished = subst (λ (z : Area). IsFinished g z) same h.0 }
 pair_there (g ∷ gs) (b ∷ areas) h (suc area) a is =
     let p = pair_there gs areas h.1 area a is in
-    record { draft = p.draft; there = p.there; finished = p.finished }
+    record { builder = p.builder; there = p.there; finished = p.finished }
 
 long : (gs : List Growing) (xs : List LaidArea) → frames gs ≡ map frame_of xs → length gs ≡ length xs
 long [] [] e = refl
@@ -59,7 +59,7 @@ no_bytes (b ∷ bytes) e = absurd (omega arith)
 
 keeps_there : (ss : List Statement) (area attributes size : ℕ) (bytes : List ℕ) (b : Bool) → marks_zeroes attributes ≡ b
     → is_kept (contents_of area (laid ss)) ≡ not (marks_zeroes attributes) → size ≡ area_size area (pieces_of (laid ss))
-    → length bytes ≡ kept_size attributes size → HoldsPieces (things_in (source_of ss) area) bytes
+    → length bytes ≡ kept_size attributes size → BytesOfPieces (things_in (source_of ss) area) bytes
     → KeepsBytes (source_of ss) area (is_kept (contents_of area (laid ss))) bytes
 keeps_there ss area attributes size bytes true zeroes kept same count h =
     subst (λ (k : Bool). KeepsBytes (source_of ss) area k bytes) (sym (kept ∙ ap not zeroes))
@@ -85,8 +85,8 @@ relocs_there ss names area relocs e h = record {
 
 area_there : (ss : List Statement) (names : List (List ℕ)) (xs : List LaidArea) (area : ℕ) (a : Area) (g : Growing) (x : LaidArea)
     → layout_faults ss ≡ None → AreAreas (laid ss) xs → names ≡ symbols_of (source_of ss).names (laid ss)
-    → slice_get xs area ≡ Some x → frame g ≡ frame_of x → IsDraft names (things_in (source_of ss) area) g.draft → IsFinished g a → IsArea (source_of ss) area a
-area_there ss names xs area a g x sound laid_areas listed at same draft done =
+    → slice_get xs area ≡ Some x → frame g ≡ frame_of x → HasPieces names (things_in (source_of ss) area) g.builder → IsFinished g a → IsArea (source_of ss) area a
+area_there ss names xs area a g x sound laid_areas listed at same builder done =
     let i = laid_areas.each area x at in
     let name : a.name ≡ x.name = done.name ∙ ap (λ (f : Frame). f.name) same in
     let attributes : a.attributes ≡ x.attributes = done.attributes ∙ ap (λ (f : Frame). f.attributes) same in
@@ -98,18 +98,18 @@ area_there ss names xs area a g x sound laid_areas listed at same draft done =
           ∙ ap Some (sym attributes);
       size = size ∙ i.size;
       bytes = keeps_there ss area x.attributes x.size a.bytes (marks_zeroes x.attributes) refl (zeroes_there ss sound area x.attributes i.attributes) i.size kept
-          (done.held names (things_in (source_of ss) area) draft);
-      relocs = relocs_there ss names area a.relocs listed (done.relocs names (things_in (source_of ss) area) draft);
+          (done.held names (things_in (source_of ss) area) builder);
+      relocs = relocs_there ss names area a.relocs listed (done.relocs names (things_in (source_of ss) area) builder);
     }
 
 pub areas_there : (ss : List Statement) (names : List (List ℕ)) (xs : List LaidArea) (gs : List Growing) (areas : List Area)
     → layout_faults ss ≡ None → AreAreas (laid ss) xs → names ≡ symbols_of (source_of ss).names (laid ss)
-    → frames gs ≡ map frame_of xs → AreDrafts names (things_in (source_of ss)) gs → AllZip IsFinished gs areas
+    → frames gs ≡ map frame_of xs → HavePieces names (things_in (source_of ss)) gs → AllZip IsFinished gs areas
     → (area : ℕ) (a : Area) → slice_get areas area ≡ Some a → IsArea (source_of ss) area a
-areas_there ss names xs gs areas sound laid_areas listed same drafts done = λ area a is.
+areas_there ss names xs gs areas sound laid_areas listed same builders done = λ area a is.
     let p = pair_there gs areas done area a is in
-    let f = frame_there gs xs same area p.draft p.there in
-    area_there ss names xs area a p.draft f.laid_area sound laid_areas listed f.there f.same (drafts area p.draft p.there) p.finished
+    let f = frame_there gs xs same area p.builder p.there in
+    area_there ss names xs area a p.builder f.laid_area sound laid_areas listed f.there f.same (builders area p.builder p.there) p.finished
 
 pub count_there : (ss : List Statement) (xs : List LaidArea) (gs : List Growing) (areas : List Area) → AreAreas (laid ss) xs → frames gs ≡ map frame_of xs
     → AllZip IsFinished gs areas → length areas ≡ length (areas_behind ss)

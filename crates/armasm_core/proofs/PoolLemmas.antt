@@ -15,9 +15,9 @@ use Rattle.source_laws.proofs.ListedLemmas.{among_first, among_last}
 use Rattle.source_model.specs.Contexts.{Context, sees}
 use Rattle.source_model.specs.Objects.{Piece, Source, IsAmong, context_in, literal_stored, word_piece, words_of}
 use Rattle.source_model.specs.Units.{Emitted, Stored, Word, stored}
-use Rattle.armasm_core.specs.declared.drafts.Draft.{Draft}
+use Rattle.armasm_core.specs.declared.builders.AreaBuilder.{AreaBuilder}
 use Rattle.armasm_core.specs.declared.whole.Whole.{Whole}
-use Rattle.armasm_core.specs.Drafts.{IsDraft, MeetNone, MeetsNone}
+use Rattle.armasm_core.specs.Builders.{HasPieces, MeetNone, MeetsNone}
 use Rattle.armasm_core.specs.Pools.{Shares, TakesWords, WordsCanStand, entries}
 use Rattle.armasm_core.specs.Writing.{AllCanStand, CanStand}
 use Rattle.armasm_core.proofs.ListLemmas.{nothing}
@@ -52,71 +52,71 @@ pub can_put : (names : List (List ℕ)) (room : ℕ) (s : Source) (area : ℕ) (
     → AllCanStand names room (words_of s area ((v, at) ∷ [])) → CanStand names room (at, Word word)
 can_put names room s area v at word e h = (subst (λ (r : Result Stored LineKind). AllCanStand names room (word_piece at r ++ [])) e h).0
 
-pub takes_word : (w : Whole) (names : List (List ℕ)) (area : ℕ) (v : Value) (at : ℕ) (word : Stored) (u : Emitted) (old new : Draft)
+pub takes_word : (w : Whole) (names : List (List ℕ)) (area : ℕ) (v : Value) (at : ℕ) (word : Stored) (u : Emitted) (old new : AreaBuilder)
     → ((s : Source) → Shares w s → literal_stored s area v ≡ Ok word) → u ≡ Word word
-    → ((pieces : List Piece) → IsDraft names pieces old → MeetsNone pieces (at, u) → IsDraft names (pieces ++ (at, u) ∷ []) new)
+    → ((pieces : List Piece) → HasPieces names pieces old → MeetsNone pieces (at, u) → HasPieces names (pieces ++ (at, u) ∷ []) new)
     → TakesWords w names area ((v, at) ∷ []) old new
-takes_word w names area v at word u old new holds is put = λ s pieces shares draft none.
+takes_word w names area v at word u old new holds is put = λ s pieces shares builder none.
     let words : words_of s area ((v, at) ∷ []) ≡ (at, u) ∷ [] =
     ap (λ (r : Result Stored LineKind). word_piece at r ++ []) (holds s shares) ∙ ap (λ (x : Emitted). (at, x) ∷ []) (sym is) in
     let apart = subst (λ (ps : List Piece). MeetNone (pieces ++ ps) ps) words none in
-    subst (λ (ps : List Piece). IsDraft names (pieces ++ ps) new) (sym words)
-    (put pieces draft (λ p k. apart (at, u) (inl refl) p (among_first p pieces ((at, u) ∷ []) k)))
+    subst (λ (ps : List Piece). HasPieces names (pieces ++ ps) new) (sym words)
+    (put pieces builder (λ p k. apart (at, u) (inl refl) p (among_first p pieces ((at, u) ∷ []) k)))
 
-pub takes_none : (w : Whole) (names : List (List ℕ)) (area : ℕ) (v : Value) (at : ℕ) (kind : LineKind) (old : Draft)
+pub takes_none : (w : Whole) (names : List (List ℕ)) (area : ℕ) (v : Value) (at : ℕ) (kind : LineKind) (old : AreaBuilder)
     → ((s : Source) → Shares w s → literal_stored s area v ≡ Err kind) → TakesWords w names area ((v, at) ∷ []) old old
-takes_none w names area v at kind old faulty = λ s pieces shares draft none.
-    subst (λ (ps : List Piece). IsDraft names ps old)
-    (sym (append-nil pieces) ∙ sym (ap (λ (r : Result Stored LineKind). pieces ++ (word_piece at r ++ [])) (faulty s shares))) draft
+takes_none w names area v at kind old faulty = λ s pieces shares builder none.
+    subst (λ (ps : List Piece). HasPieces names ps old)
+    (sym (append-nil pieces) ∙ sym (ap (λ (r : Result Stored LineKind). pieces ++ (word_piece at r ++ [])) (faulty s shares))) builder
 
 -- ---- all words
 
-takes_both : (w : Whole) (names : List (List ℕ)) (area : ℕ) (es fs : List (Value × ℕ)) (a b c : Draft) → TakesWords w names area es a b → TakesWords w names area fs b c
+takes_both : (w : Whole) (names : List (List ℕ)) (area : ℕ) (es fs : List (Value × ℕ)) (a b c : AreaBuilder) → TakesWords w names area es a b → TakesWords w names area fs b c
     → TakesWords w names area (es ++ fs) a c
-takes_both w names area es fs a b c first second = λ s pieces shares draft none.
+takes_both w names area es fs a b c first second = λ s pieces shares builder none.
     let us = words_of s area es in
     let vs = words_of s area fs in
     let all = words_joined s area es fs in
     let apart : MeetNone (pieces ++ (us ++ vs)) (us ++ vs) = subst (λ (ps : List Piece). MeetNone (pieces ++ ps) ps) all none in
-    let front = first s pieces shares draft
+    let front = first s pieces shares builder
     (λ q u p k. apart q (among_first q us vs u) p (subst (IsAmong p) (append_assoc pieces us vs) (among_first p (pieces ++ us) vs k))) in
-    subst (λ (ps : List Piece). IsDraft names ps c) (append_assoc pieces us vs ∙ ap (λ (ps : List Piece). pieces ++ ps) (sym all))
+    subst (λ (ps : List Piece). HasPieces names ps c) (append_assoc pieces us vs ∙ ap (λ (ps : List Piece). pieces ++ ps) (sym all))
     (second s (pieces ++ us) shares front (λ q u p k. apart q (among_last q us vs u) p (subst (IsAmong p) (append_assoc pieces us vs) k)))
 
 stand_both : (names : List (List ℕ)) (room : ℕ) (us ws : List Piece) → AllCanStand names room (us ++ ws) → AllCanStand names room (us ++ []) × AllCanStand names room ws
 stand_both names room [] ws h = (tt, h)
 stand_both names room (u ∷ us) ws h = let both = stand_both names room us ws h.1 in ((h.0, both.0), both.1)
 
--- so many of the words stand in a draft, and those of these literals are left
-pub record WordsPut (w : Whole) (names : List (List ℕ)) (area : ℕ) (es : List (Value × ℕ)) (old : Draft) (left : List Value) (places : List ℕ) (now : Draft) : Type 0 where
+-- so many of the words stand in an area that is being built, and those of these literals are left
+pub record WordsPut (w : Whole) (names : List (List ℕ)) (area : ℕ) (es : List (Value × ℕ)) (old : AreaBuilder) (left : List Value) (places : List ℕ) (now : AreaBuilder) : Type 0 where
   pub done : List (Value × ℕ)
   pub parts : es ≡ done ++ entries left places
   pub size : length now.bytes.items ≡ length old.bytes.items
   pub stand : WordsCanStand w names (length now.bytes.items) area (entries left places)
   pub put : TakesWords w names area done old now
 
-pub words_first : (w : Whole) (names : List (List ℕ)) (area : ℕ) (left : List Value) (places : List ℕ) (old : Draft)
+pub words_first : (w : Whole) (names : List (List ℕ)) (area : ℕ) (left : List Value) (places : List ℕ) (old : AreaBuilder)
     → WordsCanStand w names (length old.bytes.items) area (entries left places) → WordsPut w names area (entries left places) old left places old
 words_first w names area left places old h = record {
   done = [];
   parts = refl;
   size = refl;
   stand = h;
-  put = λ s pieces shares draft none. subst (λ (ps : List Piece). IsDraft names ps old) (sym (append-nil pieces)) draft;
+  put = λ s pieces shares builder none. subst (λ (ps : List Piece). HasPieces names ps old) (sym (append-nil pieces)) builder;
 }
 
-words_all : (w : Whole) (names : List (List ℕ)) (area : ℕ) (es : List (Value × ℕ)) (old : Draft) (left : List Value) (places : List ℕ) (now : Draft)
+words_all : (w : Whole) (names : List (List ℕ)) (area : ℕ) (es : List (Value × ℕ)) (old : AreaBuilder) (left : List Value) (places : List ℕ) (now : AreaBuilder)
     → entries left places ≡ [] → WordsPut w names area es old left places now → TakesWords w names area es old now
 words_all w names area es old left places now none h =
     subst (λ (fs : List (Value × ℕ)). TakesWords w names area fs old now)
     (sym (h.parts ∙ ap (λ (fs : List (Value × ℕ)). h.done ++ fs) none ∙ append-nil h.done)) h.put
 
-pub no_literals : (w : Whole) (names : List (List ℕ)) (area : ℕ) (es : List (Value × ℕ)) (old : Draft) (left : List Value) (places : List ℕ) (now : Draft)
+pub no_literals : (w : Whole) (names : List (List ℕ)) (area : ℕ) (es : List (Value × ℕ)) (old : AreaBuilder) (left : List Value) (places : List ℕ) (now : AreaBuilder)
     → length left < 1 → WordsPut w names area es old left places now → TakesWords w names area es old now
 no_literals w names area es old left places now less h =
     words_all w names area es old left places now (ap (λ (vs : List Value). entries vs places) (nothing left less)) h
 
-pub no_places : (w : Whole) (names : List (List ℕ)) (area : ℕ) (es : List (Value × ℕ)) (old : Draft) (left : List Value) (places : List ℕ) (now : Draft)
+pub no_places : (w : Whole) (names : List (List ℕ)) (area : ℕ) (es : List (Value × ℕ)) (old : AreaBuilder) (left : List Value) (places : List ℕ) (now : AreaBuilder)
     → length places < 1 → WordsPut w names area es old left places now → TakesWords w names area es old now
 no_places w names area es old left places now less h =
     words_all w names area es old left places now (ap (entries left) (nothing places less) ∙ none left) h
@@ -130,11 +130,11 @@ first_of [] some = absurd (omega arith)
 first_of (x ∷ xs) some = refl
 
 -- the words that are left begin with this one
-pub record WordNext (w : Whole) (names : List (List ℕ)) (area : ℕ) (es : List (Value × ℕ)) (old : Draft) (v : Value) (at : ℕ) (vs : List Value) (places : List ℕ) (now : Draft) : Type 0 where
+pub record WordNext (w : Whole) (names : List (List ℕ)) (area : ℕ) (es : List (Value × ℕ)) (old : AreaBuilder) (v : Value) (at : ℕ) (vs : List Value) (places : List ℕ) (now : AreaBuilder) : Type 0 where
   pub left : WordsPut w names area es old (v ∷ vs) (at ∷ places) now
   pub stand : WordsCanStand w names (length now.bytes.items) area ((v, at) ∷ [])
 
-pub word_next : (w : Whole) (names : List (List ℕ)) (area : ℕ) (es : List (Value × ℕ)) (old : Draft) (left : List Value) (places : List ℕ) (v : Value) (at : ℕ) (now : Draft)
+pub word_next : (w : Whole) (names : List (List ℕ)) (area : ℕ) (es : List (Value × ℕ)) (old : AreaBuilder) (left : List Value) (places : List ℕ) (v : Value) (at : ℕ) (now : AreaBuilder)
     → 1 ≤ length left → v ≡ get_or left 0 v → 1 ≤ length places → at ≡ get_or places 0 at → WordsPut w names area es old left places now
     → WordNext w names area es old v at (take (length left - 1) (drop 1 left)) (take (length places - 1) (drop 1 places)) now
 word_next w names area es old left places v at now some is more there h =
@@ -152,7 +152,7 @@ word_next w names area es old left places v at now some is more there h =
       };
     }
 
-pub word_put : (w : Whole) (names : List (List ℕ)) (area : ℕ) (es : List (Value × ℕ)) (old : Draft) (v : Value) (at : ℕ) (vs : List Value) (places : List ℕ) (now new : Draft)
+pub word_put : (w : Whole) (names : List (List ℕ)) (area : ℕ) (es : List (Value × ℕ)) (old : AreaBuilder) (v : Value) (at : ℕ) (vs : List Value) (places : List ℕ) (now new : AreaBuilder)
     → WordNext w names area es old v at vs places now → length new.bytes.items ≡ length now.bytes.items → TakesWords w names area ((v, at) ∷ []) now new
     → WordsPut w names area es old vs places new
 word_put w names area es old v at vs places now new n same put =

@@ -22,7 +22,7 @@ use Rattle.sdt_fault.specs.declared.answer.Fault.{Fault}
 use Rattle.asm_model.specs.Says.{on_both, mapped}
 use Rattle.asm_layout.specs.declared.laid.LaidArea.{LaidArea}
 use Rattle.asm_layout.specs.declared.laid.LaidStatement.{LaidStatement}
-use Rattle.asm_units.specs.declared.beside.Beside.{Beside}
+use Rattle.asm_units.specs.declared.tables.LineTables.{LineTables}
 use Rattle.asm_units.specs.declared.emitted.LineUnits.{LineUnits}
 use Rattle.asm_units.specs.Emitting.{emitted_of}
 use Rattle.asm_units.specs.Passing.{IsPassTwo}
@@ -151,7 +151,7 @@ PassesAt statements before rest l =
 
 module _ (statements : List Statement) (areas : List LaidArea) (w : Whole) (known : List Named) (before rest : List LaidLine) (l : LaidLine) (x : LaidStatement)
     (h : IsHere statements areas w known before rest l x) where
-  pub put_there : LinesFit → (y : Beside) (r : Result LineUnits LineKind) (u : LineUnits) → IsSaid x.statement
+  pub put_there : LinesFit → (y : LineTables) (r : Result LineUnits LineKind) (u : LineUnits) → IsSaid x.statement
       → ShowsLine statements before rest l y x.statement.what → r ≡ Ok u → PassesAt statements before rest l x.statement.what r → IsPut statements before rest l u
   put_there laws y r u said shows is passed =
       let c = context_there statements before l in
@@ -162,7 +162,7 @@ module _ (statements : List Statement) (areas : List LaidArea) (w : Whole) (know
         pieces = ap (λ r. units_from l.offset (or_none r)) here.all;
         given = given_there statements areas w known before rest l x y u.number h shows put.number;
         fits = subst (λ r. AllUnitsFit (or_none r)) put.all
-            (units_fit laws c (datum_names statements) l.seen (word_there before rest l) x.statement.what shows.scene.small said.read);
+            (units_fit laws c (datum_names statements) l.seen (word_there before rest l) x.statement.what shows.lookup.small said.read);
       }
 
   pub told_there : (r : Result LineUnits LineKind) (k : LineKind) (f : Fault) → r ≡ Err k → PassesAt statements before rest l x.statement.what r

@@ -5,8 +5,8 @@ use Rattle.sdt_fault.specs.declared.kinds.LineKind.{LineKind}
 use Rattle.asm_pool.specs.Pooled.{flushed}
 use Rattle.std.specs.List.{list_any, slice_get}
 use Rattle.asm_model.specs.Forms.{same}
-use Rattle.asm_instructions.specs.Scenes.{Shows}
-use Rattle.asm_instructions.specs.declared.scenes.Scene.{Scene}
+use Rattle.asm_instructions.specs.Lookups.{Shows}
+use Rattle.asm_instructions.specs.declared.lookups.Lookup.{Lookup}
 use Rattle.asm_laying.specs.Reading.{string_marks}
 use Rattle.asm_layout.specs.Lines.{IsLineOf}
 use Rattle.asm_model.specs.declared.exprs.Expr.{Expr}
@@ -17,7 +17,7 @@ use Rattle.asm_offsets.specs.Running.{entry_behind, pools_behind}
 use Rattle.asm_pool.specs.Laws.{PoolLaw}
 use Rattle.asm_layout.specs.declared.laid.LaidArea.{LaidArea}
 use Rattle.asm_layout.specs.declared.laid.LaidStatement.{LaidStatement}
-use Rattle.asm_units.specs.declared.beside.Beside.{Beside}
+use Rattle.asm_units.specs.declared.tables.LineTables.{LineTables}
 use Rattle.asm_units.specs.Literals.{literal_in}
 use Rattle.layout_laws.specs.Final.{KnownValuesAreFinal}
 use Rattle.asm_model.specs.Extents.{Pool, value_there}
@@ -119,20 +119,20 @@ loads fits law pools statements areas w known before rest l x p =
 
 -- ---- what is beside the line
 
-pub record IsScene (w : Whole) (known : List Named) (x : LaidStatement) (z : Scene) : Type 0 where
+pub record IsLookup (w : Whole) (known : List Named) (x : LaidStatement) (z : Lookup) : Type 0 where
   pub names : z.names.now ≡ w.names.now
   pub line : IsLineOf x z.line.now
   pub registers : z.registers.now ≡ known
 
-pub record IsBeside (areas : List LaidArea) (w : Whole) (known : List Named) (x : LaidStatement) (y : Beside) : Type 0 where
-  pub scene : IsScene w known x y.scene
+pub record AreTables (areas : List LaidArea) (w : Whole) (known : List Named) (x : LaidStatement) (y : LineTables) : Type 0 where
+  pub lookup : IsLookup w known x y.lookup
   pub labels : y.«data».now ≡ w.sets.«data»
   pub sizes : y.sizes.now ≡ w.sizes.items
   pub strings : y.strings.now ≡ x.strings
   pub word : y.word ≡ own.word_in areas x.place.area x.literal
 
-pub shows : (statements : List Statement) (areas : List LaidArea) (w : Whole) (known : List Named) (before rest : List LaidLine) (l : LaidLine) (x : LaidStatement) (z : Scene)
-    → IsPlace statements areas w known before rest l x → IsScene w known x z
+pub shows : (statements : List Statement) (areas : List LaidArea) (w : Whole) (known : List Named) (before rest : List LaidLine) (l : LaidLine) (x : LaidStatement) (z : Lookup)
+    → IsPlace statements areas w known before rest l x → IsLookup w known x z
     → Shows z (context_there statements before l)
 shows statements areas w known before rest l x z p b = record {
   names = sym (b.names ∙ p.here.whole.names);
@@ -148,13 +148,13 @@ pub known_there : KnownValuesAreFinal → (statements : List Statement) (areas :
 known_there law statements areas w known before rest l x p e v h =
     law statements (layout_sound statements p.here.sound) (are_plain statements p.here.said) (reversed rest []) before l (split_there (laid statements) rest l before p.here.parts) e v h
 
-pub shows_beside : KnownValuesAreFinal → (statements : List Statement) (areas : List LaidArea) (w : Whole) (known : List Named) (before rest : List LaidLine) (l : LaidLine) (x : LaidStatement)
-    (y : Beside) → IsPlace statements areas w known before rest l x → Loads areas before rest l x → IsBeside areas w known x y
+pub shows_tables : KnownValuesAreFinal → (statements : List Statement) (areas : List LaidArea) (w : Whole) (known : List Named) (before rest : List LaidLine) (l : LaidLine) (x : LaidStatement)
+    (y : LineTables) → IsPlace statements areas w known before rest l x → Loads areas before rest l x → AreTables areas w known x y
     → ShowsLine statements before rest l y x.statement.what
-shows_beside law statements areas w known before rest l x y p o b =
+shows_tables law statements areas w known before rest l x y p o b =
     let sizes : y.sizes.now ≡ map (λ (a : LaidArea). a.size) areas = b.sizes ∙ p.here.whole.sizes in
     record {
-      scene = shows statements areas w known before rest l x y.scene p b.scene;
+      lookup = shows statements areas w known before rest l x y.lookup p b.lookup;
       labels = λ q. ap (λ (ns : List (List ℕ)). list_any (same q) ns) b.labels ∙ p.here.whole.sets.data_names q;
       measured = λ area n e.
           let r = sized areas area n (subst (λ (ns : List ℕ). slice_get ns area ≡ Some n) sizes e) in sym r.2 ∙ (p.here.laid_out.each area r.0 r.1).size;
@@ -169,7 +169,7 @@ shows_beside law statements areas w known before rest l x y p o b =
 
 -- ---- what RN gives
 
-pub given_there : (statements : List Statement) (areas : List LaidArea) (w : Whole) (known : List Named) (before rest : List LaidLine) (l : LaidLine) (x : LaidStatement) (y : Beside)
+pub given_there : (statements : List Statement) (areas : List LaidArea) (w : Whole) (known : List Named) (before rest : List LaidLine) (l : LaidLine) (x : LaidStatement) (y : LineTables)
     (n : Result ℕ LineKind) → IsHere statements areas w known before rest l x → ShowsLine statements before rest l y x.statement.what
     → IsNumber (context_there statements before l) x.statement.what n → named_by l.seen (defined_by l.statement) ≡ gives n (defined_by l.statement)
 given_there statements areas w known before rest l x y n h shows i =

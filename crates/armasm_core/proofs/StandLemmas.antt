@@ -39,8 +39,8 @@ use Rattle.source_model.specs.Objects.{Piece, Source, IsAmong, StandsIn, content
 use Rattle.source_laws.specs.Laws.{AreOfState}
 use Rattle.source_model.specs.SourceFaults.{layout_faults}
 use Rattle.source_model.specs.Units.{Emitted, Bytes, Word, Instruction, Half, LinkPair, Stored, Target, Nothing, ByArea, BySymbol}
-use Rattle.armasm_core.specs.declared.drafting.Growing.{Growing}
-use Rattle.armasm_core.specs.Drafting.{Frame, LineCanStand, frame_of, frames, kept_size, marks_zeroes, pieces_put}
+use Rattle.armasm_core.specs.declared.building.Growing.{Growing}
+use Rattle.armasm_core.specs.Building.{Frame, LineCanStand, frame_of, frames, kept_size, marks_zeroes, pieces_put}
 use Rattle.armasm_core.specs.Emission.{GrowsOn, HasSource, HasSymbols, IsEmittable, things_so_far}
 use Rattle.armasm_core.specs.Listing.{StandsThere}
 use Rattle.armasm_core.proofs.AreaLemmas.{zeroes_there}

@@ -17,8 +17,8 @@ use Rattle.source_laws.specs.Laws.{AreOfState}
 use Rattle.source_model.specs.Objects.{Piece, Source, source_of, things_behind, things_in}
 use Rattle.source_model.specs.Registers.{Named, register_in, registers_behind}
 use Rattle.source_model.specs.SourceFaults.{first_valued, layout_faults, value_faults}
-use Rattle.armasm_core.specs.declared.drafting.Growing.{Growing}
-use Rattle.armasm_core.specs.Drafting.{AreDrafts}
+use Rattle.armasm_core.specs.declared.building.Growing.{Growing}
+use Rattle.armasm_core.specs.Building.{HavePieces}
 use Rattle.armasm_core.specs.Pools.{pooled_words}
 
 -- a layout is one of statements without faults of layout, as lines say them, each of its state
@@ -58,7 +58,7 @@ pub record IsGrown (statements : List Statement) (symbols : List (List ℕ)) (le
   pub lines : AreOn before rest left
   pub registers : (q : List ℕ) → register_in q known ≡ register_in q (registers_behind before)
   pub none : value_faults statements ≡ first_valued (laid statements) statements before rest
-  pub drafts : AreDrafts symbols (things_so_far (source_of statements) before rest) gs
+  pub builders : HavePieces symbols (things_so_far (source_of statements) before rest) gs
 
 -- of the lines of the layout's source these are left
 pub record GrowsOn (l : Layout) (w : Whole) (symbols : List (List ℕ)) (left : List LaidStatement) (known : List Named) (gs : List Growing) : Type 0 where
@@ -67,5 +67,5 @@ pub record GrowsOn (l : Layout) (w : Whole) (symbols : List (List ℕ)) (left : 
 
 -- in the areas stands what all lines put there; or the refusal of the first line whose values have a fault, or want of memory
 abbrev pub AreGrown : List Statement → List (List ℕ) → Result (Vec Growing) Fault → Type 0
-AreGrown statements symbols (Ok gs) = (value_faults statements ≡ None) × AreDrafts symbols (things_in (source_of statements)) gs.items
+AreGrown statements symbols (Ok gs) = (value_faults statements ≡ None) × HavePieces symbols (things_in (source_of statements)) gs.items
 AreGrown statements symbols (Err f) = IsTold (value_faults statements) f

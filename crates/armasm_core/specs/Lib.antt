@@ -2,14 +2,14 @@
 pub mod Assembling
 pub mod Passes
 pub mod Standing
-pub mod Drafting
+pub mod Building
 pub mod Emission
 pub mod Emitted
 pub mod Entries
 pub mod Gathering
 pub mod Listing
 pub mod Wherever
-pub mod Drafts
+pub mod Builders
 pub mod Relocations
 pub mod Writing
 pub mod Gathered

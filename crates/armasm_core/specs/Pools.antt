@@ -7,11 +7,11 @@ use Rattle.asm_model.specs.Offsets.{all_pooled}
 use Rattle.asm_layout.specs.declared.laid.LaidArea.{LaidArea}
 use Rattle.asm_sets.specs.Sets.{HaveSame}
 use Rattle.source_model.specs.Objects.{Piece, Source, words_of}
-use Rattle.armasm_core.specs.declared.drafting.Growing.{Growing}
-use Rattle.armasm_core.specs.declared.drafts.Draft.{Draft}
+use Rattle.armasm_core.specs.declared.building.Growing.{Growing}
+use Rattle.armasm_core.specs.declared.builders.AreaBuilder.{AreaBuilder}
 use Rattle.armasm_core.specs.declared.whole.Whole.{Whole}
-use Rattle.armasm_core.specs.Drafting.{AreDrafts, kept_size}
-use Rattle.armasm_core.specs.Drafts.{IsDraft, MeetNone}
+use Rattle.armasm_core.specs.Building.{HavePieces, kept_size}
+use Rattle.armasm_core.specs.Builders.{HasPieces, MeetNone}
 use Rattle.armasm_core.specs.Writing.{AllCanStand}
 
 -- the words of the pools of an area
@@ -37,15 +37,15 @@ pub record WordsCanStand (w : Whole) (names : List (List ℕ)) (room area : ℕ)
   pub shares : Shares w source
   pub stand : AllCanStand names room (words_of source area es)
 
--- a draft takes the words of these literals of an area
-abbrev pub TakesWords : Whole → List (List ℕ) → ℕ → List (Value × ℕ) → Draft → Draft → Type 0
+-- an area that is being built takes the words of these literals of an area
+abbrev pub TakesWords : Whole → List (List ℕ) → ℕ → List (Value × ℕ) → AreaBuilder → AreaBuilder → Type 0
 TakesWords w names area es old new =
-    (s : Source) (pieces : List Piece) → Shares w s → IsDraft names pieces old → MeetNone (pieces ++ words_of s area es) (words_of s area es)
-    → IsDraft names (pieces ++ words_of s area es) new
+    (s : Source) (pieces : List Piece) → Shares w s → HasPieces names pieces old → MeetNone (pieces ++ words_of s area es) (words_of s area es)
+    → HasPieces names (pieces ++ words_of s area es) new
 
--- these words and nothing else stand in a draft
-abbrev pub BeginsWith : Whole → List (List ℕ) → ℕ → List (Value × ℕ) → Draft → Type 0
-BeginsWith w names area es d = (s : Source) → Shares w s → MeetNone (words_of s area es) (words_of s area es) → IsDraft names (words_of s area es) d
+-- these words and nothing else stand in an area that is being built
+abbrev pub BeginsWith : Whole → List (List ℕ) → ℕ → List (Value × ℕ) → AreaBuilder → Type 0
+BeginsWith w names area es d = (s : Source) → Shares w s → MeetNone (words_of s area es) (words_of s area es) → HasPieces names (words_of s area es) d
 
 -- ---- all areas
 
@@ -66,4 +66,4 @@ pub record PoolsCanStand (w : Whole) (names : List (List ℕ)) (areas : List Lai
 -- in each area the words of its pools stand and nothing else
 abbrev pub HoldPools : Whole → List (List ℕ) → List LaidArea → List Growing → Type 0
 HoldPools w names areas gs =
-    (s : Source) → Shares w s → ((area : ℕ) → MeetNone (pool_words s areas area) (pool_words s areas area)) → AreDrafts names (pool_words s areas) gs
+    (s : Source) → Shares w s → ((area : ℕ) → MeetNone (pool_words s areas area) (pool_words s areas area)) → HavePieces names (pool_words s areas) gs

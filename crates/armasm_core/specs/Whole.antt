@@ -6,8 +6,8 @@ use Rattle.asm_model.specs.declared.statements.Statement.{Statement}
 use Rattle.asm_model.specs.declared.statements.What.{What}
 use Rattle.asm_layout.specs.declared.laid.LaidArea.{LaidArea}
 use Rattle.asm_layout.specs.declared.laid.LaidStatement.{LaidStatement}
-use Rattle.asm_units.specs.declared.beside.Beside.{Beside}
-use Rattle.asm_units.specs.Showing.{ShowsBeside}
+use Rattle.asm_units.specs.declared.tables.LineTables.{LineTables}
+use Rattle.asm_units.specs.Showing.{ShowsTables}
 use Rattle.asm_model.specs.Laid.{LaidLine, laid, taken, pieces_of, reversed, final_names}
 use Rattle.asm_model.specs.Marks.{datum_names}
 use Rattle.asm_model.specs.Offsets.{area_size}
@@ -43,9 +43,9 @@ kinds_at statements before l rest =
     (taken l.extent) (word_there before rest l) l.statement.what
 
 -- what a line's values are judged by, as code keeps it, shows what definitions have
-abbrev pub ShowsLine : List Statement → List LaidLine → List LaidLine → LaidLine → Beside → What → Type 0
+abbrev pub ShowsLine : List Statement → List LaidLine → List LaidLine → LaidLine → LineTables → What → Type 0
 ShowsLine statements before rest l y w =
-    ShowsBeside y (context_there statements before l) (datum_names statements) (λ area. area_size area (pieces_of (laid statements))) l.seen
+    ShowsTables y (context_there statements before l) (datum_names statements) (λ area. area_size area (pieces_of (laid statements))) l.seen
     (word_there before rest l) w
 
 -- a line of a source whose layout has no fault, and the names for registers that are known there

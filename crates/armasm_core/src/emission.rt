@@ -15,14 +15,14 @@ ghost use Rattle.source_model.specs.Objects.{source_of, symbol_records};
 ghost use Rattle.source_model.specs.SourceFaults.{layout_faults};
 ghost use Rattle.armasm_core.specs.Gathered.{AllLaidSaid};
 ghost use Rattle.armasm_core.specs.Whole.{IsWhole};
-ghost use Rattle.armasm_core.specs.Drafting.{frame_of, frames};
+ghost use Rattle.armasm_core.specs.Building.{frame_of, frames};
 ghost use Rattle.armasm_core.specs.Emission.{AreGrown, HasSource, HasSymbols, IsEmittable};
 ghost use Rattle.armasm_core.specs.Emitted.{IsEmitted};
 ghost use Rattle.armasm_core.specs.Wherever.{StandsWherever};
 
-use crate::drafting::{Growing, all_finished, all_started, put_line};
+use crate::building::{Growing, all_finished, all_started, put_line};
 use crate::entry::entry_of;
-use crate::facts::code_of;
+use crate::flags::code_of;
 use crate::records::records_of;
 use crate::second_pass::pass_line;
 use crate::symbols::symbols_of;

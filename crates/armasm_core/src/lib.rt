@@ -4,12 +4,11 @@
 
 mod area;
 mod assembling;
-mod beside;
-mod drafting;
-pub mod drafts;
+pub mod builders;
+mod building;
 pub mod emission;
 pub mod entry;
-pub mod facts;
+pub mod flags;
 pub mod laws;
 pub mod literals;
 mod pools;
@@ -20,14 +19,15 @@ mod relocations;
 mod second_pass;
 pub mod sets;
 pub mod symbols;
+mod tables;
 pub mod whole;
 mod writing;
 
 pub use crate::assembling::assemble;
-pub use crate::drafts::{Draft, Finished};
+pub use crate::builders::{AreaBuilder, Finished};
 pub use crate::emission::emit;
 pub use crate::entry::entry_of;
-pub use crate::facts::{code_of, facts_of};
+pub use crate::flags::{code_of, flags_of};
 pub use crate::records::records_of;
 pub use crate::registers::give;
 pub use crate::symbols::symbols_of;

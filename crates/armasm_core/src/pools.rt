@@ -5,7 +5,7 @@ ghost use Rattle.source_model.specs.Units as model;
 ghost use Rattle.asm_units.specs.Emitting.{emitted_of, stored_of};
 ghost use Rattle.armasm_core.specs.Pools.{TakesWords, WordsCanStand, entries};
 
-use crate::{Draft, Whole};
+use crate::{AreaBuilder, Whole};
 use asm_model::Value;
 use asm_units::{Emitted, Stored, Symbols, literal_stored};
 use sdt_fault::NoMemory;
@@ -23,7 +23,7 @@ fn word_unit(word: Stored) -> Emitted
 /// Puts the word of a literal; one whose value has a fault has none.
 fn put_word(
     alloc: Global,
-    draft: &mut Draft,
+    builder: &mut AreaBuilder,
     whole: &Whole<'_>,
     area: u32,
     literal: &Value,
@@ -31,16 +31,16 @@ fn put_word(
     symbols: &Symbols,
 ) -> Result<(), NoMemory>
     requires few { length symbols.now < 2 ^ 24 }
-    requires small { length draft.old.bytes.items < 2 ^ 32 }
-    requires stand { WordsCanStand whole.now symbols.now (length draft.old.bytes.items) area
+    requires small { length builder.old.bytes.items < 2 ^ 32 }
+    requires stand { WordsCanStand whole.now symbols.now (length builder.old.bytes.items) area
         ((literal.now, at) ∷ []) }
-    ensures size { length draft.new.bytes.items ≡ length draft.old.bytes.items }
+    ensures size { length builder.new.bytes.items ≡ length builder.old.bytes.items }
     ensures more { OnOk result
-        (TakesWords whole.now symbols.now area ((literal.now, at) ∷ []) draft.old draft.new) }
+        (TakesWords whole.now symbols.now area ((literal.now, at) ∷ []) builder.old builder.new) }
 {
     let stored = literal_stored(alloc, whole.names, &whole.sets.data, Some(area), literal)?;
     match stored {
-        Ok(word) => draft.put(at, &word_unit(word), symbols),
+        Ok(word) => builder.put(at, &word_unit(word), symbols),
         Err(_) => Ok(()),
     }
 }
@@ -48,7 +48,7 @@ fn put_word(
 /// Puts the words of an area's literals, each at its offset.
 pub fn put_words(
     alloc: Global,
-    draft: &mut Draft,
+    builder: &mut AreaBuilder,
     whole: &Whole<'_>,
     area: u32,
     literals: &[Value],
@@ -56,13 +56,13 @@ pub fn put_words(
     symbols: &Symbols,
 ) -> Result<(), NoMemory>
     requires few { length symbols.now < 2 ^ 24 }
-    requires small { length draft.old.bytes.items < 2 ^ 32 }
-    requires stand { WordsCanStand whole.now symbols.now (length draft.old.bytes.items) area
+    requires small { length builder.old.bytes.items < 2 ^ 32 }
+    requires stand { WordsCanStand whole.now symbols.now (length builder.old.bytes.items) area
         (entries literals.now offsets.now) }
-    ensures size { length draft.new.bytes.items ≡ length draft.old.bytes.items }
+    ensures size { length builder.new.bytes.items ≡ length builder.old.bytes.items }
     ensures more { OnOk result
         (TakesWords whole.now symbols.now area
-        (entries literals.now offsets.now) draft.old draft.new) }
+        (entries literals.now offsets.now) builder.old builder.new) }
 {
     let mut left = literals;
     let mut places = offsets;
@@ -72,7 +72,7 @@ pub fn put_words(
             [literal, others @ ..] => match places {
                 [] => return Ok(()),
                 [at, behind @ ..] => {
-                    put_word(alloc, draft, whole, area, literal, *at, symbols)?;
+                    put_word(alloc, builder, whole, area, literal, *at, symbols)?;
                     left = others;
                     places = behind;
                 }

@@ -10,20 +10,24 @@ ghost use Rattle.armasm_core.specs.Whole.{IsWhole};
 ghost use Rattle.asm_units.specs.Recording.{Shows};
 ghost use Rattle.armasm_core.specs.Gathering.{IsCode};
 
-use crate::facts::facts_of;
+use crate::flags::flags_of;
 use crate::whole::Whole;
 use aof_object::Symbol;
-use asm_units::{Facts, Symbols, record_of};
+use asm_units::{SymbolFlags, Symbols, record_of};
 use sdt_fault::{List, NoMemory, Text};
 use std::alloc::Global;
 
-fn records_with(alloc: Global, names: &[Text], facts: &Facts<'_>) -> Result<Vec<Symbol>, NoMemory>
-    ensures { IfOk result (λ records. (s : Source) → Shows facts.now s → records.items
+fn records_with(
+    alloc: Global,
+    names: &[Text],
+    flags: &SymbolFlags<'_>,
+) -> Result<Vec<Symbol>, NoMemory>
+    ensures { IfOk result (λ records. (s : Source) → Shows flags.now s → records.items
         ≡ map (symbol_named s) names.now) }
 {
     let mut records = Vec::new(alloc);
     'names: for name in names {
-        records.push(record_of(alloc, name, facts)?)?;
+        records.push(record_of(alloc, name, flags)?)?;
     }
     Ok(records)
 }
@@ -40,7 +44,7 @@ pub fn records_of(
         ≡ symbols_of (final_names (laid statements)) (laid statements) → records
         ≡ symbol_records (source_of statements)) }
 {
-    let facts = facts_of(whole, code);
-    let records = records_with(alloc, symbols.list(), &facts)?;
+    let flags = flags_of(whole, code);
+    let records = records_with(alloc, symbols.list(), &flags)?;
     Ok(List::from_vec(records))
 }

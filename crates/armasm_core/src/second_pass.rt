@@ -7,7 +7,7 @@ ghost use Rattle.said_model.specs.Said.{IsSaid};
 ghost use Rattle.armasm_core.specs.Putting.{IsPassed};
 ghost use Rattle.armasm_core.specs.Whole.{IsHere};
 
-use crate::beside::{beside_of, loaded_of};
+use crate::tables::{loaded_of, tables_of};
 use crate::whole::Whole;
 use asm_instructions::laws::{
     instructions_fit, pseudo_instructions_fit, thumb_instructions_fit,
@@ -40,9 +40,9 @@ pub fn pass_line(
     thumb_instructions_fit();
     thumb_pseudo_instructions_fit();
     let line = line_of(laid);
-    let beside = beside_of(areas, whole, registers, laid, &line);
+    let tables = tables_of(areas, whole, registers, laid, &line);
     let literal = loaded_of(areas, laid);
-    let passed = pass_two(alloc, &beside, literal, &laid.statement.what)?;
+    let passed = pass_two(alloc, &tables, literal, &laid.statement.what)?;
     match passed {
         Ok(units) => Ok(units),
         Err(kind) => Err(told_of(alloc, &laid.statement, kind)),

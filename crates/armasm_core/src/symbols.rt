@@ -14,7 +14,7 @@ ghost use Rattle.armasm_core.specs.Listing.{StandsThere, needed_by};
 
 use crate::literals::literal_of;
 use crate::whole::Whole;
-use asm_instructions::Scene;
+use asm_instructions::Lookup;
 use asm_layout::lines::line_of;
 use asm_layout::{LaidArea, LaidStatement, Layout};
 use asm_pool::pool_law;
@@ -41,12 +41,12 @@ fn add_line_of(
     pool_law();
     let line = line_of(laid);
     let literal = literal_of(areas, laid.place.area, laid.literal);
-    let scene = Scene {
+    let lookup = Lookup {
         names: whole.names,
         line: &line,
         registers,
     };
-    add_line(alloc, symbols, &scene, literal)?;
+    add_line(alloc, symbols, &lookup, literal)?;
     Ok(())
 }
 

@@ -141,11 +141,7 @@ fn is_read_only(words: &[Attribute]) -> bool
     has(Attribute::ReadOnly, words)
 }
 
-fn attributes_of(
-    words: &[Attribute],
-    has_bad_word: bool,
-    alignments: List<Expr>,
-) -> AreaAttributes
+fn attributes_of(words: &[Attribute], has_bad_word: bool, alignments: List<Expr>) -> AreaAttributes
     ensures { result ≡ areas.attributes_of words.now has_bad_word alignments }
 {
     AreaAttributes {

@@ -1,4 +1,4 @@
--- What a scene finds is what each context finds that it shows.
+-- What a lookup finds is what each context finds that it shows.
 use Rattle.std.proofs.Common.{◌≡◌, ℕ, List, Option, Some, None, refl, sym, ap, ◌∙◌, subst}
 use Rattle.std.specs.Prelude.{Result, Ok, Err, IfOk}
 use Rattle.asm_model.specs.declared.exprs.Expr.{Expr}
@@ -18,12 +18,12 @@ use Rattle.asm_names.specs.Lines.{line_of, Sees}
 use Rattle.said_model.specs.Said.{IsRead}
 use Rattle.source_model.specs.Contexts.{Context, sees, value_of, register, or_zero}
 use Rattle.source_model.specs.Registers.{register_in}
-use Rattle.asm_instructions.specs.declared.scenes.Scene.{Scene}
-use Rattle.asm_instructions.specs.Scenes.{Shows, context_of}
+use Rattle.asm_instructions.specs.declared.lookups.Lookup.{Lookup}
+use Rattle.asm_instructions.specs.Lookups.{Shows, context_of}
 
 -- ---- names
 
-pub value_seen : (x : Scene) (e : Expr) (r : Result Value EvalFault) → IsRead e → Evaluates (with_names (line_of x.line.now) x.names.now) e.items r
+pub value_seen : (x : Lookup) (e : Expr) (r : Result Value EvalFault) → IsRead e → Evaluates (with_names (line_of x.line.now) x.names.now) e.items r
     → IsValue (value_of (context_of x) e) r
 value_seen x e r read h =
     let f = line_of x.line.now in
@@ -41,7 +41,7 @@ pub record Alike (a b : Context) : Type 0 where
   pub thumb : a.line.thumb ≡ b.line.thumb
   pub entry : (q : List ℕ) → named_in q (sees a).list ≡ named_in q (sees b).list
 
-module _ (x : Scene) (c : Context) (names : c.names ≡ x.names.now) (line : Sees x.line.now c.line)
+module _ (x : Lookup) (c : Context) (names : c.names ≡ x.names.now) (line : Sees x.line.now c.line)
     (registers : (q : List ℕ) → register_in q x.registers.now ≡ register_in q c.registers) where
   sees_same : sees (context_of x) ≡ sees c
   sees_same = rw (names, line.area, line.offset, line.map, line.thumb) refl
@@ -64,10 +64,10 @@ module _ (x : Scene) (c : Context) (names : c.names ≡ x.names.now) (line : See
     entry = λ q. ap (named_in q) (sym names);
   }
 
-pub shown_alike : (x : Scene) (c : Context) → Shows x c → Alike (context_of x) c
+pub shown_alike : (x : Lookup) (c : Context) → Shows x c → Alike (context_of x) c
 shown_alike x c s = seen_alike x c s.names s.line s.registers
 
-pub all_shown : {A E : Type 0} → (x : Scene) (f : Context → A) (r : Result A E) → ((c : Context) → Alike (context_of x) c → f (context_of x) ≡ f c)
+pub all_shown : {A E : Type 0} → (x : Lookup) (f : Context → A) (r : Result A E) → ((c : Context) → Alike (context_of x) c → f (context_of x) ≡ f c)
     → IfOk r (λ v. v ≡ f (context_of x)) → IfOk r (λ v. (c : Context) → Shows x c → v ≡ f c)
 all_shown x f (Ok v) same h = λ c s. h ∙ same c (shown_alike x c s)
 all_shown x f (Err e) same h = tt

@@ -1,5 +1,5 @@
 -- What the clauses of the crate cite.
 pub mod Fits
-pub mod Scenes
+pub mod Lookups
 pub mod ThumbFits
 pub mod ThumbGroups

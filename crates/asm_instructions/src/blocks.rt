@@ -5,30 +5,30 @@ ghost use Rattle.std.specs.List.{list_any};
 ghost use Rattle.sdt_word.specs.Numbers.{flag};
 ghost use Rattle.asm_model.specs.declared.arm_lines.ArmLine.TheVariants as arm;
 ghost use Rattle.source_model.specs.ArmForms as forms;
-ghost use Rattle.asm_instructions.specs.Scenes.{context_of};
+ghost use Rattle.asm_instructions.specs.Lookups.{context_of};
 
-use crate::scenes::{Scene, register};
+use crate::lookups::{Lookup, register};
 use arm_isa::ArmInstr;
 use asm_model::{BlockMode, ListItem, Register, RegisterList};
 use sdt_word::Condition;
 
-fn is_listed_by(scene: &Scene<'_>, number: u32, item: &ListItem) -> bool
-    ensures { result ≡ forms.is_listed_by (context_of scene.now) number item.now }
+fn is_listed_by(lookup: &Lookup<'_>, number: u32, item: &ListItem) -> bool
+    ensures { result ≡ forms.is_listed_by (context_of lookup.now) number item.now }
 {
     match item {
-        ListItem::One(one) => u32::from(register(scene, one)) == number,
+        ListItem::One(one) => u32::from(register(lookup, one)) == number,
         ListItem::Range { first, last } => {
-            u32::from(register(scene, first)) <= number
-                && number <= u32::from(register(scene, last))
+            u32::from(register(lookup, first)) <= number
+                && number <= u32::from(register(lookup, last))
         }
     }
 }
 
 /// Whether a list has a register.
-fn is_listed(scene: &Scene<'_>, number: u32, items: &[ListItem]) -> bool
-    ensures { result ≡ list_any (forms.is_listed_by (context_of scene.now) number) items.now }
+fn is_listed(lookup: &Lookup<'_>, number: u32, items: &[ListItem]) -> bool
+    ensures { result ≡ list_any (forms.is_listed_by (context_of lookup.now) number) items.now }
 {
-    items.iter().any(|item| is_listed_by(scene, number, item))
+    items.iter().any(|item| is_listed_by(lookup, number, item))
 }
 
 /// The bit of a register, where it is listed.
@@ -43,12 +43,12 @@ fn bit_of(number: u32, listed: bool) -> u32
 }
 
 /// A bit for each register of a list.
-pub fn list_bits(scene: &Scene<'_>, items: &[ListItem]) -> u16
-    ensures { result ≡ forms.list_bits (context_of scene.now) items.now 0 16 }
+pub fn list_bits(lookup: &Lookup<'_>, items: &[ListItem]) -> u16
+    ensures { result ≡ forms.list_bits (context_of lookup.now) items.now 0 16 }
 {
     let mut bits = 0_u32;
     'registers: for number in 0..16_u32 {
-        bits += bit_of(number, is_listed(scene, number, items));
+        bits += bit_of(number, is_listed(lookup, number, items));
     }
     bits as u16
 }
@@ -76,7 +76,7 @@ fn is_block_up(mode: BlockMode) -> bool
 }
 
 pub fn transfer_block(
-    scene: &Scene<'_>,
+    lookup: &Lookup<'_>,
     condition: Condition,
     load: bool,
     mode: BlockMode,
@@ -85,7 +85,7 @@ pub fn transfer_block(
     list: &RegisterList,
     user: bool,
 ) -> ArmInstr
-    ensures { Ok result ≡ forms.arm_instruction (context_of scene.now)
+    ensures { Ok result ≡ forms.arm_instruction (context_of lookup.now)
         (arm.TransferBlock condition load mode rn.now write_back list.now user) }
 {
     ArmInstr::TransferBlock {
@@ -95,7 +95,7 @@ pub fn transfer_block(
         user,
         write_back,
         load,
-        rn: register(scene, rn),
-        list: list_bits(scene, list.items.as_slice()),
+        rn: register(lookup, rn),
+        list: list_bits(lookup, list.items.as_slice()),
     }
 }

@@ -11,9 +11,9 @@ ghost use Rattle.said_model.specs.Said.{IsRead};
 ghost use Rattle.source_model.specs.ArmForms as forms;
 ghost use Rattle.source_model.specs.Contexts.{and_then, value_of};
 ghost use Rattle.source_model.specs.Units as units;
-ghost use Rattle.asm_instructions.specs.Scenes.{context_of};
+ghost use Rattle.asm_instructions.specs.Lookups.{context_of};
 
-use crate::scenes::{Scene, may_have_symbol, stands_at};
+use crate::lookups::{Lookup, may_have_symbol, stands_at};
 use crate::values::{from_pc, value_there};
 use arm_isa::ArmInstr;
 use asm_model::{Expr, LaidName, Meaning, Value};
@@ -80,11 +80,11 @@ fn keeps_state(thumb: bool, entry: Option<&LaidName>) -> bool
 
 /// Whether a branch of the line to a symbol is settled here: it is a label of the same area and state, or another place of
 /// the area.
-pub fn is_settled(scene: &Scene<'_>, symbol: &Text) -> bool
-    ensures { result ≡ forms.is_settled (context_of scene.now) symbol.now }
+pub fn is_settled(lookup: &Lookup<'_>, symbol: &Text) -> bool
+    ensures { result ≡ forms.is_settled (context_of lookup.now) symbol.now }
 {
-    if is_in_area(scene.line.place.area, stands_at(scene, symbol)) {
-        return keeps_state(scene.line.place.thumb, scene.names.find(symbol));
+    if is_in_area(lookup.line.place.area, stands_at(lookup, symbol)) {
+        return keeps_state(lookup.line.place.thumb, lookup.names.find(symbol));
     }
     false
 }
@@ -100,47 +100,50 @@ pub fn offset_at(place: Option<(u32, u32)>) -> u32
 }
 
 /// The displacement that a branch to a symbol plus a number holds; a symbol that is left to the linker counts as 0.
-fn branch_from(scene: &Scene<'_>, symbol: &Text, plus: u32) -> u32
-    ensures { result ≡ forms.branch_from (context_of scene.now) symbol.now plus }
+fn branch_from(lookup: &Lookup<'_>, symbol: &Text, plus: u32) -> u32
+    ensures { result ≡ forms.branch_from (context_of lookup.now) symbol.now plus }
 {
     if symbol.as_slice().is_empty() {
-        return from_pc(scene, plus);
+        return from_pc(lookup, plus);
     }
-    if is_settled(scene, symbol) {
-        let offset = offset_at(stands_at(scene, symbol));
-        return from_pc(scene, offset.wrapping_add(plus));
+    if is_settled(lookup, symbol) {
+        let offset = offset_at(stands_at(lookup, symbol));
+        return from_pc(lookup, offset.wrapping_add(plus));
     }
-    from_pc(scene, plus)
+    from_pc(lookup, plus)
 }
 
 /// A branch that isn't settled needs a symbol.
-pub fn has_symbol(scene: &Scene<'_>, symbol: &Text) -> bool
-    ensures { result ≡ forms.has_symbol (context_of scene.now) symbol.now }
+pub fn has_symbol(lookup: &Lookup<'_>, symbol: &Text) -> bool
+    ensures { result ≡ forms.has_symbol (context_of lookup.now) symbol.now }
 {
     if symbol.as_slice().is_empty() {
         return true;
     }
-    if is_settled(scene, symbol) {
+    if is_settled(lookup, symbol) {
         return true;
     }
-    may_have_symbol(scene.names, symbol)
+    may_have_symbol(lookup.names, symbol)
 }
 
-fn place_displacement(scene: &Scene<'_>, symbol: &Text, plus: u32) -> Result<u32, LineKind>
-    ensures { result ≡ forms.branch_displacement (context_of scene.now)
+fn place_displacement(lookup: &Lookup<'_>, symbol: &Text, plus: u32) -> Result<u32, LineKind>
+    ensures { result ≡ forms.branch_displacement (context_of lookup.now)
         (Ok (value.Place symbol.now plus)) }
 {
-    if has_symbol(scene, symbol) {
-        return Ok(branch_from(scene, symbol, plus));
+    if has_symbol(lookup, symbol) {
+        return Ok(branch_from(lookup, symbol, plus));
     }
     Err(LineKind::BadOperand)
 }
 
-fn branch_displacement(scene: &Scene<'_>, target: Result<Value, LineKind>) -> Result<u32, LineKind>
-    ensures { result ≡ forms.branch_displacement (context_of scene.now) target }
+fn branch_displacement(
+    lookup: &Lookup<'_>,
+    target: Result<Value, LineKind>,
+) -> Result<u32, LineKind>
+    ensures { result ≡ forms.branch_displacement (context_of lookup.now) target }
 {
     match target {
-        Ok(Value::Place { symbol, plus }) => place_displacement(scene, &symbol, plus),
+        Ok(Value::Place { symbol, plus }) => place_displacement(lookup, &symbol, plus),
         Ok(Value::Number(_)) => Err(LineKind::BadOperand),
         Ok(_) => Err(LineKind::WrongType),
         Err(kind) => Err(kind),
@@ -166,51 +169,51 @@ fn branch_by(
 
 pub fn branch(
     alloc: Global,
-    scene: &Scene<'_>,
+    lookup: &Lookup<'_>,
     condition: Condition,
     link: bool,
     target: &Expr,
 ) -> Result<Result<ArmInstr, LineKind>, NoMemory>
     requires { IsRead target.now }
     ensures { IfOk result (λ i. i
-        ≡ forms.arm_instruction (context_of scene.now) (arm.Branch condition link target.now)) }
+        ≡ forms.arm_instruction (context_of lookup.now) (arm.Branch condition link target.now)) }
 {
-    let value = value_there(alloc, scene, target)?;
-    let displacement = branch_displacement(scene, value);
+    let value = value_there(alloc, lookup, target)?;
+    let displacement = branch_displacement(lookup, value);
     Ok(branch_by(condition, link, displacement))
 }
 
 /// A symbol that is left to the linker.
-fn unsettled(scene: &Scene<'_>, symbol: Text) -> Option<Text>
-    ensures { result ≡ units.linked_symbol (context_of scene.now) (Ok (value.Place symbol 0)) }
+fn unsettled(lookup: &Lookup<'_>, symbol: Text) -> Option<Text>
+    ensures { result ≡ units.linked_symbol (context_of lookup.now) (Ok (value.Place symbol 0)) }
 {
     if symbol.as_slice().is_empty() {
         return None;
     }
-    if is_settled(scene, &symbol) {
+    if is_settled(lookup, &symbol) {
         return None;
     }
     Some(symbol)
 }
 
-fn linked_symbol(scene: &Scene<'_>, target: Result<Value, LineKind>) -> Option<Text>
-    ensures { result ≡ units.linked_symbol (context_of scene.now) target }
+fn linked_symbol(lookup: &Lookup<'_>, target: Result<Value, LineKind>) -> Option<Text>
+    ensures { result ≡ units.linked_symbol (context_of lookup.now) target }
 {
     match target {
-        Ok(Value::Place { symbol, plus: _ }) => unsettled(scene, symbol),
+        Ok(Value::Place { symbol, plus: _ }) => unsettled(lookup, symbol),
         _ => None,
     }
 }
 
 pub fn target_symbol(
     alloc: Global,
-    scene: &Scene<'_>,
+    lookup: &Lookup<'_>,
     target: &Expr,
 ) -> Result<Option<Text>, NoMemory>
     requires { IsRead target.now }
-    ensures { IfOk result (λ s. s
-        ≡ units.linked_symbol (context_of scene.now) (value_of (context_of scene.now) target.now)) }
+    ensures { IfOk result (λ s. s ≡ units.linked_symbol (context_of lookup.now)
+        (value_of (context_of lookup.now) target.now)) }
 {
-    let value = value_there(alloc, scene, target)?;
-    Ok(linked_symbol(scene, value))
+    let value = value_there(alloc, lookup, target)?;
+    Ok(linked_symbol(lookup, value))
 }

@@ -8,10 +8,10 @@ ghost use Rattle.said_model.specs.Said.{IsRead, ShiftSaid};
 ghost use Rattle.source_model.specs.ArmForms as forms;
 ghost use Rattle.source_model.specs.Contexts.{and_then};
 ghost use Rattle.source_model.specs.Immediates as immediates;
-ghost use Rattle.asm_instructions.specs.Scenes.{context_of};
+ghost use Rattle.asm_instructions.specs.Lookups.{context_of};
 
 use crate::immediates::{data_immediate, status_of};
-use crate::scenes::{Scene, register};
+use crate::lookups::{Lookup, register};
 use crate::shifts::shift_fields;
 use crate::values::number_there;
 use arm_isa::{ArmInstr, Operation};
@@ -40,7 +40,7 @@ pub fn data_with_number(
 
 pub fn data_number(
     alloc: Global,
-    scene: &Scene<'_>,
+    lookup: &Lookup<'_>,
     condition: Condition,
     operation: Operation,
     set_flags: bool,
@@ -50,12 +50,12 @@ pub fn data_number(
 ) -> Result<Result<ArmInstr, LineKind>, NoMemory>
     requires { IsRead value.now }
     ensures { IfOk result (λ i. i
-        ≡ forms.arm_instruction (context_of scene.now)
+        ≡ forms.arm_instruction (context_of lookup.now)
         (arm.DataImmediate condition operation set_flags rd.now rn.now value.now)) }
 {
-    let first = register(scene, rn);
-    let to = register(scene, rd);
-    let number = number_there(alloc, scene, value)?;
+    let first = register(lookup, rn);
+    let to = register(lookup, rd);
+    let number = number_there(alloc, lookup, value)?;
     Ok(data_with_number(condition, operation, set_flags, first, to, number))
 }
 
@@ -88,7 +88,7 @@ fn data_with_shift(
 
 pub fn data_shifted(
     alloc: Global,
-    scene: &Scene<'_>,
+    lookup: &Lookup<'_>,
     condition: Condition,
     operation: Operation,
     set_flags: bool,
@@ -99,18 +99,18 @@ pub fn data_shifted(
 ) -> Result<Result<ArmInstr, LineKind>, NoMemory>
     requires { ShiftSaid shift.now }
     ensures { IfOk result (λ i. i
-        ≡ forms.arm_instruction (context_of scene.now)
+        ≡ forms.arm_instruction (context_of lookup.now)
         (arm.DataShifted condition operation set_flags rd.now rn.now rm.now shift.now)) }
 {
-    let first = register(scene, rn);
-    let to = register(scene, rd);
-    let second = register(scene, rm);
-    let fields = shift_fields(alloc, scene, shift)?;
+    let first = register(lookup, rn);
+    let to = register(lookup, rd);
+    let second = register(lookup, rm);
+    let fields = shift_fields(alloc, lookup, shift)?;
     Ok(data_with_shift(condition, operation, set_flags, first, to, second, fields))
 }
 
 pub fn data_register_shifted(
-    scene: &Scene<'_>,
+    lookup: &Lookup<'_>,
     condition: Condition,
     operation: Operation,
     set_flags: bool,
@@ -120,23 +120,23 @@ pub fn data_register_shifted(
     shift: ShiftKind,
     rs: &Register,
 ) -> ArmInstr
-    ensures { Ok result ≡ forms.arm_instruction (context_of scene.now)
+    ensures { Ok result ≡ forms.arm_instruction (context_of lookup.now)
         (arm.DataRegisterShifted condition operation set_flags rd.now rn.now rm.now shift rs.now) }
 {
     ArmInstr::DataRegisterShifted {
         condition,
         operation,
         set_flags,
-        rn: register(scene, rn),
-        rd: register(scene, rd),
-        rs: register(scene, rs),
+        rn: register(lookup, rn),
+        rd: register(lookup, rd),
+        rs: register(lookup, rs),
         shift,
-        rm: register(scene, rm),
+        rm: register(lookup, rm),
     }
 }
 
 pub fn multiply(
-    scene: &Scene<'_>,
+    lookup: &Lookup<'_>,
     condition: Condition,
     accumulate: bool,
     set_flags: bool,
@@ -145,22 +145,22 @@ pub fn multiply(
     rs: &Register,
     rn: &Register,
 ) -> ArmInstr
-    ensures { Ok result ≡ forms.arm_instruction (context_of scene.now)
+    ensures { Ok result ≡ forms.arm_instruction (context_of lookup.now)
         (arm.Multiply condition accumulate set_flags rd.now rm.now rs.now rn.now) }
 {
     ArmInstr::Multiply {
         condition,
         accumulate,
         set_flags,
-        rd: register(scene, rd),
-        rn: register(scene, rn),
-        rs: register(scene, rs),
-        rm: register(scene, rm),
+        rd: register(lookup, rd),
+        rn: register(lookup, rn),
+        rs: register(lookup, rs),
+        rm: register(lookup, rm),
     }
 }
 
 pub fn multiply_long(
-    scene: &Scene<'_>,
+    lookup: &Lookup<'_>,
     condition: Condition,
     signed: bool,
     accumulate: bool,
@@ -170,7 +170,7 @@ pub fn multiply_long(
     rm: &Register,
     rs: &Register,
 ) -> ArmInstr
-    ensures { Ok result ≡ forms.arm_instruction (context_of scene.now)
+    ensures { Ok result ≡ forms.arm_instruction (context_of lookup.now)
         (arm.MultiplyLong condition signed accumulate set_flags low.now high.now rm.now rs.now) }
 {
     ArmInstr::MultiplyLong {
@@ -178,30 +178,30 @@ pub fn multiply_long(
         signed,
         accumulate,
         set_flags,
-        high: register(scene, high),
-        low: register(scene, low),
-        rs: register(scene, rs),
-        rm: register(scene, rm),
+        high: register(lookup, high),
+        low: register(lookup, low),
+        rs: register(lookup, rs),
+        rm: register(lookup, rm),
     }
 }
 
 pub fn swap(
-    scene: &Scene<'_>,
+    lookup: &Lookup<'_>,
     condition: Condition,
     byte: bool,
     rd: &Register,
     rm: &Register,
     rn: &Register,
 ) -> ArmInstr
-    ensures { Ok result ≡ forms.arm_instruction (context_of scene.now)
+    ensures { Ok result ≡ forms.arm_instruction (context_of lookup.now)
         (arm.Swap condition byte rd.now rm.now rn.now) }
 {
     ArmInstr::Swap {
         condition,
         byte,
-        rn: register(scene, rn),
-        rd: register(scene, rd),
-        rm: register(scene, rm),
+        rn: register(lookup, rn),
+        rd: register(lookup, rd),
+        rm: register(lookup, rm),
     }
 }
 
@@ -222,7 +222,7 @@ fn status_with_number(
 
 pub fn status_number(
     alloc: Global,
-    scene: &Scene<'_>,
+    lookup: &Lookup<'_>,
     condition: Condition,
     saved: bool,
     fields: u8,
@@ -230,9 +230,9 @@ pub fn status_number(
 ) -> Result<Result<ArmInstr, LineKind>, NoMemory>
     requires { IsRead value.now }
     ensures { IfOk result (λ i. i
-        ≡ forms.arm_instruction (context_of scene.now)
+        ≡ forms.arm_instruction (context_of lookup.now)
         (arm.WriteStatusImmediate condition saved fields value.now)) }
 {
-    let number = number_there(alloc, scene, value)?;
+    let number = number_there(alloc, lookup, value)?;
     Ok(status_with_number(condition, saved, fields, number))
 }

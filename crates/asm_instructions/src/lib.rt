@@ -7,8 +7,8 @@ pub mod data;
 pub mod immediates;
 pub mod laws;
 pub mod lines;
+pub mod lookups;
 pub mod pseudo;
-pub mod scenes;
 pub mod shifts;
 pub mod thumb_branches;
 pub mod thumb_data;
@@ -23,8 +23,8 @@ pub use crate::laws::{
     pseudo_instructions_fit, thumb_instructions_fit, thumb_pseudo_instructions_fit,
 };
 pub use crate::lines::{arm_instruction, branch_symbol, link_symbol};
+pub use crate::lookups::Lookup;
 pub use crate::pseudo::pseudo_instructions;
-pub use crate::scenes::Scene;
 pub use crate::thumb_data::Said;
 pub use crate::thumb_lines::{thumb_instruction, thumb_pseudo_instruction};
 pub use crate::values::{number_in, value_of};

@@ -9,14 +9,14 @@ ghost use Rattle.said_model.specs.Said.{IsRead, ArmSaid, ThumbSaid};
 ghost use Rattle.source_model.specs.ArmForms as forms;
 ghost use Rattle.source_model.specs.Contexts.{Context, and_then};
 ghost use Rattle.source_model.specs.Units as units;
-ghost use Rattle.asm_instructions.specs.Scenes.{Shows, context_of};
+ghost use Rattle.asm_instructions.specs.Lookups.{Shows, context_of};
 
 use crate::blocks::transfer_block;
 use crate::branches::{branch, target_symbol};
 use crate::data::{
     data_number, data_register_shifted, data_shifted, multiply, multiply_long, status_number, swap,
 };
-use crate::scenes::{Scene, register};
+use crate::lookups::{Lookup, register};
 use crate::transfers::{transfer, transfer_half, transfer_shifted};
 use crate::values::number_there;
 use arm_isa::ArmInstr;
@@ -40,16 +40,16 @@ fn interrupt_by(condition: Condition, number: Result<u32, LineKind>) -> Result<A
 
 fn interrupt(
     alloc: Global,
-    scene: &Scene<'_>,
+    lookup: &Lookup<'_>,
     condition: Condition,
     number: &Expr,
 ) -> Result<Result<ArmInstr, LineKind>, NoMemory>
     requires { IsRead number.now }
     ensures { IfOk result (λ i. i
-        ≡ forms.arm_instruction (context_of scene.now)
+        ≡ forms.arm_instruction (context_of lookup.now)
         (arm.SoftwareInterrupt condition number.now)) }
 {
-    let number = number_there(alloc, scene, number)?;
+    let number = number_there(alloc, lookup, number)?;
     Ok(interrupt_by(condition, number))
 }
 
@@ -63,14 +63,14 @@ fn is_saved(saved: Option<bool>) -> bool
     }
 }
 
-/// The instruction that a line says with what the scene finds, or the kind of its fault.
+/// The instruction that a line says with what the lookup finds, or the kind of its fault.
 fn instruction_there(
     alloc: Global,
-    scene: &Scene<'_>,
+    lookup: &Lookup<'_>,
     line: &ArmLine,
 ) -> Result<Result<ArmInstr, LineKind>, NoMemory>
     requires { ArmSaid line.now }
-    ensures { IfOk result (λ i. i ≡ forms.arm_instruction (context_of scene.now) line.now) }
+    ensures { IfOk result (λ i. i ≡ forms.arm_instruction (context_of lookup.now) line.now) }
 {
     match line {
         ArmLine::DataImmediate {
@@ -82,7 +82,7 @@ fn instruction_there(
             value,
         } => {
             data_number(
-                alloc, scene, *condition, *operation, *set_flags, rd, rn, value,
+                alloc, lookup, *condition, *operation, *set_flags, rd, rn, value,
             )
         }
         ArmLine::DataShifted {
@@ -95,7 +95,7 @@ fn instruction_there(
             shift,
         } => {
             data_shifted(
-                alloc, scene, *condition, *operation, *set_flags, rd, rn, rm, shift,
+                alloc, lookup, *condition, *operation, *set_flags, rd, rn, rm, shift,
             )
         }
         ArmLine::DataRegisterShifted {
@@ -109,7 +109,7 @@ fn instruction_there(
             rs,
         } => {
             Ok(Ok(data_register_shifted(
-                scene, *condition, *operation, *set_flags, rd, rn, rm, *shift, rs,
+                lookup, *condition, *operation, *set_flags, rd, rn, rm, *shift, rs,
             )))
         }
         ArmLine::Multiply {
@@ -120,7 +120,7 @@ fn instruction_there(
             rm,
             rs,
             rn,
-        } => { Ok(Ok(multiply(scene, *condition, *accumulate, *set_flags, rd, rm, rs, rn))) }
+        } => { Ok(Ok(multiply(lookup, *condition, *accumulate, *set_flags, rd, rm, rs, rn))) }
         ArmLine::MultiplyLong {
             condition,
             signed,
@@ -132,7 +132,7 @@ fn instruction_there(
             rs,
         } => {
             Ok(Ok(multiply_long(
-                scene,
+                lookup,
                 *condition,
                 *signed,
                 *accumulate,
@@ -149,9 +149,9 @@ fn instruction_there(
             rd,
             rm,
             rn,
-        } => { Ok(Ok(swap(scene, *condition, *byte, rd, rm, rn))) }
+        } => { Ok(Ok(swap(lookup, *condition, *byte, rd, rm, rn))) }
         ArmLine::BranchExchange { condition, rm } => {
-            let rm = register(scene, rm);
+            let rm = register(lookup, rm);
             Ok(Ok(ArmInstr::BranchExchange {
                 condition: *condition,
                 rm,
@@ -162,7 +162,7 @@ fn instruction_there(
             saved,
             rd,
         } => {
-            let rd = register(scene, rd);
+            let rd = register(lookup, rd);
             Ok(Ok(ArmInstr::ReadStatus {
                 condition: *condition,
                 saved: is_saved(*saved),
@@ -175,7 +175,7 @@ fn instruction_there(
             fields,
             rm,
         } => {
-            let rm = register(scene, rm);
+            let rm = register(lookup, rm);
             Ok(Ok(ArmInstr::WriteStatus {
                 condition: *condition,
                 saved: *saved,
@@ -188,14 +188,14 @@ fn instruction_there(
             saved,
             fields,
             value,
-        } => { status_number(alloc, scene, *condition, *saved, *fields, value) }
+        } => { status_number(alloc, lookup, *condition, *saved, *fields, value) }
         ArmLine::TransferImmediate {
             condition,
             load,
             byte,
             rd,
             address,
-        } => { transfer(alloc, scene, *condition, *load, *byte, rd, address) }
+        } => { transfer(alloc, lookup, *condition, *load, *byte, rd, address) }
         ArmLine::TransferShifted {
             condition,
             load,
@@ -208,7 +208,7 @@ fn instruction_there(
             shift,
         } => {
             transfer_shifted(
-                alloc, scene, *condition, *load, *byte, rd, rn, *indexing, *subtract, rm, shift,
+                alloc, lookup, *condition, *load, *byte, rd, rn, *indexing, *subtract, rm, shift,
             )
         }
         ArmLine::TransferHalf {
@@ -221,7 +221,7 @@ fn instruction_there(
             offset,
         } => {
             transfer_half(
-                alloc, scene, *condition, *load, *kind, rd, rn, *indexing, offset,
+                alloc, lookup, *condition, *load, *kind, rd, rn, *indexing, offset,
             )
         }
         ArmLine::TransferBlock {
@@ -234,7 +234,7 @@ fn instruction_there(
             user,
         } => {
             Ok(Ok(transfer_block(
-                scene,
+                lookup,
                 *condition,
                 *load,
                 *mode,
@@ -248,9 +248,9 @@ fn instruction_there(
             condition,
             link,
             target,
-        } => { branch(alloc, scene, *condition, *link, target) }
+        } => { branch(alloc, lookup, *condition, *link, target) }
         ArmLine::SoftwareInterrupt { condition, number } => {
-            interrupt(alloc, scene, *condition, number)
+            interrupt(alloc, lookup, *condition, number)
         }
     }
 }
@@ -259,22 +259,26 @@ fn instruction_there(
 /// less how far pc stands behind the start of the area.
 pub fn arm_instruction(
     alloc: Global,
-    scene: &Scene<'_>,
+    lookup: &Lookup<'_>,
     line: &ArmLine,
 ) -> Result<Result<ArmInstr, LineKind>, NoMemory>
     requires { ArmSaid line.now }
-    ensures { IfOk result (λ i. (c : Context) → Shows scene.now c → i
+    ensures { IfOk result (λ i. (c : Context) → Shows lookup.now c → i
         ≡ forms.arm_instruction c line.now) }
 {
-    instruction_there(alloc, scene, line)
+    instruction_there(alloc, lookup, line)
 }
 
-fn symbol_there(alloc: Global, scene: &Scene<'_>, line: &ArmLine) -> Result<Option<Text>, NoMemory>
+fn symbol_there(
+    alloc: Global,
+    lookup: &Lookup<'_>,
+    line: &ArmLine,
+) -> Result<Option<Text>, NoMemory>
     requires { ArmSaid line.now }
-    ensures { IfOk result (λ s. s ≡ units.branch_symbol (context_of scene.now) line.now) }
+    ensures { IfOk result (λ s. s ≡ units.branch_symbol (context_of lookup.now) line.now) }
 {
     match line {
-        ArmLine::Branch { target, .. } => target_symbol(alloc, scene, target),
+        ArmLine::Branch { target, .. } => target_symbol(alloc, lookup, target),
         _ => Ok(None),
     }
 }
@@ -282,22 +286,26 @@ fn symbol_there(alloc: Global, scene: &Scene<'_>, line: &ArmLine) -> Result<Opti
 /// The symbol of a branch that is left to the linker.
 pub fn branch_symbol(
     alloc: Global,
-    scene: &Scene<'_>,
+    lookup: &Lookup<'_>,
     line: &ArmLine,
 ) -> Result<Option<Text>, NoMemory>
     requires { ArmSaid line.now }
-    ensures { IfOk result (λ s. (c : Context) → Shows scene.now c → s
+    ensures { IfOk result (λ s. (c : Context) → Shows lookup.now c → s
         ≡ units.branch_symbol c line.now) }
 {
-    symbol_there(alloc, scene, line)
+    symbol_there(alloc, lookup, line)
 }
 
-fn link_there(alloc: Global, scene: &Scene<'_>, line: &ThumbLine) -> Result<Option<Text>, NoMemory>
+fn link_there(
+    alloc: Global,
+    lookup: &Lookup<'_>,
+    line: &ThumbLine,
+) -> Result<Option<Text>, NoMemory>
     requires { ThumbSaid line.now }
-    ensures { IfOk result (λ s. s ≡ units.link_symbol (context_of scene.now) line.now) }
+    ensures { IfOk result (λ s. s ≡ units.link_symbol (context_of lookup.now) line.now) }
 {
     match line {
-        ThumbLine::BranchLink { target } => target_symbol(alloc, scene, target),
+        ThumbLine::BranchLink { target } => target_symbol(alloc, lookup, target),
         _ => Ok(None),
     }
 }
@@ -305,12 +313,12 @@ fn link_there(alloc: Global, scene: &Scene<'_>, line: &ThumbLine) -> Result<Opti
 /// The symbol of a BL of Thumb state that is left to the linker.
 pub fn link_symbol(
     alloc: Global,
-    scene: &Scene<'_>,
+    lookup: &Lookup<'_>,
     line: &ThumbLine,
 ) -> Result<Option<Text>, NoMemory>
     requires { ThumbSaid line.now }
-    ensures { IfOk result (λ s. (c : Context) → Shows scene.now c → s
+    ensures { IfOk result (λ s. (c : Context) → Shows lookup.now c → s
         ≡ units.link_symbol c line.now) }
 {
-    link_there(alloc, scene, line)
+    link_there(alloc, lookup, line)
 }

@@ -11,11 +11,11 @@ ghost use Rattle.source_model.specs.Contexts as contexts;
 ghost use Rattle.source_model.specs.Contexts.{Context, and_then};
 ghost use Rattle.source_model.specs.PseudoForms as forms;
 ghost use Rattle.asm_model.specs.declared.statements.PseudoLine.TheVariants as pseudo;
-ghost use Rattle.asm_instructions.specs.Scenes.{Shows, context_of};
+ghost use Rattle.asm_instructions.specs.Lookups.{Shows, context_of};
 
 use crate::data::data_with_number;
 use crate::immediates::{immediate, negated};
-use crate::scenes::{Scene, register};
+use crate::lookups::{Lookup, register};
 use crate::transfers::behind_pc;
 use crate::values::{from_pc, number_there, own_offset, value_there};
 use arm_isa::{ArmInstr, Operation};
@@ -151,18 +151,18 @@ fn two(
 /// A literal that has no word is moved.
 fn moved_literal(
     alloc: Global,
-    scene: &Scene<'_>,
+    lookup: &Lookup<'_>,
     condition: Condition,
     rd: &Register,
     value: &Expr,
 ) -> Result<Result<List<ArmInstr>, LineKind>, NoMemory>
     requires { IsRead value.now }
     ensures { IfOk result (λ list. list
-        ≡ forms.pseudo_instructions (context_of scene.now) None
+        ≡ forms.pseudo_instructions (context_of lookup.now) None
         (pseudo.LoadConstant condition rd.now value.now)) }
 {
-    let to = register(scene, rd);
-    let number = number_there(alloc, scene, value)?;
+    let to = register(lookup, rd);
+    let number = number_there(alloc, lookup, value)?;
     one(
         alloc,
         data_with_number(condition, Operation::Mov, false, 0, to, number),
@@ -172,7 +172,7 @@ fn moved_literal(
 /// The load of a literal from its word.
 fn loaded_literal(
     alloc: Global,
-    scene: &Scene<'_>,
+    lookup: &Lookup<'_>,
     word: u32,
     condition: Condition,
     rd: &Register,
@@ -180,17 +180,17 @@ fn loaded_literal(
     ensures { IfOk result (λ list. list
         ≡ mapped (λ o. forms.one
         (instr.TransferImmediate condition true o.0 false false true 15
-        (contexts.register (context_of scene.now) rd.now) o.1))
-        (contexts.offset_below 4096 (contexts.from_pc (context_of scene.now) word))) }
+        (contexts.register (context_of lookup.now) rd.now) o.1))
+        (contexts.offset_below 4096 (contexts.from_pc (context_of lookup.now) word))) }
 {
-    let to = register(scene, rd);
-    let distance = from_pc(scene, word);
+    let to = register(lookup, rd);
+    let distance = from_pc(lookup, word);
     one(alloc, behind_pc(condition, true, false, to, distance))
 }
 
 fn load_literal(
     alloc: Global,
-    scene: &Scene<'_>,
+    lookup: &Lookup<'_>,
     word: Option<u32>,
     condition: Condition,
     rd: &Register,
@@ -198,80 +198,80 @@ fn load_literal(
 ) -> Result<Result<List<ArmInstr>, LineKind>, NoMemory>
     requires { IsRead value.now }
     ensures { IfOk result (λ list. list
-        ≡ forms.pseudo_instructions (context_of scene.now) word
+        ≡ forms.pseudo_instructions (context_of lookup.now) word
         (pseudo.LoadConstant condition rd.now value.now)) }
 {
     match word {
-        None => moved_literal(alloc, scene, condition, rd, value),
-        Some(word) => loaded_literal(alloc, scene, word, condition, rd),
+        None => moved_literal(alloc, lookup, condition, rd, value),
+        Some(word) => loaded_literal(alloc, lookup, word, condition, rd),
     }
 }
 
 fn address_at(
-    scene: &Scene<'_>,
+    lookup: &Lookup<'_>,
     condition: Condition,
     rd: u8,
     label: Result<u32, LineKind>,
 ) -> Result<ArmInstr, LineKind>
     ensures { result ≡ and_then label
         (λ at. forms.address_instruction condition rd
-        (contexts.from_pc (context_of scene.now) at)) }
+        (contexts.from_pc (context_of lookup.now) at)) }
 {
     match label {
-        Ok(at) => address_instruction(condition, rd, from_pc(scene, at)),
+        Ok(at) => address_instruction(condition, rd, from_pc(lookup, at)),
         Err(kind) => Err(kind),
     }
 }
 
 fn address(
     alloc: Global,
-    scene: &Scene<'_>,
+    lookup: &Lookup<'_>,
     condition: Condition,
     rd: &Register,
     target: &Expr,
 ) -> Result<Result<List<ArmInstr>, LineKind>, NoMemory>
     requires { IsRead target.now }
     ensures { IfOk result (λ list. list
-        ≡ forms.pseudo_instructions (context_of scene.now) None
+        ≡ forms.pseudo_instructions (context_of lookup.now) None
         (pseudo.Address condition rd.now target.now)) }
 {
-    let to = register(scene, rd);
-    let value = value_there(alloc, scene, target)?;
-    let label = own_offset(scene, value);
-    one(alloc, address_at(scene, condition, to, label))
+    let to = register(lookup, rd);
+    let value = value_there(alloc, lookup, target)?;
+    let label = own_offset(lookup, value);
+    one(alloc, address_at(lookup, condition, to, label))
 }
 
 fn long_address_at(
-    scene: &Scene<'_>,
+    lookup: &Lookup<'_>,
     condition: Condition,
     rd: u8,
     label: Result<u32, LineKind>,
 ) -> Result<[ArmInstr; 2], LineKind>
     ensures { result ≡ and_then label
-        (λ at. forms.long_address condition rd (contexts.from_pc (context_of scene.now) at)) }
+        (λ at. forms.long_address condition rd (contexts.from_pc (context_of lookup.now) at)) }
 {
     match label {
-        Ok(at) => long_address(condition, rd, from_pc(scene, at)),
+        Ok(at) => long_address(condition, rd, from_pc(lookup, at)),
         Err(kind) => Err(kind),
     }
 }
 
 fn far_address(
     alloc: Global,
-    scene: &Scene<'_>,
+    lookup: &Lookup<'_>,
     condition: Condition,
     rd: &Register,
     target: &Expr,
 ) -> Result<Result<List<ArmInstr>, LineKind>, NoMemory>
     requires { IsRead target.now }
     ensures { IfOk result (λ list. list
-        ≡ forms.pseudo_instructions (context_of scene.now) None
+        ≡ forms.pseudo_instructions (context_of lookup.now) None
         (pseudo.LongAddress condition rd.now target.now)) }
 {
-    let to = register(scene, rd);
-    let value = value_there(alloc, scene, target)?;
-    let label = own_offset(scene, value);
-    two(alloc, long_address_at(scene, condition, to, label))
+    let to = register(lookup, rd);
+    let value = value_there(alloc, lookup, target)?;
+    let label = own_offset(lookup, value);
+    two(alloc, long_address_at(lookup, condition, to, label))
 }
 
 fn no_operation() -> ArmInstr
@@ -289,33 +289,33 @@ fn no_operation() -> ArmInstr
     }
 }
 
-/// The instructions of a pseudo-instruction with what the scene finds, or the kind of its fault.
+/// The instructions of a pseudo-instruction with what the lookup finds, or the kind of its fault.
 fn instructions_there(
     alloc: Global,
-    scene: &Scene<'_>,
+    lookup: &Lookup<'_>,
     word: Option<u32>,
     line: &PseudoLine,
 ) -> Result<Result<List<ArmInstr>, LineKind>, NoMemory>
     requires { PseudoSaid line.now }
     ensures { IfOk result (λ list. list
-        ≡ forms.pseudo_instructions (context_of scene.now) word line.now) }
+        ≡ forms.pseudo_instructions (context_of lookup.now) word line.now) }
 {
     match line {
         PseudoLine::LoadConstant {
             condition,
             rd,
             value,
-        } => load_literal(alloc, scene, word, *condition, rd, value),
+        } => load_literal(alloc, lookup, word, *condition, rd, value),
         PseudoLine::Address {
             condition,
             rd,
             target,
-        } => address(alloc, scene, *condition, rd, target),
+        } => address(alloc, lookup, *condition, rd, target),
         PseudoLine::LongAddress {
             condition,
             rd,
             target,
-        } => far_address(alloc, scene, *condition, rd, target),
+        } => far_address(alloc, lookup, *condition, rd, target),
         PseudoLine::NoOperation => one(alloc, Ok(no_operation())),
     }
 }
@@ -324,13 +324,13 @@ fn instructions_there(
 /// fault.
 pub fn pseudo_instructions(
     alloc: Global,
-    scene: &Scene<'_>,
+    lookup: &Lookup<'_>,
     word: Option<u32>,
     line: &PseudoLine,
 ) -> Result<Result<List<ArmInstr>, LineKind>, NoMemory>
     requires { PseudoSaid line.now }
-    ensures { IfOk result (λ list. (c : Context) → Shows scene.now c → list
+    ensures { IfOk result (λ list. (c : Context) → Shows lookup.now c → list
         ≡ forms.pseudo_instructions c word line.now) }
 {
-    instructions_there(alloc, scene, word, line)
+    instructions_there(alloc, lookup, word, line)
 }

@@ -6,9 +6,9 @@ ghost use Rattle.asm_model.specs.Says.{mapped};
 ghost use Rattle.said_model.specs.Said.{IsRead, ShiftSaid};
 ghost use Rattle.source_model.specs.ArmForms as forms;
 ghost use Rattle.source_model.specs.Contexts.{and_then, number_in};
-ghost use Rattle.asm_instructions.specs.Scenes.{context_of};
+ghost use Rattle.asm_instructions.specs.Lookups.{context_of};
 
-use crate::scenes::Scene;
+use crate::lookups::Lookup;
 use crate::values::number_there;
 use asm_model::{Expr, Shift};
 use sdt_fault::NoMemory;
@@ -73,31 +73,31 @@ fn shift_by(kind: ShiftKind, amount: Result<u32, LineKind>) -> Result<(ShiftKind
 
 fn shifted(
     alloc: Global,
-    scene: &Scene<'_>,
+    lookup: &Lookup<'_>,
     kind: ShiftKind,
     amount: &Expr,
 ) -> Result<Result<(ShiftKind, u8), LineKind>, NoMemory>
     requires { IsRead amount.now }
     ensures { IfOk result (λ f. f
-        ≡ and_then (number_in (context_of scene.now) amount.now)
+        ≡ and_then (number_in (context_of lookup.now) amount.now)
         (λ n. mapped (λ a. (kind, a)) (forms.amount_field kind n))) }
 {
-    let number = number_there(alloc, scene, amount)?;
+    let number = number_there(alloc, lookup, amount)?;
     Ok(shift_by(kind, number))
 }
 
 /// Kind and amount of a shift.
 pub fn shift_fields(
     alloc: Global,
-    scene: &Scene<'_>,
+    lookup: &Lookup<'_>,
     shift: &Shift,
 ) -> Result<Result<(ShiftKind, u8), LineKind>, NoMemory>
     requires { ShiftSaid shift.now }
-    ensures { IfOk result (λ f. f ≡ forms.shift_fields (context_of scene.now) shift.now) }
+    ensures { IfOk result (λ f. f ≡ forms.shift_fields (context_of lookup.now) shift.now) }
 {
     match shift {
         Shift::Unshifted => Ok(Ok((ShiftKind::Lsl, 0))),
-        Shift::By { kind, amount } => shifted(alloc, scene, *kind, amount),
+        Shift::By { kind, amount } => shifted(alloc, lookup, *kind, amount),
         Shift::Extended => Ok(Ok((ShiftKind::Ror, 0))),
     }
 }

@@ -6,10 +6,10 @@ ghost use Rattle.asm_model.specs.declared.values.Value.TheVariants as value;
 ghost use Rattle.said_model.specs.Said.{IsRead};
 ghost use Rattle.source_model.specs.Contexts.{value_of, and_then};
 ghost use Rattle.source_model.specs.ThumbForms as forms;
-ghost use Rattle.asm_instructions.specs.Scenes.{context_of};
+ghost use Rattle.asm_instructions.specs.Lookups.{context_of};
 
 use crate::branches::{has_symbol, is_settled, offset_at};
-use crate::scenes::{Scene, stands_at};
+use crate::lookups::{Lookup, stands_at};
 use crate::thumb_data::Said;
 use crate::thumb_values::offset_below;
 use crate::values::{number_there, value_there};
@@ -22,10 +22,10 @@ use std::alloc::Global;
 use thumb_isa::ThumbInstr;
 
 /// How far an offset lies behind pc as the line's instruction reads it, modulo 2^32.
-fn behind_pc(scene: &Scene<'_>, offset: u32) -> u32
-    ensures { result ≡ forms.behind_pc (context_of scene.now) offset }
+fn behind_pc(lookup: &Lookup<'_>, offset: u32) -> u32
+    ensures { result ≡ forms.behind_pc (context_of lookup.now) offset }
 {
-    let back = 0x1_0000_0000_u64.saturating_sub(u64::from(scene.line.place.offset) + 4);
+    let back = 0x1_0000_0000_u64.saturating_sub(u64::from(lookup.line.place.offset) + 4);
     ((u64::from(offset) + back) % 0x1_0000_0000) as u32
 }
 
@@ -49,62 +49,62 @@ fn half_words(limit: u32, displacement: u32) -> Result<u32, LineKind>
 }
 
 /// The displacement to a symbol plus a number; a symbol that is left to the linker counts as 0.
-fn thumb_from(scene: &Scene<'_>, symbol: &Text, plus: u32) -> u32
-    ensures { result ≡ forms.thumb_from (context_of scene.now) symbol.now plus }
+fn thumb_from(lookup: &Lookup<'_>, symbol: &Text, plus: u32) -> u32
+    ensures { result ≡ forms.thumb_from (context_of lookup.now) symbol.now plus }
 {
     if symbol.as_slice().is_empty() {
-        return behind_pc(scene, plus);
+        return behind_pc(lookup, plus);
     }
-    if is_settled(scene, symbol) {
-        let offset = offset_at(stands_at(scene, symbol));
-        return behind_pc(scene, offset.wrapping_add(plus));
+    if is_settled(lookup, symbol) {
+        let offset = offset_at(stands_at(lookup, symbol));
+        return behind_pc(lookup, offset.wrapping_add(plus));
     }
-    behind_pc(scene, plus)
+    behind_pc(lookup, plus)
 }
 
-fn is_settled_place(scene: &Scene<'_>, symbol: &Text) -> bool
-    ensures { result ≡ forms.is_settled_place (context_of scene.now) symbol.now }
+fn is_settled_place(lookup: &Lookup<'_>, symbol: &Text) -> bool
+    ensures { result ≡ forms.is_settled_place (context_of lookup.now) symbol.now }
 {
     if symbol.as_slice().is_empty() {
         return true;
     }
-    is_settled(scene, symbol)
+    is_settled(lookup, symbol)
 }
 
 /// Whether a branch may lead to a symbol: all are settled here but BL, which may be left to the linker.
-fn can_branch(link: bool, scene: &Scene<'_>, symbol: &Text) -> bool
-    ensures { result ≡ forms.can_branch link (context_of scene.now) symbol.now }
+fn can_branch(link: bool, lookup: &Lookup<'_>, symbol: &Text) -> bool
+    ensures { result ≡ forms.can_branch link (context_of lookup.now) symbol.now }
 {
     if link {
-        return has_symbol(scene, symbol);
+        return has_symbol(lookup, symbol);
     }
-    is_settled_place(scene, symbol)
+    is_settled_place(lookup, symbol)
 }
 
 fn place_displacement(
     link: bool,
-    scene: &Scene<'_>,
+    lookup: &Lookup<'_>,
     symbol: &Text,
     plus: u32,
 ) -> Result<u32, LineKind>
-    ensures { result ≡ forms.thumb_displacement link (context_of scene.now)
+    ensures { result ≡ forms.thumb_displacement link (context_of lookup.now)
         (Ok (value.Place symbol.now plus)) }
 {
-    if can_branch(link, scene, symbol) {
-        return Ok(thumb_from(scene, symbol, plus));
+    if can_branch(link, lookup, symbol) {
+        return Ok(thumb_from(lookup, symbol, plus));
     }
     Err(LineKind::BadOperand)
 }
 
 fn displacement(
     link: bool,
-    scene: &Scene<'_>,
+    lookup: &Lookup<'_>,
     target: Result<Value, LineKind>,
 ) -> Result<u32, LineKind>
-    ensures { result ≡ forms.thumb_displacement link (context_of scene.now) target }
+    ensures { result ≡ forms.thumb_displacement link (context_of lookup.now) target }
 {
     match target {
-        Ok(Value::Place { symbol, plus }) => place_displacement(link, scene, &symbol, plus),
+        Ok(Value::Place { symbol, plus }) => place_displacement(link, lookup, &symbol, plus),
         Ok(Value::Number(_)) => Err(LineKind::BadOperand),
         Ok(_) => Err(LineKind::WrongType),
         Err(kind) => Err(kind),
@@ -114,7 +114,7 @@ fn displacement(
 /// The field of a branch to a target, below a limit.
 fn field_to(
     alloc: Global,
-    scene: &Scene<'_>,
+    lookup: &Lookup<'_>,
     link: bool,
     limit: u32,
     target: &Expr,
@@ -123,12 +123,12 @@ fn field_to(
     requires positive { 0 < limit }
     requires narrow { limit ≤ 2 ^ 22 }
     ensures is { IfOk result (λ f. f
-        ≡ and_then (forms.thumb_displacement link (context_of scene.now)
-        (value_of (context_of scene.now) target.now)) (forms.half_words limit)) }
+        ≡ and_then (forms.thumb_displacement link (context_of lookup.now)
+        (value_of (context_of lookup.now) target.now)) (forms.half_words limit)) }
     ensures below { IfOk result (λ f. IfOk f (λ field. field < limit)) }
 {
-    let value = value_there(alloc, scene, target)?;
-    match displacement(link, scene, value) {
+    let value = value_there(alloc, lookup, target)?;
+    match displacement(link, lookup, value) {
         Ok(distance) => Ok(half_words(limit, distance)),
         Err(kind) => Ok(Err(kind)),
     }
@@ -136,16 +136,16 @@ fn field_to(
 
 pub fn branch_conditional(
     alloc: Global,
-    scene: &Scene<'_>,
+    lookup: &Lookup<'_>,
     condition: Condition,
     target: &Expr,
 ) -> Said
     requires { IsRead target.now }
     ensures { IfOk result (λ i. i
-        ≡ forms.thumb_instruction (context_of scene.now)
+        ≡ forms.thumb_instruction (context_of lookup.now)
         (thumb.BranchConditional condition target.now)) }
 {
-    match field_to(alloc, scene, false, 256, target)? {
+    match field_to(alloc, lookup, false, 256, target)? {
         Ok(field) => {
             let offset = field as u8;
             Ok(Ok(ThumbCode::One(ThumbInstr::BranchConditional { condition, offset })))
@@ -154,12 +154,12 @@ pub fn branch_conditional(
     }
 }
 
-pub fn branch(alloc: Global, scene: &Scene<'_>, target: &Expr) -> Said
+pub fn branch(alloc: Global, lookup: &Lookup<'_>, target: &Expr) -> Said
     requires { IsRead target.now }
     ensures { IfOk result (λ i. i
-        ≡ forms.thumb_instruction (context_of scene.now) (thumb.Branch target.now)) }
+        ≡ forms.thumb_instruction (context_of lookup.now) (thumb.Branch target.now)) }
 {
-    match field_to(alloc, scene, false, 0x800, target)? {
+    match field_to(alloc, lookup, false, 0x800, target)? {
         Ok(field) => {
             let offset = field as u16;
             Ok(Ok(ThumbCode::One(ThumbInstr::Branch { offset })))
@@ -169,23 +169,23 @@ pub fn branch(alloc: Global, scene: &Scene<'_>, target: &Expr) -> Said
 }
 
 /// BL: both halves.
-pub fn branch_link(alloc: Global, scene: &Scene<'_>, target: &Expr) -> Said
+pub fn branch_link(alloc: Global, lookup: &Lookup<'_>, target: &Expr) -> Said
     requires { IsRead target.now }
     ensures { IfOk result (λ i. i
-        ≡ forms.thumb_instruction (context_of scene.now) (thumb.BranchLink target.now)) }
+        ≡ forms.thumb_instruction (context_of lookup.now) (thumb.BranchLink target.now)) }
 {
-    match field_to(alloc, scene, true, 0x40_0000, target)? {
+    match field_to(alloc, lookup, true, 0x40_0000, target)? {
         Ok(field) => Ok(Ok(ThumbCode::Pair((field / 0x800) as u16, (field % 0x800) as u16))),
         Err(kind) => Ok(Err(kind)),
     }
 }
 
-pub fn software_interrupt(alloc: Global, scene: &Scene<'_>, number: &Expr) -> Said
+pub fn software_interrupt(alloc: Global, lookup: &Lookup<'_>, number: &Expr) -> Said
     requires { IsRead number.now }
     ensures { IfOk result (λ i. i
-        ≡ forms.thumb_instruction (context_of scene.now) (thumb.SoftwareInterrupt number.now)) }
+        ≡ forms.thumb_instruction (context_of lookup.now) (thumb.SoftwareInterrupt number.now)) }
 {
-    let number = number_there(alloc, scene, number)?;
+    let number = number_there(alloc, lookup, number)?;
     match offset_below(1, 256, number) {
         Ok(number) => Ok(Ok(ThumbCode::One(ThumbInstr::SoftwareInterrupt { number }))),
         Err(kind) => Ok(Err(kind)),

@@ -8,9 +8,9 @@ ghost use Rattle.asm_model.specs.declared.thumb_lines.ThumbLine.TheVariants as t
 ghost use Rattle.said_model.specs.Said.{IsRead, ThumbOperandSaid};
 ghost use Rattle.source_model.specs.Contexts.{and_then, register};
 ghost use Rattle.source_model.specs.ThumbForms as forms;
-ghost use Rattle.asm_instructions.specs.Scenes.{context_of};
+ghost use Rattle.asm_instructions.specs.Lookups.{context_of};
 
-use crate::scenes::{Scene, register};
+use crate::lookups::{Lookup, register};
 use crate::shifts::amount_field;
 use crate::thumb_values::{
     both, immediate_below, low, low_number, low_three, low_two, no_row, summed,
@@ -50,7 +50,7 @@ fn amount_of(shift: ThumbShift, amount: Result<u32, LineKind>) -> Result<u8, Lin
 
 pub fn shift_immediate(
     alloc: Global,
-    scene: &Scene<'_>,
+    lookup: &Lookup<'_>,
     shift: ThumbShift,
     rd: &Register,
     rs: &Register,
@@ -58,11 +58,11 @@ pub fn shift_immediate(
 ) -> Said
     requires { IsRead amount.now }
     ensures { IfOk result (λ i. i
-        ≡ forms.thumb_instruction (context_of scene.now)
+        ≡ forms.thumb_instruction (context_of lookup.now)
         (thumb.ShiftImmediate shift rd.now rs.now amount.now)) }
 {
-    let number = number_there(alloc, scene, amount)?;
-    match both(low_two(scene, rd, rs), amount_of(shift, number)) {
+    let number = number_there(alloc, lookup, amount)?;
+    match both(low_two(lookup, rd, rs), amount_of(shift, number)) {
         Ok(((rd, rs), amount)) => Ok(Ok(ThumbCode::One(ThumbInstr::ShiftImmediate {
             shift,
             amount,
@@ -74,15 +74,15 @@ pub fn shift_immediate(
 }
 
 pub fn data_register(
-    scene: &Scene<'_>,
+    lookup: &Lookup<'_>,
     operation: ThumbOperation,
     rd: &Register,
     rs: &Register,
 ) -> Result<ThumbCode, LineKind>
-    ensures { result ≡ forms.thumb_instruction (context_of scene.now)
+    ensures { result ≡ forms.thumb_instruction (context_of lookup.now)
         (thumb.DataRegister operation rd.now rs.now) }
 {
-    match low_two(scene, rd, rs) {
+    match low_two(lookup, rd, rs) {
         Ok((rd, rs)) => Ok(ThumbCode::One(ThumbInstr::DataRegister { operation, rs, rd })),
         Err(kind) => Err(kind),
     }
@@ -141,16 +141,16 @@ fn pair_of(operation: HighOperation, rd: u8, rs: u8) -> ThumbInstr
 }
 
 pub fn high_register(
-    scene: &Scene<'_>,
+    lookup: &Lookup<'_>,
     operation: HighOperation,
     rd: &Register,
     rs: &Register,
 ) -> ThumbCode
-    ensures { Ok result ≡ forms.thumb_instruction (context_of scene.now)
+    ensures { Ok result ≡ forms.thumb_instruction (context_of lookup.now)
         (thumb.HighRegister operation rd.now rs.now) }
 {
-    let to = register(scene, rd);
-    let from = register(scene, rs);
+    let to = register(lookup, rd);
+    let from = register(lookup, rs);
     ThumbCode::One(pair_of(operation, to, from))
 }
 
@@ -204,7 +204,7 @@ fn sum_by(
 
 pub fn add_subtract(
     alloc: Global,
-    scene: &Scene<'_>,
+    lookup: &Lookup<'_>,
     subtract: bool,
     rd: &Register,
     rs: &Register,
@@ -212,11 +212,11 @@ pub fn add_subtract(
 ) -> Said
     requires { ThumbOperandSaid operand.now }
     ensures { IfOk result (λ i. i
-        ≡ forms.thumb_instruction (context_of scene.now)
+        ≡ forms.thumb_instruction (context_of lookup.now)
         (thumb.AddSubtract subtract rd.now rs.now operand.now)) }
 {
     match operand {
-        ThumbOperand::Register(rn) => match low_three(scene, rd, rs, rn) {
+        ThumbOperand::Register(rn) => match low_three(lookup, rd, rs, rn) {
             Ok(((rd, rs), operand)) => Ok(Ok(ThumbCode::One(ThumbInstr::AddSubtract {
                 immediate: false,
                 subtract,
@@ -227,9 +227,9 @@ pub fn add_subtract(
             Err(kind) => Ok(Err(kind)),
         },
         ThumbOperand::Number(value) => {
-            let number = number_there(alloc, scene, value)?;
-            let to = register(scene, rd);
-            let from = register(scene, rs);
+            let number = number_there(alloc, lookup, value)?;
+            let to = register(lookup, rd);
+            let from = register(lookup, rs);
             Ok(one(sum_by(subtract, to, from, number)))
         }
     }
@@ -323,34 +323,34 @@ fn immediate_by(
 
 pub fn data_immediate(
     alloc: Global,
-    scene: &Scene<'_>,
+    lookup: &Lookup<'_>,
     operation: ImmediateOperation,
     rd: &Register,
     value: &Expr,
 ) -> Said
     requires { IsRead value.now }
     ensures { IfOk result (λ i. i
-        ≡ forms.thumb_instruction (context_of scene.now)
+        ≡ forms.thumb_instruction (context_of lookup.now)
         (thumb.DataImmediate operation rd.now value.now)) }
 {
-    let number = number_there(alloc, scene, value)?;
-    Ok(one(immediate_by(operation, register(scene, rd), number)))
+    let number = number_there(alloc, lookup, value)?;
+    Ok(one(immediate_by(operation, register(lookup, rd), number)))
 }
 
 pub fn load_address(
     alloc: Global,
-    scene: &Scene<'_>,
+    lookup: &Lookup<'_>,
     stack: bool,
     rd: &Register,
     offset: &Expr,
 ) -> Said
     requires { IsRead offset.now }
     ensures { IfOk result (λ i. i
-        ≡ forms.thumb_instruction (context_of scene.now)
+        ≡ forms.thumb_instruction (context_of lookup.now)
         (thumb.LoadAddress stack rd.now offset.now)) }
 {
-    let number = number_there(alloc, scene, offset)?;
-    match both(low(scene, rd), words_of(number)) {
+    let number = number_there(alloc, lookup, offset)?;
+    match both(low(lookup, rd), words_of(number)) {
         Ok((rd, offset)) => Ok(Ok(ThumbCode::One(ThumbInstr::LoadAddress { stack, rd, offset }))),
         Err(kind) => Ok(Err(kind)),
     }
@@ -364,11 +364,11 @@ fn words_of(number: Result<u32, LineKind>) -> Result<u8, LineKind>
     immediate_below(4, 256, number)
 }
 
-pub fn adjust_stack(alloc: Global, scene: &Scene<'_>, subtract: bool, offset: &Expr) -> Said
+pub fn adjust_stack(alloc: Global, lookup: &Lookup<'_>, subtract: bool, offset: &Expr) -> Said
     requires { IsRead offset.now }
     ensures { IfOk result (λ i. i
-        ≡ forms.thumb_instruction (context_of scene.now) (thumb.AdjustStack subtract offset.now)) }
+        ≡ forms.thumb_instruction (context_of lookup.now) (thumb.AdjustStack subtract offset.now)) }
 {
-    let number = number_there(alloc, scene, offset)?;
+    let number = number_there(alloc, lookup, offset)?;
     Ok(one(stack_sum(subtract, number)))
 }

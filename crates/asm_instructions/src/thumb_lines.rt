@@ -5,10 +5,10 @@ ghost use Rattle.asm_model.specs.declared.statements.PseudoLine.TheVariants as p
 ghost use Rattle.said_model.specs.Said.{IsRead, PseudoSaid, ThumbSaid};
 ghost use Rattle.source_model.specs.Contexts.{Context};
 ghost use Rattle.source_model.specs.ThumbForms as forms;
-ghost use Rattle.asm_instructions.specs.Scenes.{Shows, context_of};
+ghost use Rattle.asm_instructions.specs.Lookups.{Shows, context_of};
 ghost use Rattle.asm_instructions.specs.ThumbGroups.{IsWide};
 
-use crate::scenes::Scene;
+use crate::lookups::Lookup;
 use crate::thumb_branches::{branch, branch_conditional, branch_link, software_interrupt};
 use crate::thumb_data::{
     Said, add_subtract, adjust_stack, data_immediate, data_register, high_register, load_address,
@@ -27,10 +27,10 @@ use std::alloc::Global;
 use thumb_isa::{HighOperation, ThumbInstr};
 
 /// What a line of many operands says.
-fn wide_there(alloc: Global, scene: &Scene<'_>, line: &ThumbLine) -> Said
+fn wide_there(alloc: Global, lookup: &Lookup<'_>, line: &ThumbLine) -> Said
     requires said { ThumbSaid line.now }
     requires wide { IsWide line.now }
-    ensures { IfOk result (λ i. i ≡ forms.thumb_instruction (context_of scene.now) line.now) }
+    ensures { IfOk result (λ i. i ≡ forms.thumb_instruction (context_of lookup.now) line.now) }
 {
     match line {
         ThumbLine::ShiftImmediate {
@@ -38,89 +38,89 @@ fn wide_there(alloc: Global, scene: &Scene<'_>, line: &ThumbLine) -> Said
             rd,
             rs,
             amount,
-        } => shift_immediate(alloc, scene, *shift, rd, rs, amount),
+        } => shift_immediate(alloc, lookup, *shift, rd, rs, amount),
         ThumbLine::AddSubtract {
             subtract,
             rd,
             rs,
             operand,
-        } => add_subtract(alloc, scene, *subtract, rd, rs, operand),
+        } => add_subtract(alloc, lookup, *subtract, rd, rs, operand),
         ThumbLine::TransferRegister {
             load,
             byte,
             rd,
             rn,
             ro,
-        } => Ok(transfer_register(scene, *load, *byte, rd, rn, ro)),
+        } => Ok(transfer_register(lookup, *load, *byte, rd, rn, ro)),
         ThumbLine::TransferImmediate {
             load,
             byte,
             rd,
             rn,
             offset,
-        } => transfer_immediate(alloc, scene, *load, *byte, rd, rn, offset),
+        } => transfer_immediate(alloc, lookup, *load, *byte, rd, rn, offset),
         ThumbLine::TransferHalf {
             load,
             rd,
             rn,
             offset,
-        } => transfer_half(alloc, scene, *load, rd, rn, offset),
+        } => transfer_half(alloc, lookup, *load, rd, rn, offset),
         _ => Ok(Err(LineKind::Syntax)),
     }
 }
 
-/// What a line says with what the scene finds, or the kind of its fault.
-fn instruction_there(alloc: Global, scene: &Scene<'_>, line: &ThumbLine) -> Said
+/// What a line says with what the lookup finds, or the kind of its fault.
+fn instruction_there(alloc: Global, lookup: &Lookup<'_>, line: &ThumbLine) -> Said
     requires { ThumbSaid line.now }
-    ensures { IfOk result (λ i. i ≡ forms.thumb_instruction (context_of scene.now) line.now) }
+    ensures { IfOk result (λ i. i ≡ forms.thumb_instruction (context_of lookup.now) line.now) }
 {
     match line {
         ThumbLine::DataImmediate {
             operation,
             rd,
             value,
-        } => data_immediate(alloc, scene, *operation, rd, value),
+        } => data_immediate(alloc, lookup, *operation, rd, value),
         ThumbLine::DataRegister { operation, rd, rs } => {
-            Ok(data_register(scene, *operation, rd, rs))
+            Ok(data_register(lookup, *operation, rd, rs))
         }
         ThumbLine::HighRegister { operation, rd, rs } => {
-            Ok(Ok(high_register(scene, *operation, rd, rs)))
+            Ok(Ok(high_register(lookup, *operation, rd, rs)))
         }
-        ThumbLine::LoadLiteral { rd, address } => load_literal(alloc, scene, rd, address),
+        ThumbLine::LoadLiteral { rd, address } => load_literal(alloc, lookup, rd, address),
         ThumbLine::TransferSigned { kind, rd, rn, ro } => {
-            Ok(transfer_signed(scene, *kind, rd, rn, ro))
+            Ok(transfer_signed(lookup, *kind, rd, rn, ro))
         }
         ThumbLine::TransferStack { load, rd, offset } => {
-            transfer_stack(alloc, scene, *load, rd, offset)
+            transfer_stack(alloc, lookup, *load, rd, offset)
         }
         ThumbLine::LoadAddress { stack, rd, offset } => {
-            load_address(alloc, scene, *stack, rd, offset)
+            load_address(alloc, lookup, *stack, rd, offset)
         }
         ThumbLine::AdjustStack { subtract, offset } => {
-            adjust_stack(alloc, scene, *subtract, offset)
+            adjust_stack(alloc, lookup, *subtract, offset)
         }
-        ThumbLine::PushPop { load, list } => Ok(push_pop(scene, *load, list)),
+        ThumbLine::PushPop { load, list } => Ok(push_pop(lookup, *load, list)),
         ThumbLine::TransferMultiple { load, rn, list } => {
-            Ok(transfer_multiple(scene, *load, rn, list))
+            Ok(transfer_multiple(lookup, *load, rn, list))
         }
         ThumbLine::BranchConditional { condition, target } => {
-            branch_conditional(alloc, scene, *condition, target)
+            branch_conditional(alloc, lookup, *condition, target)
         }
-        ThumbLine::SoftwareInterrupt { number } => software_interrupt(alloc, scene, number),
-        ThumbLine::Branch { target } => branch(alloc, scene, target),
-        ThumbLine::BranchLink { target } => branch_link(alloc, scene, target),
-        _ => wide_there(alloc, scene, line),
+        ThumbLine::SoftwareInterrupt { number } => software_interrupt(alloc, lookup, number),
+        ThumbLine::Branch { target } => branch(alloc, lookup, target),
+        ThumbLine::BranchLink { target } => branch_link(alloc, lookup, target),
+        _ => wide_there(alloc, lookup, line),
     }
 }
 
 /// What a line of Thumb state says, or the kind of its fault. A BL that is left to the linker holds its number less how
 /// far pc stands behind the start of the area.
-pub fn thumb_instruction(alloc: Global, scene: &Scene<'_>, line: &ThumbLine) -> Said
+pub fn thumb_instruction(alloc: Global, lookup: &Lookup<'_>, line: &ThumbLine) -> Said
     requires { ThumbSaid line.now }
-    ensures { IfOk result (λ i. (c : Context) → Shows scene.now c → i
+    ensures { IfOk result (λ i. (c : Context) → Shows lookup.now c → i
         ≡ forms.thumb_instruction c line.now) }
 {
-    instruction_there(alloc, scene, line)
+    instruction_there(alloc, lookup, line)
 }
 
 fn word_offset(word: Option<u32>) -> Result<u32, LineKind>
@@ -133,13 +133,13 @@ fn word_offset(word: Option<u32>) -> Result<u32, LineKind>
 }
 
 fn load_constant(
-    scene: &Scene<'_>,
+    lookup: &Lookup<'_>,
     word: Option<u32>,
     rd: &Register,
 ) -> Result<ThumbInstr, LineKind>
-    ensures { result ≡ forms.loaded (context_of scene.now) word rd.now }
+    ensures { result ≡ forms.loaded (context_of lookup.now) word rd.now }
 {
-    match both(low(scene, rd), words_to(scene, word_offset(word))) {
+    match both(low(lookup, rd), words_to(lookup, word_offset(word))) {
         Ok((rd, offset)) => Ok(ThumbInstr::LoadLiteral { rd, offset }),
         Err(kind) => Err(kind),
     }
@@ -147,15 +147,15 @@ fn load_constant(
 
 fn address(
     alloc: Global,
-    scene: &Scene<'_>,
+    lookup: &Lookup<'_>,
     rd: &Register,
     target: &Expr,
 ) -> Result<Result<ThumbInstr, LineKind>, NoMemory>
     requires { IsRead target.now }
-    ensures { IfOk result (λ i. i ≡ forms.addressed (context_of scene.now) rd.now target.now) }
+    ensures { IfOk result (λ i. i ≡ forms.addressed (context_of lookup.now) rd.now target.now) }
 {
-    let value = value_there(alloc, scene, target)?;
-    match both(low(scene, rd), words_to(scene, own_offset(scene, value))) {
+    let value = value_there(alloc, lookup, target)?;
+    match both(low(lookup, rd), words_to(lookup, own_offset(lookup, value))) {
         Ok((rd, offset)) => {
             let stack = false;
             Ok(Ok(ThumbInstr::LoadAddress { stack, rd, offset }))
@@ -164,19 +164,19 @@ fn address(
     }
 }
 
-/// The instruction of a pseudo-instruction with what the scene finds, or the kind of its fault.
+/// The instruction of a pseudo-instruction with what the lookup finds, or the kind of its fault.
 fn pseudo_there(
     alloc: Global,
-    scene: &Scene<'_>,
+    lookup: &Lookup<'_>,
     word: Option<u32>,
     line: &PseudoLine,
 ) -> Result<Result<ThumbInstr, LineKind>, NoMemory>
     requires { PseudoSaid line.now }
-    ensures { IfOk result (λ i. i ≡ forms.thumb_pseudo (context_of scene.now) word line.now) }
+    ensures { IfOk result (λ i. i ≡ forms.thumb_pseudo (context_of lookup.now) word line.now) }
 {
     match line {
-        PseudoLine::LoadConstant { rd, .. } => Ok(load_constant(scene, word, rd)),
-        PseudoLine::Address { rd, target, .. } => address(alloc, scene, rd, target),
+        PseudoLine::LoadConstant { rd, .. } => Ok(load_constant(lookup, word, rd)),
+        PseudoLine::Address { rd, target, .. } => address(alloc, lookup, rd, target),
         PseudoLine::LongAddress { .. } => Ok(Err(LineKind::Syntax)),
         PseudoLine::NoOperation => Ok(Ok(ThumbInstr::HighRegister {
             operation: HighOperation::Mov,
@@ -192,13 +192,13 @@ fn pseudo_there(
 /// fault.
 pub fn thumb_pseudo_instruction(
     alloc: Global,
-    scene: &Scene<'_>,
+    lookup: &Lookup<'_>,
     word: Option<u32>,
     line: &PseudoLine,
 ) -> Result<Result<ThumbInstr, LineKind>, NoMemory>
     requires { PseudoSaid line.now }
-    ensures { IfOk result (λ i. (c : Context) → Shows scene.now c → i
+    ensures { IfOk result (λ i. (c : Context) → Shows lookup.now c → i
         ≡ forms.thumb_pseudo c word line.now) }
 {
-    pseudo_there(alloc, scene, word, line)
+    pseudo_there(alloc, lookup, word, line)
 }

@@ -5,10 +5,10 @@ ghost use Rattle.asm_model.specs.declared.thumb_lines.ThumbLine.TheVariants as t
 ghost use Rattle.said_model.specs.Said.{IsRead, LiteralSaid};
 ghost use Rattle.source_model.specs.ArmForms.{list_bits};
 ghost use Rattle.source_model.specs.ThumbForms as forms;
-ghost use Rattle.asm_instructions.specs.Scenes.{context_of};
+ghost use Rattle.asm_instructions.specs.Lookups.{context_of};
 
 use crate::blocks::list_bits;
-use crate::scenes::{Scene, register};
+use crate::lookups::{Lookup, register};
 use crate::thumb_data::{Said, one};
 use crate::thumb_values::{both, low, low_number, low_three, low_two, no_row, offset_below};
 use crate::values::{number_there, own_offset, value_there};
@@ -20,71 +20,71 @@ use std::alloc::Global;
 use thumb_isa::{SignedTransfer, ThumbInstr};
 
 /// How far an offset lies behind pc with its low bits cleared, as the line's instruction reads it, modulo 2^32.
-fn from_word_pc(scene: &Scene<'_>, offset: u32) -> u32
-    ensures { result ≡ forms.from_word_pc (context_of scene.now) offset }
+fn from_word_pc(lookup: &Lookup<'_>, offset: u32) -> u32
+    ensures { result ≡ forms.from_word_pc (context_of lookup.now) offset }
 {
-    let pc = (u64::from(scene.line.place.offset) + 4) / 4 * 4;
+    let pc = (u64::from(lookup.line.place.offset) + 4) / 4 * 4;
     let back = 0x1_0000_0000_u64.saturating_sub(pc);
     ((u64::from(offset) + back) % 0x1_0000_0000) as u32
 }
 
 /// The words behind it up to a label.
-pub fn words_to(scene: &Scene<'_>, at: Result<u32, LineKind>) -> Result<u8, LineKind>
-    ensures { result ≡ forms.words_to (context_of scene.now) at }
+pub fn words_to(lookup: &Lookup<'_>, at: Result<u32, LineKind>) -> Result<u8, LineKind>
+    ensures { result ≡ forms.words_to (context_of lookup.now) at }
 {
     let at = at?;
-    offset_below(4, 256, Ok(from_word_pc(scene, at)))
+    offset_below(4, 256, Ok(from_word_pc(lookup, at)))
 }
 
 fn literal_at(
     alloc: Global,
-    scene: &Scene<'_>,
+    lookup: &Lookup<'_>,
     address: &LiteralAddress,
 ) -> Result<Result<u8, LineKind>, NoMemory>
     requires { LiteralSaid address.now }
-    ensures { IfOk result (λ i. i ≡ forms.literal_at (context_of scene.now) address.now) }
+    ensures { IfOk result (λ i. i ≡ forms.literal_at (context_of lookup.now) address.now) }
 {
     match address {
         LiteralAddress::Offset(offset) => {
-            let number = number_there(alloc, scene, offset)?;
+            let number = number_there(alloc, lookup, offset)?;
             Ok(offset_below(4, 256, number))
         }
         LiteralAddress::Label(target) => {
-            let value = value_there(alloc, scene, target)?;
-            Ok(words_to(scene, own_offset(scene, value)))
+            let value = value_there(alloc, lookup, target)?;
+            Ok(words_to(lookup, own_offset(lookup, value)))
         }
     }
 }
 
 pub fn load_literal(
     alloc: Global,
-    scene: &Scene<'_>,
+    lookup: &Lookup<'_>,
     rd: &Register,
     address: &LiteralAddress,
 ) -> Said
     requires { LiteralSaid address.now }
     ensures { IfOk result (λ i. i
-        ≡ forms.thumb_instruction (context_of scene.now) (thumb.LoadLiteral rd.now address.now)) }
+        ≡ forms.thumb_instruction (context_of lookup.now) (thumb.LoadLiteral rd.now address.now)) }
 {
-    let at = literal_at(alloc, scene, address)?;
-    match both(low(scene, rd), at) {
+    let at = literal_at(alloc, lookup, address)?;
+    match both(low(lookup, rd), at) {
         Ok((rd, offset)) => Ok(Ok(ThumbCode::One(ThumbInstr::LoadLiteral { rd, offset }))),
         Err(kind) => Ok(Err(kind)),
     }
 }
 
 pub fn transfer_register(
-    scene: &Scene<'_>,
+    lookup: &Lookup<'_>,
     load: bool,
     byte: bool,
     rd: &Register,
     rn: &Register,
     ro: &Register,
 ) -> Result<ThumbCode, LineKind>
-    ensures { result ≡ forms.thumb_instruction (context_of scene.now)
+    ensures { result ≡ forms.thumb_instruction (context_of lookup.now)
         (thumb.TransferRegister load byte rd.now rn.now ro.now) }
 {
-    match low_three(scene, rd, rn, ro) {
+    match low_three(lookup, rd, rn, ro) {
         Ok(((rd, rn), ro)) => Ok(ThumbCode::One(ThumbInstr::TransferRegister {
             load,
             byte,
@@ -97,16 +97,16 @@ pub fn transfer_register(
 }
 
 pub fn transfer_signed(
-    scene: &Scene<'_>,
+    lookup: &Lookup<'_>,
     kind: SignedTransfer,
     rd: &Register,
     rn: &Register,
     ro: &Register,
 ) -> Result<ThumbCode, LineKind>
-    ensures { result ≡ forms.thumb_instruction (context_of scene.now)
+    ensures { result ≡ forms.thumb_instruction (context_of lookup.now)
         (thumb.TransferSigned kind rd.now rn.now ro.now) }
 {
-    match low_three(scene, rd, rn, ro) {
+    match low_three(lookup, rd, rn, ro) {
         Ok(((rd, rn), ro)) => Ok(ThumbCode::One(ThumbInstr::TransferSigned { kind, ro, rn, rd })),
         Err(fault) => Err(fault),
     }
@@ -183,7 +183,7 @@ fn transfer_by(
 
 pub fn transfer_immediate(
     alloc: Global,
-    scene: &Scene<'_>,
+    lookup: &Lookup<'_>,
     load: bool,
     byte: bool,
     rd: &Register,
@@ -192,18 +192,18 @@ pub fn transfer_immediate(
 ) -> Said
     requires { IsRead offset.now }
     ensures { IfOk result (λ i. i
-        ≡ forms.thumb_instruction (context_of scene.now)
+        ≡ forms.thumb_instruction (context_of lookup.now)
         (thumb.TransferImmediate load byte rd.now rn.now offset.now)) }
 {
-    let number = number_there(alloc, scene, offset)?;
-    let with = register(scene, rd);
-    let base = register(scene, rn);
+    let number = number_there(alloc, lookup, offset)?;
+    let with = register(lookup, rd);
+    let base = register(lookup, rn);
     Ok(one(transfer_by(load, byte, with, base, number)))
 }
 
 pub fn transfer_half(
     alloc: Global,
-    scene: &Scene<'_>,
+    lookup: &Lookup<'_>,
     load: bool,
     rd: &Register,
     rn: &Register,
@@ -211,11 +211,11 @@ pub fn transfer_half(
 ) -> Said
     requires { IsRead offset.now }
     ensures { IfOk result (λ i. i
-        ≡ forms.thumb_instruction (context_of scene.now)
+        ≡ forms.thumb_instruction (context_of lookup.now)
         (thumb.TransferHalf load rd.now rn.now offset.now)) }
 {
-    let number = number_there(alloc, scene, offset)?;
-    match both(low_two(scene, rd, rn), offset_below(2, 32, number)) {
+    let number = number_there(alloc, lookup, offset)?;
+    match both(low_two(lookup, rd, rn), offset_below(2, 32, number)) {
         Ok(((rd, rn), offset)) => Ok(Ok(ThumbCode::One(ThumbInstr::TransferHalf {
             load,
             offset,
@@ -228,28 +228,28 @@ pub fn transfer_half(
 
 pub fn transfer_stack(
     alloc: Global,
-    scene: &Scene<'_>,
+    lookup: &Lookup<'_>,
     load: bool,
     rd: &Register,
     offset: &Expr,
 ) -> Said
     requires { IsRead offset.now }
     ensures { IfOk result (λ i. i
-        ≡ forms.thumb_instruction (context_of scene.now)
+        ≡ forms.thumb_instruction (context_of lookup.now)
         (thumb.TransferStack load rd.now offset.now)) }
 {
-    let number = number_there(alloc, scene, offset)?;
-    match both(low(scene, rd), offset_below(4, 256, number)) {
+    let number = number_there(alloc, lookup, offset)?;
+    match both(low(lookup, rd), offset_below(4, 256, number)) {
         Ok((rd, offset)) => Ok(Ok(ThumbCode::One(ThumbInstr::TransferStack { load, rd, offset }))),
         Err(kind) => Ok(Err(kind)),
     }
 }
 
 /// A bit for each register of a list.
-fn bits_of(scene: &Scene<'_>, list: &RegisterList) -> u16
-    ensures { result ≡ list_bits (context_of scene.now) list.now.items 0 16 }
+fn bits_of(lookup: &Lookup<'_>, list: &RegisterList) -> u16
+    ensures { result ≡ list_bits (context_of lookup.now) list.now.items 0 16 }
 {
-    list_bits(scene, list.items.as_slice())
+    list_bits(lookup, list.items.as_slice())
 }
 
 /// Bits of r0 to r7, and whether the one register more is listed.
@@ -275,11 +275,11 @@ fn link_bit(load: bool) -> u16
     64
 }
 
-pub fn push_pop(scene: &Scene<'_>, load: bool, list: &RegisterList) -> Result<ThumbCode, LineKind>
-    ensures { result ≡ forms.thumb_instruction (context_of scene.now)
+pub fn push_pop(lookup: &Lookup<'_>, load: bool, list: &RegisterList) -> Result<ThumbCode, LineKind>
+    ensures { result ≡ forms.thumb_instruction (context_of lookup.now)
         (thumb.PushPop load list.now) }
 {
-    match listed(link_bit(load), bits_of(scene, list)) {
+    match listed(link_bit(load), bits_of(lookup, list)) {
         Ok((link, list)) => Ok(ThumbCode::One(ThumbInstr::PushPop { load, link, list })),
         Err(kind) => Err(kind),
     }
@@ -295,15 +295,15 @@ fn low_list(bits: u16) -> Result<u8, LineKind>
 }
 
 pub fn transfer_multiple(
-    scene: &Scene<'_>,
+    lookup: &Lookup<'_>,
     load: bool,
     rn: &Register,
     list: &RegisterList,
 ) -> Result<ThumbCode, LineKind>
-    ensures { result ≡ forms.thumb_instruction (context_of scene.now)
+    ensures { result ≡ forms.thumb_instruction (context_of lookup.now)
         (thumb.TransferMultiple load rn.now list.now) }
 {
-    match both(low(scene, rn), low_list(bits_of(scene, list))) {
+    match both(low(lookup, rn), low_list(bits_of(lookup, list))) {
         Ok((rn, list)) => Ok(ThumbCode::One(ThumbInstr::TransferMultiple { load, rn, list })),
         Err(kind) => Err(kind),
     }

@@ -3,10 +3,10 @@
 ghost use Rattle.std.specs.Prelude.{◌≡◌, ◌<◌, ◌≤◌, IfOk};
 ghost use Rattle.source_model.specs.Contexts.{and_then};
 ghost use Rattle.source_model.specs.ThumbForms as forms;
-ghost use Rattle.asm_instructions.specs.Scenes.{context_of};
+ghost use Rattle.asm_instructions.specs.Lookups.{context_of};
 
 use crate::immediates::negated;
-use crate::scenes::{Scene, register};
+use crate::lookups::{Lookup, register};
 use asm_expr::kinds::earlier;
 use asm_model::Register;
 use sdt_fault::kinds::LineKind;
@@ -48,29 +48,29 @@ pub fn low_number(number: u8) -> Result<u8, LineKind>
 }
 
 /// A register of a line, which is one from r0 to r7.
-pub fn low(scene: &Scene<'_>, r: &Register) -> Result<u8, LineKind>
-    ensures { result ≡ forms.low (context_of scene.now) r.now }
+pub fn low(lookup: &Lookup<'_>, r: &Register) -> Result<u8, LineKind>
+    ensures { result ≡ forms.low (context_of lookup.now) r.now }
 {
-    low_number(register(scene, r))
+    low_number(register(lookup, r))
 }
 
 /// Two of them.
-pub fn low_two(scene: &Scene<'_>, r: &Register, s: &Register) -> Result<(u8, u8), LineKind>
-    ensures { result ≡ forms.low_two (context_of scene.now) r.now s.now }
+pub fn low_two(lookup: &Lookup<'_>, r: &Register, s: &Register) -> Result<(u8, u8), LineKind>
+    ensures { result ≡ forms.low_two (context_of lookup.now) r.now s.now }
 {
-    both(low(scene, r), low(scene, s))
+    both(low(lookup, r), low(lookup, s))
 }
 
 /// Three of them.
 pub fn low_three(
-    scene: &Scene<'_>,
+    lookup: &Lookup<'_>,
     r: &Register,
     s: &Register,
     t: &Register,
 ) -> Result<((u8, u8), u8), LineKind>
-    ensures { result ≡ forms.low_three (context_of scene.now) r.now s.now t.now }
+    ensures { result ≡ forms.low_three (context_of lookup.now) r.now s.now t.now }
 {
-    both(low_two(scene, r, s), low(scene, t))
+    both(low_two(lookup, r, s), low(lookup, t))
 }
 
 /// A number of whole units, of which there may be fewer than a limit.

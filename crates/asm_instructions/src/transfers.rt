@@ -8,9 +8,9 @@ ghost use Rattle.said_model.specs.Said.{IsRead, ShiftSaid, AddressSaid, HalfOffs
 ghost use Rattle.source_model.specs.ArmForms as forms;
 ghost use Rattle.source_model.specs.Contexts as contexts;
 ghost use Rattle.source_model.specs.Contexts.{and_then};
-ghost use Rattle.asm_instructions.specs.Scenes.{context_of};
+ghost use Rattle.asm_instructions.specs.Lookups.{context_of};
 
-use crate::scenes::{Scene, register};
+use crate::lookups::{Lookup, register};
 use crate::shifts::shift_fields;
 use crate::values::{from_pc, number_there, offset_below, own_offset, value_there};
 use arm_isa::{ArmInstr, HalfKind};
@@ -101,7 +101,7 @@ pub fn behind_pc(
 }
 
 fn at_label(
-    scene: &Scene<'_>,
+    lookup: &Lookup<'_>,
     condition: Condition,
     load: bool,
     byte: bool,
@@ -110,17 +110,17 @@ fn at_label(
 ) -> Result<ArmInstr, LineKind>
     ensures { result ≡ and_then label
         (λ at. mapped (λ o. instr.TransferImmediate condition true o.0 byte false load 15 rd o.1)
-        (contexts.offset_below 4096 (contexts.from_pc (context_of scene.now) at))) }
+        (contexts.offset_below 4096 (contexts.from_pc (context_of lookup.now) at))) }
 {
     match label {
-        Ok(at) => behind_pc(condition, load, byte, rd, from_pc(scene, at)),
+        Ok(at) => behind_pc(condition, load, byte, rd, from_pc(lookup, at)),
         Err(kind) => Err(kind),
     }
 }
 
 fn transfer_at(
     alloc: Global,
-    scene: &Scene<'_>,
+    lookup: &Lookup<'_>,
     condition: Condition,
     load: bool,
     byte: bool,
@@ -129,7 +129,7 @@ fn transfer_at(
 ) -> Result<Result<ArmInstr, LineKind>, NoMemory>
     requires { AddressSaid address.now }
     ensures { IfOk result (λ i. i
-        ≡ forms.transfer_at (context_of scene.now) condition load byte rd address.now) }
+        ≡ forms.transfer_at (context_of lookup.now) condition load byte rd address.now) }
 {
     match address {
         Address::Based {
@@ -137,21 +137,21 @@ fn transfer_at(
             indexing,
             offset,
         } => {
-            let number = number_there(alloc, scene, offset)?;
-            let base = register(scene, rn);
+            let number = number_there(alloc, lookup, offset)?;
+            let base = register(lookup, rn);
             Ok(based(condition, load, byte, rd, base, *indexing, number))
         }
         Address::Label { target } => {
-            let value = value_there(alloc, scene, target)?;
-            let label = own_offset(scene, value);
-            Ok(at_label(scene, condition, load, byte, rd, label))
+            let value = value_there(alloc, lookup, target)?;
+            let label = own_offset(lookup, value);
+            Ok(at_label(lookup, condition, load, byte, rd, label))
         }
     }
 }
 
 pub fn transfer(
     alloc: Global,
-    scene: &Scene<'_>,
+    lookup: &Lookup<'_>,
     condition: Condition,
     load: bool,
     byte: bool,
@@ -160,11 +160,11 @@ pub fn transfer(
 ) -> Result<Result<ArmInstr, LineKind>, NoMemory>
     requires { AddressSaid address.now }
     ensures { IfOk result (λ i. i
-        ≡ forms.arm_instruction (context_of scene.now)
+        ≡ forms.arm_instruction (context_of lookup.now)
         (arm.TransferImmediate condition load byte rd.now address.now)) }
 {
-    let with = register(scene, rd);
-    transfer_at(alloc, scene, condition, load, byte, with, address)
+    let with = register(lookup, rd);
+    transfer_at(alloc, lookup, condition, load, byte, with, address)
 }
 
 fn with_shift(
@@ -200,7 +200,7 @@ fn with_shift(
 
 pub fn transfer_shifted(
     alloc: Global,
-    scene: &Scene<'_>,
+    lookup: &Lookup<'_>,
     condition: Condition,
     load: bool,
     byte: bool,
@@ -213,14 +213,14 @@ pub fn transfer_shifted(
 ) -> Result<Result<ArmInstr, LineKind>, NoMemory>
     requires { ShiftSaid shift.now }
     ensures { IfOk result (λ i. i
-        ≡ forms.arm_instruction (context_of scene.now)
+        ≡ forms.arm_instruction (context_of lookup.now)
         (arm.TransferShifted condition load byte rd.now rn.now indexing subtract rm.now
         shift.now)) }
 {
-    let base = register(scene, rn);
-    let with = register(scene, rd);
-    let by = register(scene, rm);
-    let fields = shift_fields(alloc, scene, shift)?;
+    let base = register(lookup, rn);
+    let with = register(lookup, rd);
+    let by = register(lookup, rm);
+    let fields = shift_fields(alloc, lookup, shift)?;
     Ok(with_shift(
         condition, load, byte, with, base, indexing, subtract, by, fields,
     ))
@@ -287,7 +287,7 @@ fn half_by_register(
 
 fn half_at(
     alloc: Global,
-    scene: &Scene<'_>,
+    lookup: &Lookup<'_>,
     condition: Condition,
     load: bool,
     kind: HalfKind,
@@ -298,15 +298,15 @@ fn half_at(
 ) -> Result<Result<ArmInstr, LineKind>, NoMemory>
     requires { HalfOffsetSaid offset.now }
     ensures { IfOk result (λ i. i
-        ≡ forms.half_at (context_of scene.now) condition load kind rd rn indexing offset.now) }
+        ≡ forms.half_at (context_of lookup.now) condition load kind rd rn indexing offset.now) }
 {
     match offset {
         HalfOffset::Number { offset } => {
-            let number = number_there(alloc, scene, offset)?;
+            let number = number_there(alloc, lookup, offset)?;
             Ok(half_by_number(condition, load, kind, rd, rn, indexing, number))
         }
         HalfOffset::Register { subtract, rm } => {
-            let by = register(scene, rm);
+            let by = register(lookup, rm);
             Ok(Ok(half_by_register(condition, load, kind, rd, rn, indexing, *subtract, by)))
         }
     }
@@ -314,7 +314,7 @@ fn half_at(
 
 pub fn transfer_half(
     alloc: Global,
-    scene: &Scene<'_>,
+    lookup: &Lookup<'_>,
     condition: Condition,
     load: bool,
     kind: HalfKind,
@@ -325,12 +325,12 @@ pub fn transfer_half(
 ) -> Result<Result<ArmInstr, LineKind>, NoMemory>
     requires { HalfOffsetSaid offset.now }
     ensures { IfOk result (λ i. i
-        ≡ forms.arm_instruction (context_of scene.now)
+        ≡ forms.arm_instruction (context_of lookup.now)
         (arm.TransferHalf condition load kind rd.now rn.now indexing offset.now)) }
 {
-    let with = register(scene, rd);
-    let base = register(scene, rn);
+    let with = register(lookup, rd);
+    let base = register(lookup, rn);
     half_at(
-        alloc, scene, condition, load, kind, with, base, indexing, offset,
+        alloc, lookup, condition, load, kind, with, base, indexing, offset,
     )
 }

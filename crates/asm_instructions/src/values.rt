@@ -6,9 +6,9 @@ ghost use Rattle.asm_model.specs.Extents as extents;
 ghost use Rattle.said_model.specs.Said.{IsRead};
 ghost use Rattle.source_model.specs.Contexts as contexts;
 ghost use Rattle.source_model.specs.Contexts.{Context};
-ghost use Rattle.asm_instructions.specs.Scenes.{Shows, context_of};
+ghost use Rattle.asm_instructions.specs.Lookups.{Shows, context_of};
 
-use crate::scenes::{Scene, stands_at};
+use crate::lookups::{Lookup, stands_at};
 use asm_expr::told::told_value;
 use asm_model::{Expr, Value};
 use asm_names::final_value;
@@ -16,16 +16,16 @@ use sdt_fault::NoMemory;
 use sdt_fault::kinds::LineKind;
 use std::alloc::Global;
 
-/// The value of an expression with what the scene finds.
+/// The value of an expression with what the lookup finds.
 pub fn value_there(
     alloc: Global,
-    scene: &Scene<'_>,
+    lookup: &Lookup<'_>,
     e: &Expr,
 ) -> Result<Result<Value, LineKind>, NoMemory>
     requires { IsRead e.now }
-    ensures { IfOk result (λ value. value ≡ contexts.value_of (context_of scene.now) e.now) }
+    ensures { IfOk result (λ value. value ≡ contexts.value_of (context_of lookup.now) e.now) }
 {
-    told_value(final_value(alloc, e, scene.names, scene.line))
+    told_value(final_value(alloc, e, lookup.names, lookup.line))
 }
 
 /// A value as a number.
@@ -39,43 +39,43 @@ fn as_number(value: Result<Value, LineKind>) -> Result<u32, LineKind>
     }
 }
 
-/// The number of an expression with what the scene finds.
+/// The number of an expression with what the lookup finds.
 pub fn number_there(
     alloc: Global,
-    scene: &Scene<'_>,
+    lookup: &Lookup<'_>,
     e: &Expr,
 ) -> Result<Result<u32, LineKind>, NoMemory>
     requires { IsRead e.now }
-    ensures { IfOk result (λ number. number ≡ contexts.number_in (context_of scene.now) e.now) }
+    ensures { IfOk result (λ number. number ≡ contexts.number_in (context_of lookup.now) e.now) }
 {
-    let value = value_there(alloc, scene, e)?;
+    let value = value_there(alloc, lookup, e)?;
     Ok(as_number(value))
 }
 
 /// The value of an expression with all names of the source, or the kind of its fault.
 pub fn value_of(
     alloc: Global,
-    scene: &Scene<'_>,
+    lookup: &Lookup<'_>,
     e: &Expr,
 ) -> Result<Result<Value, LineKind>, NoMemory>
     requires { IsRead e.now }
-    ensures { IfOk result (λ value. (c : Context) → Shows scene.now c → value
+    ensures { IfOk result (λ value. (c : Context) → Shows lookup.now c → value
         ≡ contexts.value_of c e.now) }
 {
-    value_there(alloc, scene, e)
+    value_there(alloc, lookup, e)
 }
 
 /// The number of an expression with all names of the source, or the kind of its fault.
 pub fn number_in(
     alloc: Global,
-    scene: &Scene<'_>,
+    lookup: &Lookup<'_>,
     e: &Expr,
 ) -> Result<Result<u32, LineKind>, NoMemory>
     requires { IsRead e.now }
-    ensures { IfOk result (λ number. (c : Context) → Shows scene.now c → number
+    ensures { IfOk result (λ number. (c : Context) → Shows lookup.now c → number
         ≡ contexts.number_in c e.now) }
 {
-    number_there(alloc, scene, e)
+    number_there(alloc, lookup, e)
 }
 
 /// Whether a number that is read as signed isn't negative.
@@ -124,12 +124,12 @@ fn in_own_area(area: Option<u32>, place: Option<(u32, u32)>, plus: u32) -> Resul
 }
 
 /// The offset of a label in the line's own area.
-pub fn own_offset(scene: &Scene<'_>, value: Result<Value, LineKind>) -> Result<u32, LineKind>
-    ensures { result ≡ contexts.own_offset (context_of scene.now) value }
+pub fn own_offset(lookup: &Lookup<'_>, value: Result<Value, LineKind>) -> Result<u32, LineKind>
+    ensures { result ≡ contexts.own_offset (context_of lookup.now) value }
 {
     match value {
         Ok(Value::Place { symbol, plus }) => {
-            in_own_area(scene.line.place.area, stands_at(scene, &symbol), plus)
+            in_own_area(lookup.line.place.area, stands_at(lookup, &symbol), plus)
         }
         Ok(_) => Err(LineKind::WrongType),
         Err(kind) => Err(kind),
@@ -137,9 +137,9 @@ pub fn own_offset(scene: &Scene<'_>, value: Result<Value, LineKind>) -> Result<u
 }
 
 /// How far an offset lies behind pc as the line's instruction reads it, modulo 2^32.
-pub fn from_pc(scene: &Scene<'_>, offset: u32) -> u32
-    ensures { result ≡ contexts.from_pc (context_of scene.now) offset }
+pub fn from_pc(lookup: &Lookup<'_>, offset: u32) -> u32
+    ensures { result ≡ contexts.from_pc (context_of lookup.now) offset }
 {
-    let back = 0x1_0000_0000_u64.saturating_sub(u64::from(scene.line.place.offset) + 8);
+    let back = 0x1_0000_0000_u64.saturating_sub(u64::from(lookup.line.place.offset) + 8);
     ((u64::from(offset) + back) % 0x1_0000_0000) as u32
 }

@@ -63,7 +63,7 @@ reaches d s before old new next offset label h steps standing enters starts map 
     let code : next.code ≡ code_behind (s ∷ statements_of before) = ap (λ (b : Behind). b.code) after in
     record {
       at = record { standing = standing ∙ after; areas = areas; map = map ∙ h.map; names = names ∙ h.names; known = λ k. h.known (sym known ∙ k) };
-      spot = record {
+      location = record {
         area = areas.here;
         offset = starts pieces areas.ends ∙ ap (λ a. aligned_end a pieces old.behind.thumb s.what) areas.here ∙ ap (λ t. aligned_end area pieces t s.what) thumb;
         map = h.map;

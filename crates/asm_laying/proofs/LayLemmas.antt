@@ -28,13 +28,13 @@ use Rattle.asm_offsets.specs.Running.{Standing, piece, IsStanding, IsBehind, IsP
 use Rattle.asm_offsets.specs.Laws.{ExtentsArePlaceable}
 use Rattle.asm_expr.specs.Places.{number_in}
 use Rattle.asm_laying.specs.declared.finding.Equated.{Equated}
-use Rattle.asm_laying.specs.declared.finding.Spot.{Spot}
+use Rattle.asm_laying.specs.declared.finding.Location.{Location}
 use Rattle.asm_laying.specs.declared.laying.Laying.{Laying}
 use Rattle.asm_laying.specs.declared.laying.Placed.{Placed}
 use Rattle.asm_names.specs.declared.lines.Place.{Place}
 use Rattle.asm_names.specs.Defining.{own_entry}
 use Rattle.asm_names.specs.Steps.{one_entry}
-use Rattle.asm_laying.specs.Laying.{IsAt, IsSpot, AreNeeded, Reaches, OkExtent, equal_names, told_of, IsLaid, IsPlaced as IsPlacedLine, Tells}
+use Rattle.asm_laying.specs.Laying.{IsAt, IsLocation, AreNeeded, Reaches, OkExtent, equal_names, told_of, IsLaid, IsPlaced as IsPlacedLine, Tells}
 use Rattle.asm_laying.specs.Reading.{most_bytes, capped, all_capped, coded, map_after, said_number, string_marks}
 use Rattle.asm_laying.proofs.SeeLemmas.{own_there}
 
@@ -203,11 +203,11 @@ fits_low a b c d h g f = le-ltb area_bytes (c + d) (omega arith)
 fits_not : (a b c d : ℕ) → a ≡ c → b ≡ d → 2 ^ 24 < a + b → nat_lt area_bytes (c + d) ≡ true
 fits_not a b c d h g f = lt-ltb area_bytes (c + d) (omega arith)
 
-pub told_too_large : (d : List LaidName) (s : Statement) (before : List LaidLine) (spot : Spot) (x : Code) (map : ℕ) (equal : Equated) → IsSpot s before spot
-    → AreNeeded d spot (names_behind d s before) s (Ok x) (Ok map) equal
-    → 2 ^ 24 < offset_of spot.area (pieces_of before) (extent_of_code x) + size_behind spot.area (pieces_of before) (extent_of_code x)
+pub told_too_large : (d : List LaidName) (s : Statement) (before : List LaidLine) (location : Location) (x : Code) (map : ℕ) (equal : Equated) → IsLocation s before location
+    → AreNeeded d location (names_behind d s before) s (Ok x) (Ok map) equal
+    → 2 ^ 24 < offset_of location.area (pieces_of before) (extent_of_code x) + size_behind location.area (pieces_of before) (extent_of_code x)
     → told_of (laid_behind d s before) ≡ Some TooMany
-told_too_large d s before spot x map equal sp found large =
+told_too_large d s before location x map equal sp found large =
     let area = area_behind (s ∷ statements_of before) in
     let pieces = pieces_of before in
     let r = names_behind d s before in
@@ -216,7 +216,7 @@ told_too_large d s before spot x map equal sp found large =
     large_all area e.0 pieces
     (subst (λ c. 2 ^ 24 < offset_of area pieces c + size_behind area pieces c) e.2
     (subst (λ a. 2 ^ 24 < offset_of a pieces (extent_of_code x) + size_behind a pieces (extent_of_code x)) sp.area large)) in
-    told_large d s before e.0 spot.map map true e.1 (sym found.after_is)
+    told_large d s before e.0 location.map map true e.1 (sym found.after_is)
     (fits_not (offset_of area pieces e.0) (size_behind area pieces e.0) (laid_behind d s before).offset (laid_behind d s before).size
     (sym (starts_there area pieces r s.what e.0 e.1)) (ap (λ q. size_behind area pieces (taken q)) (sym e.1)) over)
 
@@ -228,20 +228,20 @@ both_hold : (a b : Bool) → (a && b) ≡ true → (a ≡ true) × (b ≡ true)
 both_hold true b h = (refl, h)
 both_hold false b h = absurd (cc)
 
-abbrev placed_at : Spot → ℕ → ℕ → Place
-placed_at spot offset size =
-    record { area = spot.area; offset = offset; size = size; thumb = spot.thumb; thumb_label = spot.label_thumb; map = spot.map }
+abbrev placed_at : Location → ℕ → ℕ → Place
+placed_at location offset size =
+    record { area = location.area; offset = offset; size = size; thumb = location.thumb; thumb_label = location.label_thumb; map = location.map }
 
-pub lays : (d : List LaidName) (s : Statement) (before : List LaidLine) (old new : Laying) (spot : Spot) (x : Code) (map : ℕ) (equal : Equated) (p : Put)
-    → IsAt d s before old → IsSpot s before spot
-    → AreNeeded d spot (names_behind d s before) s (Ok x) (Ok map) equal
-    → IsPlaced spot.area (extent_of_code x) (pieces_of before) new.areas.ends p → length new.areas.ends ≡ length old.areas.ends
+pub lays : (d : List LaidName) (s : Statement) (before : List LaidLine) (old new : Laying) (location : Location) (x : Code) (map : ℕ) (equal : Equated) (p : Put)
+    → IsAt d s before old → IsLocation s before location
+    → AreNeeded d location (names_behind d s before) s (Ok x) (Ok map) equal
+    → IsPlaced location.area (extent_of_code x) (pieces_of before) new.areas.ends p → length new.areas.ends ≡ length old.areas.ends
     → new.behind ≡ old.behind → new.map ≡ map → new.areas.numbers ≡ old.areas.numbers → new.areas.count ≡ old.areas.count → new.areas.current ≡ old.areas.current
-    → new.names ≡ old.names ++ one_entry (own_entry (defined_by s) spot.area spot.offset (Some p.size) spot.label_thumb spot.map) ++ one_entry equal.entry ++ imported_entries (imported_in s.what)
+    → new.names ≡ old.names ++ one_entry (own_entry (defined_by s) location.area location.offset (Some p.size) location.label_thumb location.map) ++ one_entry equal.entry ++ imported_entries (imported_in s.what)
     → new.all_known ≡ (old.all_known && equal.known)
     → (strings : List Bool) → strings ≡ string_marks (names_behind d s before) s.what
-    → IsLaid d (laid_behind d s before) before new (record { place = placed_at spot p.offset p.size; literal = p.literal; strings = strings })
-lays d s before old new spot x map equal p at sp found placed long behind mapped numbers count current names known strings marked =
+    → IsLaid d (laid_behind d s before) before new (record { place = placed_at location p.offset p.size; literal = p.literal; strings = strings })
+lays d s before old new location x map equal p at sp found placed long behind mapped numbers count current names known strings marked =
     let area = area_behind (s ∷ statements_of before) in
     let pieces = pieces_of before in
     let r = names_behind d s before in
@@ -253,14 +253,14 @@ lays d s before old new spot x map equal p at sp found placed long behind mapped
     (subst (λ a. IsPlaced a (extent_of_code x) pieces new.areas.ends p) sp.area placed)) in
     let offset : p.offset ≡ l.offset = here.offset ∙ sym (starts_there area pieces r s.what e.0 e.1) in
     let size : p.size ≡ l.size = here.size ∙ ap (λ q. size_behind area pieces (taken q)) (sym e.1) in
-    let mine = one_entry (own_entry (defined_by s) spot.area spot.offset (Some p.size) spot.label_thumb spot.map) in
+    let mine = one_entry (own_entry (defined_by s) location.area location.offset (Some p.size) location.label_thumb location.map) in
     let import = imported_entries (imported_in s.what) in
     let own_eq : mine ≡ one_entry (own_entry (defined_by s) area (offset_behind s before) (Some l.size) (is_thumb_label s (statements_of before)) (map_behind before)) =
-    ap one_entry (own_there (defined_by s) spot.area area spot.offset (offset_behind s before) (Some p.size) (Some l.size) spot.label_thumb (is_thumb_label s (statements_of before)) spot.map (map_behind before)
+    ap one_entry (own_there (defined_by s) location.area area location.offset (offset_behind s before) (Some p.size) (Some l.size) location.label_thumb (is_thumb_label s (statements_of before)) location.map (map_behind before)
     sp.area sp.offset (ap Some size) sp.label_thumb sp.map) in
     let equal_eq : one_entry equal.entry ≡ equal_names d area r (defined_by s) = found.equal_is.entry ∙ ap (λ a. equal_names d a r (defined_by s)) sp.area in
     record {
-      told = told_large d s before e.0 spot.map map false e.1 (sym found.after_is) (fits_low p.offset p.size l.offset l.size offset size here.fits);
+      told = told_large d s before e.0 location.map map false e.1 (sym found.after_is) (fits_low p.offset p.size l.offset l.size offset size here.fits);
       place = record { area = sp.area; offset = offset; size = size; thumb = sp.thumb; thumb_label = sp.label_thumb; map = sp.map };
       literal = here.literal ∙ ap (λ q. entry_behind area pieces (taken q)) (sym e.1);
       strings = marked;
@@ -274,7 +274,7 @@ lays d s before old new spot x map equal p at sp found placed long behind mapped
           each = long ∙ at.areas.each ∙ sym count;
           ends = subst (λ q. IsBehind (piece area (taken q) ∷ pieces) new.areas.ends) (sym e.1) here.behind;
         };
-        map = mapped ∙ map_from_is spot.map map r s.what (sym found.after_is) ∙ ap (λ m. map_from m r s.what) sp.map;
+        map = mapped ∙ map_from_is location.map map r s.what (sym found.after_is) ∙ ap (λ m. map_from m r s.what) sp.map;
         names =
             names ∙ ap (λ ns. ns ++ mine ++ one_entry equal.entry ++ import) at.names
             ∙ names_more d s before e.0 mine (one_entry equal.entry) e.1 own_eq equal_eq;
@@ -284,26 +284,26 @@ lays d s before old new spot x map equal p at sp found placed long behind mapped
 
 -- ---- other answers
 
-pub told_no_extent : (d : List LaidName) (s : Statement) (before : List LaidLine) (spot : Spot) (k : LineKind) (map : Result ℕ LineKind) (equal : Equated)
-    → AreNeeded d spot (names_behind d s before) s (Err k) map equal
+pub told_no_extent : (d : List LaidName) (s : Statement) (before : List LaidLine) (location : Location) (k : LineKind) (map : Result ℕ LineKind) (equal : Equated)
+    → AreNeeded d location (names_behind d s before) s (Err k) map equal
     → told_of (laid_behind d s before) ≡ Some k
-told_no_extent d s before spot k map equal found = told_extent d s before k (fault_is k (extent_of (names_behind d s before) s.what) found.extent_is)
+told_no_extent d s before location k map equal found = told_extent d s before k (fault_is k (extent_of (names_behind d s before) s.what) found.extent_is)
 
-pub told_no_map : (d : List LaidName) (s : Statement) (before : List LaidLine) (spot : Spot) (x : Code) (k : LineKind) (equal : Equated)
-    → AreNeeded d spot (names_behind d s before) s (Ok x) (Err k) equal
+pub told_no_map : (d : List LaidName) (s : Statement) (before : List LaidLine) (location : Location) (x : Code) (k : LineKind) (equal : Equated)
+    → AreNeeded d location (names_behind d s before) s (Ok x) (Err k) equal
     → told_of (laid_behind d s before) ≡ Some k
-told_no_map d s before spot x k equal found =
+told_no_map d s before location x k equal found =
     let e = coded_is x (extent_of (names_behind d s before) s.what) found.extent_is in
-    told_map d s before e.0 spot.map k e.1 (sym found.after_is)
+    told_map d s before e.0 location.map k e.1 (sym found.after_is)
 
-pub may_place : (d : List LaidName) (s : Statement) (before : List LaidLine) (state : Laying) (spot : Spot) → Reaches d s before state spot → IsThere spot.area state.areas.ends
-may_place d s before state spot h = there_same state.areas.current spot.area state.areas.ends state.areas.ends (h.spot.area ∙ sym h.at.areas.here) refl h.at.areas.there
+pub may_place : (d : List LaidName) (s : Statement) (before : List LaidLine) (state : Laying) (location : Location) → Reaches d s before state location → IsThere location.area state.areas.ends
+may_place d s before state location h = there_same state.areas.current location.area state.areas.ends state.areas.ends (h.location.area ∙ sym h.at.areas.here) refl h.at.areas.there
 
 pub fits_all : ExtentsArePlaceable → (s : Names) (w : What) (r : Result Code LineKind) → coded r ≡ all_capped (extent_of s w) → OkExtent r
 fits_all law s w (Ok x) h = found_fits law s w x h
 fits_all law s w (Err k) h = tt
 
-pub tells : (d : List LaidName) (s : Statement) (before : List LaidLine) (spot : Spot) (number : Result ℕ LineKind) (placed : Result Placed LineKind) (state : Laying)
-    → IsSpot s before spot → number ≡ said_number (names_behind d s before) s.what → IsPlacedLine d (laid_behind d s before) before state placed
-    → Tells d (laid_behind d s before) before state (record { area = spot.area; thumb = spot.thumb; number = number; placed = placed })
-tells d s before spot number placed state sp h g = record { area = sp.area; thumb = sp.thumb; number = h; placed = g }
+pub tells : (d : List LaidName) (s : Statement) (before : List LaidLine) (location : Location) (number : Result ℕ LineKind) (placed : Result Placed LineKind) (state : Laying)
+    → IsLocation s before location → number ≡ said_number (names_behind d s before) s.what → IsPlacedLine d (laid_behind d s before) before state placed
+    → Tells d (laid_behind d s before) before state (record { area = location.area; thumb = location.thumb; number = number; placed = placed })
+tells d s before location number placed state sp h g = record { area = sp.area; thumb = sp.thumb; number = h; placed = g }

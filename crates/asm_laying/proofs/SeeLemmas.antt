@@ -1,4 +1,4 @@
--- What the expressions of a statement see at its spot.
+-- What the expressions of a statement see at its location.
 use Rattle.std.proofs.Common.{◌≡◌, ℕ, List, [], ◌∷◌, Bool, true, refl, sym, ap, ◌∙◌, subst, Option, Some, None}
 use Rattle.std.specs.Prelude.{Result, Ok, Err, IfOk}
 use Rattle.sdt_fault.specs.declared.NoMemory.{NoMemory}
@@ -26,8 +26,8 @@ use Rattle.asm_names.specs.Steps.{one_entry}
 use Rattle.said_model.specs.Said.{IsRead, WhatSaid}
 use Rattle.asm_laying.specs.declared.finding.Equated.{Equated}
 use Rattle.asm_laying.specs.declared.finding.Found.{Found}
-use Rattle.asm_laying.specs.declared.finding.Spot.{Spot}
-use Rattle.asm_laying.specs.Laying.{unsized_entry, names_shown, DefinedRead, IsEquated, IsFound, IsSpot}
+use Rattle.asm_laying.specs.declared.finding.Location.{Location}
+use Rattle.asm_laying.specs.Laying.{unsized_entry, names_shown, DefinedRead, IsEquated, IsFound, IsLocation}
 
 -- ---- the line's own name
 
@@ -44,9 +44,9 @@ pub own_there : (x : Defined) (a b : Option ℕ) (o p : ℕ) (n m : Option ℕ) 
     → own_entry x a o n t k ≡ own_entry x b p m u j
 own_there x a b o p n m t u k j e f g h i = rw (e, f, g, h, i) refl
 
--- ---- what is seen at the spot is what the line sees
+-- ---- what is seen at the location is what the line sees
 
-shown : (d : List LaidName) (s : Statement) (before : List LaidLine) (names : List LaidName) (own : Option LaidName) (p : Spot) → IsSpot s before p
+shown : (d : List LaidName) (s : Statement) (before : List LaidLine) (names : List LaidName) (own : Option LaidName) (p : Location) → IsLocation s before p
     → names ≡ seen_behind d (lines_of before) → own ≡ unsized_entry (defined_by s) p
     → names_shown d names (one_entry own) p ≡ names_behind d s before
 shown d s before names own p sp known owned =
@@ -56,7 +56,7 @@ shown d s before names own p sp known owned =
     ∙ own_is d (defined_by s) (area_behind (s ∷ statements_of before)) (offset_behind s before) None label (map_behind before) in
     rw (known, owns, sp.area, sp.offset, sp.map, sp.thumb) refl
 
-pub found_shown : (d : List LaidName) (s : Statement) (before : List LaidLine) (names : List LaidName) (own : Option LaidName) (p : Spot) (f : Found) → IsSpot s before p
+pub found_shown : (d : List LaidName) (s : Statement) (before : List LaidLine) (names : List LaidName) (own : Option LaidName) (p : Location) (f : Found) → IsLocation s before p
     → names ≡ seen_behind d (lines_of before) → own ≡ unsized_entry (defined_by s) p
     → IsFound d p (names_shown d names (one_entry own) p) s f → IsFound d p (names_behind d s before) s f
 found_shown d s before names own p f at known owned = subst (λ (x : Names). IsFound d p x s f) (shown d s before names own p at known owned)

@@ -25,7 +25,7 @@ use Rattle.layout_laws.specs.Final.{IsEqualKnown, AreEqualsKnown}
 use Rattle.said_model.specs.Said.{IsRead}
 use Rattle.asm_laying.specs.declared.finding.Equated.{Equated}
 use Rattle.asm_laying.specs.declared.finding.Found.{Found}
-use Rattle.asm_laying.specs.declared.finding.Spot.{Spot}
+use Rattle.asm_laying.specs.declared.finding.Location.{Location}
 use Rattle.asm_laying.specs.declared.laying.Ended.{Ended}
 use Rattle.asm_laying.specs.declared.laying.Laid.{Laid}
 use Rattle.asm_laying.specs.declared.laying.Laying.{Laying}
@@ -69,7 +69,7 @@ Ends state e = (declared : List LaidName) (before : List LaidLine) → IsLaying 
 -- ---- a statement more
 
 -- where a statement stands behind lines
-pub record IsSpot (s : Statement) (before : List LaidLine) (p : Spot) : Type 0 where
+pub record IsLocation (s : Statement) (before : List LaidLine) (p : Location) : Type 0 where
   pub area : p.area ≡ area_behind (s ∷ statements_of before)
   pub offset : p.offset ≡ offset_behind s before
   pub map : p.map ≡ map_behind before
@@ -84,12 +84,12 @@ pub record IsAt (declared : List LaidName) (s : Statement) (before : List LaidLi
   pub names : state.names ≡ seen_behind declared (lines_of before)
   pub known : state.all_known ≡ true → AreEqualsKnown before
 
-pub record Reaches (declared : List LaidName) (s : Statement) (before : List LaidLine) (state : Laying) (p : Spot) : Type 0 where
+pub record Reaches (declared : List LaidName) (s : Statement) (before : List LaidLine) (state : Laying) (p : Location) : Type 0 where
   pub at : IsAt declared s before state
-  pub spot : IsSpot s before p
+  pub location : IsLocation s before p
 
 -- a statement more is reached
-abbrev pub Enters : Statement → Laying → Laying → Spot → Type 0
+abbrev pub Enters : Statement → Laying → Laying → Location → Type 0
 Enters s old new p = (declared : List LaidName) (before : List LaidLine) → IsLaying declared before old → Reaches declared s before new p
 
 -- ---- what a statement's values are needed for
@@ -108,8 +108,8 @@ pub record IsEquated (names : List LaidName) (area : Option ℕ) (s : Names) (x 
   pub entry : one_entry q.entry ≡ equal_names names area s x
   pub known : q.known ≡ true → IsEqualKnown s x
 
--- the entry of a name at a spot, before the size of its statement is known
-abbrev pub unsized_entry : Defined → Spot → Option LaidName
+-- the entry of a name at a location, before the size of its statement is known
+abbrev pub unsized_entry : Defined → Location → Option LaidName
 unsized_entry x p = own_entry x p.area p.offset None p.label_thumb p.map
 
 -- the entry of a statement's own name, with the size of the statement, from the one without
@@ -123,24 +123,24 @@ abbrev pub with_entries : List LaidName → Option LaidName → Option LaidName 
 with_entries names own equal s = names ++ one_entry own ++ one_entry equal ++ imported_entries (imported_in s.what)
 
 -- what a statement takes up, the storage map behind it and its name for an expression
-pub record AreNeeded (names : List LaidName) (p : Spot) (s : Names) (statement : Statement) (extent : Result Code LineKind) (after : Result ℕ LineKind) (equal : Equated) : Type 0 where
+pub record AreNeeded (names : List LaidName) (p : Location) (s : Names) (statement : Statement) (extent : Result Code LineKind) (after : Result ℕ LineKind) (equal : Equated) : Type 0 where
   pub extent_is : coded extent ≡ all_capped (extent_of s statement.what)
   pub after_is : after ≡ map_after p.map s statement.what
   pub equal_is : IsEquated names p.area s (defined_by statement) equal
 
-pub record IsFound (names : List LaidName) (p : Spot) (s : Names) (statement : Statement) (f : Found) : Type 0 where
+pub record IsFound (names : List LaidName) (p : Location) (s : Names) (statement : Statement) (f : Found) : Type 0 where
   pub needed : AreNeeded names p s statement f.extent f.map f.equal
   pub number : f.number ≡ said_number s statement.what
   pub strings : f.strings ≡ string_marks s statement.what
 
--- what is found for a statement at a spot, where these names are known and its own besides
-abbrev pub Finds : List LaidName → List LaidName → Option LaidName → Spot → Statement → Found → Type 0
+-- what is found for a statement at a location, where these names are known and its own besides
+abbrev pub Finds : List LaidName → List LaidName → Option LaidName → Location → Statement → Found → Type 0
 Finds declared names own p s f =
-    (before : List LaidLine) → IsSpot s before p → names ≡ seen_behind declared (lines_of before) → own ≡ unsized_entry (defined_by s) p
+    (before : List LaidLine) → IsLocation s before p → names ≡ seen_behind declared (lines_of before) → own ≡ unsized_entry (defined_by s) p
     → IsFound declared p (names_behind declared s before) s f
 
--- what an expression sees at a spot, where a source has these names, those are known, and its line's own besides
-abbrev pub names_shown : List LaidName → List LaidName → List LaidName → Spot → Names
+-- what an expression sees at a location, where a source has these names, those are known, and its line's own besides
+abbrev pub names_shown : List LaidName → List LaidName → List LaidName → Location → Names
 names_shown d seen own p = record { list = seen ++ own ++ d; area = p.area; offset = p.offset; map = p.map; thumb = p.thumb }
 
 abbrev pub OkExtent : Result Code LineKind → Type 0
@@ -167,7 +167,7 @@ IsPlaced declared l before state (Ok p) = IsLaid declared l before state p
 IsPlaced declared l before state (Err kind) = told_of l ≡ Some kind
 
 -- a statement that is reached gets its place, by what it needs of values
-abbrev pub Puts : Statement → Spot → Result Code LineKind → Result ℕ LineKind → Option LaidName → Equated → List Bool → Laying → Laying
+abbrev pub Puts : Statement → Location → Result Code LineKind → Result ℕ LineKind → Option LaidName → Equated → List Bool → Laying → Laying
     → Result (Result Placed LineKind) NoMemory → Type 0
 Puts s p extent map own equal strings old new result =
     (declared : List LaidName) (before : List LaidLine) → Reaches declared s before old p

@@ -23,7 +23,7 @@ use std::alloc::Global;
 
 /// Where a statement stands.
 #[derive(Clone, Copy, Debug)]
-pub struct Spot {
+pub struct Location {
     pub area: Option<u32>,
     pub offset: u32,
     /// The storage map before the statement.
@@ -108,50 +108,50 @@ fn equal_there(
 pub fn unsized_entry(
     alloc: Global,
     statement: &Statement,
-    spot: &Spot,
+    location: &Location,
 ) -> Result<Option<LaidName>, NoMemory>
     ensures { IfOk result (λ entry. entry
-        ≡ unsized_entry (labels.defined_by statement.now) spot.now) }
+        ≡ unsized_entry (labels.defined_by statement.now) location.now) }
 {
     let defines = defined_by(statement);
     own_entry(
         alloc,
         &defines,
-        spot.area,
-        spot.offset,
+        location.area,
+        location.offset,
         None,
-        spot.label_thumb,
-        spot.map,
+        location.label_thumb,
+        location.map,
     )
 }
 
-/// What a statement at a spot needs, behind the lines that define these names.
+/// What a statement at a location needs, behind the lines that define these names.
 pub fn find(
     alloc: Global,
     names: &KnownNames,
     declared: &KnownNames,
     own: Option<&LaidName>,
-    spot: &Spot,
+    location: &Location,
     statement: &Statement,
 ) -> Result<Found, NoMemory>
     requires { IsSaid statement.now }
     ensures { IfOk result
         (λ found. Finds declared.now names.now
-        (option_copied own.entry) spot.now statement.now found) }
+        (option_copied own.entry) location.now statement.now found) }
 {
     let seen = Seen {
         names,
         own,
         later: Some(declared),
-        area: spot.area,
-        offset: spot.offset,
-        map: spot.map,
-        thumb: spot.thumb,
+        area: location.area,
+        offset: location.offset,
+        map: location.map,
+        thumb: location.thumb,
     };
     let defines = defined_by(statement);
     let equal = equal_there(alloc, declared, &seen, &defines)?;
     let Taken { extent, strings } = extent_of(alloc, &seen, &statement.what)?;
-    let map = map_after(alloc, spot.map, &seen, &statement.what)?;
+    let map = map_after(alloc, location.map, &seen, &statement.what)?;
     let number = said_number(alloc, &statement.what, &seen)?;
     Ok(Found {
         extent,

@@ -15,7 +15,7 @@ ghost use Rattle.asm_laying.specs.Reading.{string_marks};
 use crate::areas::Areas;
 use crate::behind::{Behind, START};
 use crate::declarations::is_thumb_label;
-use crate::finding::{Equated, Found, Spot, find, unsized_entry};
+use crate::finding::{Equated, Found, Location, find, unsized_entry};
 use asm_model::{LaidName, Statement};
 use asm_names::defining::{Defines, defined_by};
 use asm_names::listing::{add_entry, add_imported};
@@ -131,9 +131,9 @@ impl Laying {
     }
 
     /// Reaches a statement: its area and its offset.
-    fn enter(&mut self, alloc: Global, statement: &Statement) -> Result<Spot, NoMemory>
+    fn enter(&mut self, alloc: Global, statement: &Statement) -> Result<Location, NoMemory>
         requires { laying.MayStep self.old }
-        ensures { IfOk result (λ spot. laying.Enters statement.now self.old self.new spot) }
+        ensures { IfOk result (λ location. laying.Enters statement.now self.old self.new location) }
     {
         let behind = self.behind;
         let next = behind.stepped(&statement.what);
@@ -141,7 +141,7 @@ impl Laying {
         let offset = self.areas.start(&statement.what, behind.thumb);
         self.behind = next;
         let label_thumb = is_thumb_label(behind.thumb, next.code);
-        Ok(Spot {
+        Ok(Location {
             area: self.areas.current,
             offset,
             map: self.map,
@@ -155,19 +155,19 @@ impl Laying {
         &mut self,
         alloc: Global,
         statement: &Statement,
-        spot: &Spot,
+        location: &Location,
         extent: Extent,
         map: u32,
         own: Option<LaidName>,
         equal: Equated,
         strings: Listed<bool>,
     ) -> Result<Result<Placed, LineKind>, NoMemory>
-        requires there { IsThere spot.now.area self.old.areas.ends }
+        requires there { IsThere location.now.area self.old.areas.ends }
         requires extent { IsExtent (extent_of_code extent) }
-        ensures { laying.Puts statement.now spot.now (Ok extent)
+        ensures { laying.Puts statement.now location.now (Ok extent)
             (Ok map) own equal strings self.old self.new result }
     {
-        let placed = self.areas.ends.place(spot.area, extent)?;
+        let placed = self.areas.ends.place(location.area, extent)?;
         match placed {
             Err(TooLarge) => Ok(Err(LineKind::TooMany)),
             Ok(placed) => {
@@ -178,12 +178,12 @@ impl Laying {
                 add_names(&mut self.names, alloc, statement, own, entry)?;
                 Ok(Ok(Placed {
                     place: Place {
-                        area: spot.area,
+                        area: location.area,
                         offset: placed.offset,
                         size: placed.size,
-                        thumb: spot.thumb,
-                        thumb_label: spot.label_thumb,
-                        map: spot.map,
+                        thumb: location.thumb,
+                        thumb_label: location.label_thumb,
+                        map: location.map,
                     },
                     literal: placed.literal,
                     strings,
@@ -197,21 +197,21 @@ impl Laying {
         &mut self,
         alloc: Global,
         statement: &Statement,
-        spot: &Spot,
+        location: &Location,
         extent: Extent,
         map: Result<u32, LineKind>,
         own: Option<LaidName>,
         equal: Equated,
         strings: Listed<bool>,
     ) -> Result<Result<Placed, LineKind>, NoMemory>
-        requires there { IsThere spot.now.area self.old.areas.ends }
+        requires there { IsThere location.now.area self.old.areas.ends }
         requires extent { IsExtent (extent_of_code extent) }
-        ensures { laying.Puts statement.now spot.now
+        ensures { laying.Puts statement.now location.now
             (Ok extent) map own equal strings self.old self.new result }
     {
         match map {
             Err(kind) => Ok(Err(kind)),
-            Ok(map) => self.put(alloc, statement, spot, extent, map, own, equal, strings),
+            Ok(map) => self.put(alloc, statement, location, extent, map, own, equal, strings),
         }
     }
 
@@ -220,21 +220,23 @@ impl Laying {
         &mut self,
         alloc: Global,
         statement: &Statement,
-        spot: &Spot,
+        location: &Location,
         extent: Result<Extent, LineKind>,
         map: Result<u32, LineKind>,
         own: Option<LaidName>,
         equal: Equated,
         strings: Listed<bool>,
     ) -> Result<Result<Placed, LineKind>, NoMemory>
-        requires there { IsThere spot.now.area self.old.areas.ends }
+        requires there { IsThere location.now.area self.old.areas.ends }
         requires extent { laying.OkExtent extent }
-        ensures { laying.Puts statement.now spot.now extent map own equal strings self.old self.new
-            result }
+        ensures { laying.Puts statement.now location.now extent map own equal strings
+            self.old self.new result }
     {
         match extent {
             Err(kind) => Ok(Err(kind)),
-            Ok(extent) => self.settle_map(alloc, statement, spot, extent, map, own, equal, strings),
+            Ok(extent) => self.settle_map(
+                alloc, statement, location, extent, map, own, equal, strings,
+            ),
         }
     }
 
@@ -268,9 +270,16 @@ impl Laying {
         ensures { laying.LaysNext declared.now statement.now self.old self.new result }
     {
         extents_are_placeable();
-        let spot = self.enter(alloc, statement)?;
-        let own = unsized_entry(alloc, statement, &spot)?;
-        let found = find(alloc, &self.names, declared, own.as_ref(), &spot, statement)?;
+        let location = self.enter(alloc, statement)?;
+        let own = unsized_entry(alloc, statement, &location)?;
+        let found = find(
+            alloc,
+            &self.names,
+            declared,
+            own.as_ref(),
+            &location,
+            statement,
+        )?;
         let Found {
             extent,
             map,
@@ -278,10 +287,12 @@ impl Laying {
             number,
             strings,
         } = found;
-        let placed = self.settle(alloc, statement, &spot, extent, map, own, equal, strings)?;
+        let placed = self.settle(
+            alloc, statement, &location, extent, map, own, equal, strings,
+        )?;
         Ok(Laid {
-            area: spot.area,
-            thumb: spot.thumb,
+            area: location.area,
+            thumb: location.thumb,
             number,
             placed,
         })

@@ -122,7 +122,11 @@ fn directive_number(
         ≡ said_number (seen_names seen.now) (kinds.Directive line.now)) }
 {
     match line {
-        DirectiveLine::Area { attributes, .. } => exponent_there(alloc, attributes.alignments.as_slice(), seen),
+        DirectiveLine::Area { attributes, .. } => exponent_there(
+            alloc,
+            attributes.alignments.as_slice(),
+            seen,
+        ),
         DirectiveLine::Rn { register } => given_there(alloc, register, seen),
         _ => Ok(Ok(0)),
     }

@@ -18,8 +18,8 @@ use Rattle.asm_model.specs.Extents.{Extent, Block, Padding, Loading, Pool}
 use Rattle.asm_model.specs.Symbols.{unless_placed, word_symbols, words_symbols, branch_symbols, arm_symbols, thumb_symbols, literal_value, literal_symbols, directive_symbols, symbols_in, listed_behind}
 use Rattle.source_model.specs.Contexts.{Context, sees, value_of}
 use Rattle.asm_names.specs.Lines.{line_of, Sees}
-use Rattle.asm_instructions.specs.declared.scenes.Scene.{Scene}
-use Rattle.asm_instructions.specs.Scenes.{context_of}
+use Rattle.asm_instructions.specs.declared.lookups.Lookup.{Lookup}
+use Rattle.asm_instructions.specs.Lookups.{context_of}
 use Rattle.asm_instructions.proofs.AlikeLemmas.{stands_alike}
 use Rattle.asm_instructions.proofs.ContextLemmas.{Alike, seen_alike}
 use Rattle.asm_units.specs.Literals.{literal_in}
@@ -78,11 +78,11 @@ module _ (a b : Context) (s : Alike a b) where
   statement_there e (what.Pseudo p) = literal_there e
   statement_there e (what.Directive l) = directive_alike l
 
--- the scene's context, at a line as its expressions see it
-abbrev at_line : Scene → SourceLine → Context
+-- the lookup's context, at a line as its expressions see it
+abbrev at_line : Lookup → SourceLine → Context
 at_line x f = record { names = x.names.now; line = f; registers = x.registers.now }
 
-pub line_answered : {A E : Type 0} (x : Scene) (literal : Option Value) (w : What) (old new : List (List ℕ)) (r : Result A E)
+pub line_answered : {A E : Type 0} (x : Lookup) (literal : Option Value) (w : What) (old new : List (List ℕ)) (r : Result A E)
     → OnOk r (new ≡ listed_behind old (statement_symbols x.names.now (line_of x.line.now) literal w))
     → OnOk r ((f : SourceLine) (e : Extent) → Sees x.line.now f → literal_in e ≡ literal → new ≡ listed_behind old (symbols_in x.names.now f e w))
 line_answered x literal w old new (Ok a) h = λ f e sight loaded.

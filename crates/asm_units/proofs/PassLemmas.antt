@@ -15,13 +15,13 @@ use Rattle.asm_model.proofs.SharedLemmas.{told_of_two}
 use Rattle.source_model.specs.Contexts.{Context, sees}
 use Rattle.source_model.specs.Units.{stored, units}
 use Rattle.source_model.specs.ValueKinds.{literal_kinds, statement_kinds, value_kinds}
-use Rattle.asm_units.specs.declared.beside.Beside.{Beside}
+use Rattle.asm_units.specs.declared.tables.LineTables.{LineTables}
 use Rattle.asm_units.specs.declared.emitted.Emitted.{Emitted as Code}
 use Rattle.asm_units.specs.declared.emitted.LineUnits.{LineUnits}
 use Rattle.asm_units.specs.Emitting.{all_emitted, emitted_of}
 use Rattle.asm_units.specs.Literals.{literal_in}
 use Rattle.asm_units.specs.Passing.{AreJoined, IsNumber, IsPassTwo}
-use Rattle.asm_units.specs.Showing.{ShowsBeside, ShowsNames}
+use Rattle.asm_units.specs.Showing.{ShowsTables, ShowsNames}
 use Rattle.asm_units.proofs.KindLemmas.{fault_mapped}
 
 -- ---- literals
@@ -33,10 +33,10 @@ loaded_kinds c data_names (Block m n) v e = absurd (cc)
 loaded_kinds c data_names (Padding m n) v e = absurd (cc)
 loaded_kinds c data_names Pool v e = absurd (cc)
 
--- what is beside a line shows a context's names
-pub names_shown : (x : Beside) (c : Context) (data_names : List (List ℕ)) (sizes : ℕ → ℕ) (s : Names) (word : Option ℕ) (w : What) → ShowsBeside x c data_names sizes s word w
-    → ShowsNames x.scene.names.now x.data.now x.scene.line.now.place.area c data_names
-names_shown x c data_names sizes s word w h = record { names = h.scene.names; area = sym h.scene.line.area; labels = h.labels }
+-- the tables of a line show a context's names
+pub names_shown : (x : LineTables) (c : Context) (data_names : List (List ℕ)) (sizes : ℕ → ℕ) (s : Names) (word : Option ℕ) (w : What) → ShowsTables x c data_names sizes s word w
+    → ShowsNames x.lookup.names.now x.data.now x.lookup.line.now.place.area c data_names
+names_shown x c data_names sizes s word w h = record { names = h.lookup.names; area = sym h.lookup.line.area; labels = h.labels }
 
 -- ---- all parts of a line
 

@@ -19,15 +19,15 @@ use Rattle.asm_model.specs.Extents.{value_there}
 use Rattle.asm_model.specs.Marks.{counts_one}
 use Rattle.source_model.specs.Contexts.{Context, sees, value_of}
 use Rattle.source_model.specs.Units.{Emitted, Bytes, Stored, placed, stored, word_units, half_units, byte_operand, byte_units, directive_units}
-use Rattle.asm_instructions.specs.Scenes.{context_of}
+use Rattle.asm_instructions.specs.Lookups.{context_of}
 use Rattle.asm_instructions.proofs.AlikeLemmas.{number_alike, stands_alike}
 use Rattle.asm_instructions.proofs.ContextLemmas.{Alike, shown_alike}
 use Rattle.asm_laying.specs.Reading.{is_words, marks, string_marks}
-use Rattle.asm_units.specs.declared.beside.Beside.{Beside}
+use Rattle.asm_units.specs.declared.tables.LineTables.{LineTables}
 use Rattle.asm_units.specs.declared.emitted.Emitted.{Emitted as Code}
 use Rattle.asm_units.specs.Emitting.{all_emitted}
 use Rattle.asm_units.specs.Marked.{marked_operand, marked_units, marked_directive}
-use Rattle.asm_units.specs.Showing.{ShowsBeside}
+use Rattle.asm_units.specs.Showing.{ShowsTables}
 
 -- ---- contexts that find the same
 
@@ -116,18 +116,18 @@ module _ (c : Context) (s : Names) (known : (e : Expr) (v : Value) → value_the
   directive_marked ds ms (line.Dcb es) e = rw e (bytes_marked es)
   directive_marked ds ms _ e = refl
 
-directive_shown : (x : Beside) (l : DirectiveLine) (us : Result (List Emitted) LineKind) (c : Context) (data_names : List (List ℕ)) (sizes : ℕ → ℕ) (s : Names) (word : Option ℕ)
-    → us ≡ marked_directive (context_of x.scene) x.data.now x.strings.now l
-    → ShowsBeside x c data_names sizes s word (what.Directive l) → us ≡ directive_units c data_names s l
+directive_shown : (x : LineTables) (l : DirectiveLine) (us : Result (List Emitted) LineKind) (c : Context) (data_names : List (List ℕ)) (sizes : ℕ → ℕ) (s : Names) (word : Option ℕ)
+    → us ≡ marked_directive (context_of x.lookup) x.data.now x.strings.now l
+    → ShowsTables x c data_names sizes s word (what.Directive l) → us ≡ directive_units c data_names s l
 directive_shown x l us c data_names sizes s word e h =
     e
-    ∙ directive_alike (context_of x.scene) c (shown_alike x.scene c h.scene) x.data.now data_names h.labels x.strings.now l
+    ∙ directive_alike (context_of x.lookup) c (shown_alike x.lookup c h.lookup) x.data.now data_names h.labels x.strings.now l
     ∙ directive_marked c s h.known data_names x.strings.now l h.strings
 
-pub directive_answered : {E : Type 0} (x : Beside) (l : DirectiveLine) (r : Result (Result (Vec Code) LineKind) E)
-    → IfOk r (λ us. all_emitted us ≡ marked_directive (context_of x.scene) x.data.now x.strings.now l)
+pub directive_answered : {E : Type 0} (x : LineTables) (l : DirectiveLine) (r : Result (Result (Vec Code) LineKind) E)
+    → IfOk r (λ us. all_emitted us ≡ marked_directive (context_of x.lookup) x.data.now x.strings.now l)
     → IfOk r
-    (λ us. (c : Context) (data_names : List (List ℕ)) (sizes : ℕ → ℕ) (s : Names) (word : Option ℕ) → ShowsBeside x c data_names sizes s word (what.Directive l)
+    (λ us. (c : Context) (data_names : List (List ℕ)) (sizes : ℕ → ℕ) (s : Names) (word : Option ℕ) → ShowsTables x c data_names sizes s word (what.Directive l)
     → all_emitted us ≡ directive_units c data_names s l)
 directive_answered x l (Ok us) e = λ c data_names sizes s word h. directive_shown x l (all_emitted us) c data_names sizes s word e h
 directive_answered x l (Err k) e = tt

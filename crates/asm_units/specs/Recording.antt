@@ -5,10 +5,10 @@ use Rattle.asm_model.specs.Forms.{same}
 use Rattle.asm_model.specs.Marks.{datum_names}
 use Rattle.source_model.specs.Objects.{Source, is_exported, is_weak, contents_of, holds_code}
 use Rattle.asm_sets.specs.Sets.{HaveSame}
-use Rattle.asm_units.specs.declared.records.Facts.{Facts}
+use Rattle.asm_units.specs.declared.records.SymbolFlags.{SymbolFlags}
 
--- the facts are those of a source
-pub record Shows (x : Facts) (s : Source) : Type 0 where
+-- the flags are those of a source
+pub record Shows (x : SymbolFlags) (s : Source) : Type 0 where
   pub names : x.names.now ≡ s.names
   pub exported : (q : List ℕ) → list_any (same q) x.exported.now ≡ is_exported s q
   pub weak : (q : List ℕ) → list_any (same q) x.weak.now ≡ is_weak s q

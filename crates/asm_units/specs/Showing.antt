@@ -10,9 +10,9 @@ use Rattle.asm_model.specs.Meaning.{stands_at}
 use Rattle.asm_model.specs.Extents.{value_there}
 use Rattle.source_model.specs.Contexts.{Context, sees, value_of}
 use Rattle.asm_sets.specs.Sets.{HaveSame}
-use Rattle.asm_instructions.specs.Scenes.{Shows}
+use Rattle.asm_instructions.specs.Lookups.{Shows}
 use Rattle.asm_laying.specs.Reading.{string_marks}
-use Rattle.asm_units.specs.declared.beside.Beside.{Beside}
+use Rattle.asm_units.specs.declared.tables.LineTables.{LineTables}
 
 -- a context has these names, and its line is of this area; these labels of a source are data
 pub record ShowsNames (all : List LaidName) (marked : List (List ℕ)) (own : Option ℕ) (c : Context) (data_names : List (List ℕ)) : Type 0 where
@@ -20,10 +20,10 @@ pub record ShowsNames (all : List LaidName) (marked : List (List ℕ)) (own : Op
   pub area : c.line.area ≡ own
   pub labels : HaveSame marked data_names
 
--- the scene and what is beside it show what a context says, with these labels that are data, these sizes of areas, what
+-- the tables of a line show what a context says, with these labels that are data, these sizes of areas, what
 -- the line sees, and the offset of its literal's word
-pub record ShowsBeside (x : Beside) (c : Context) (data_names : List (List ℕ)) (sizes : ℕ → ℕ) (s : Names) (word : Option ℕ) (w : What) : Type 0 where
-  pub scene : Shows x.scene c
+pub record ShowsTables (x : LineTables) (c : Context) (data_names : List (List ℕ)) (sizes : ℕ → ℕ) (s : Names) (word : Option ℕ) (w : What) : Type 0 where
+  pub lookup : Shows x.lookup c
   pub labels : HaveSame x.data.now data_names
   pub measured : (area n : ℕ) → slice_get x.sizes.now area ≡ Some n → n ≡ sizes area
   -- each place is in an area that has a size
@@ -34,5 +34,5 @@ pub record ShowsBeside (x : Beside) (c : Context) (data_names : List (List ℕ))
   pub known : (e : Expr) (v : Value) → value_there s e ≡ Ok v → value_of c e ≡ Ok v
 
 -- the size of an area; 0 of one that isn't listed
-abbrev pub sizes_of : Beside → ℕ → ℕ
+abbrev pub sizes_of : LineTables → ℕ → ℕ
 sizes_of x area = slice_index x.sizes.now area

@@ -7,13 +7,13 @@ ghost use Rattle.sdt_fault.specs.declared.kinds.LineKind.TheVariants.{Forward};
 ghost use Rattle.said_model.specs.Said.{AllRead, IsRead};
 ghost use Rattle.source_model.specs.Contexts.{and_then, number_in, value_of};
 ghost use Rattle.source_model.specs.Units as units;
-ghost use Rattle.asm_instructions.specs.Scenes.{context_of};
+ghost use Rattle.asm_instructions.specs.Lookups.{context_of};
 ghost use Rattle.asm_units.specs.Emitting.{all_emitted, emitted_of};
 ghost use Rattle.asm_units.specs.Marked as marked;
 
-use crate::beside::Beside;
 use crate::emitted::Emitted;
 use crate::joining::{bytes_unit, push_next};
+use crate::tables::LineTables;
 use asm_instructions::values::{number_there, value_there};
 use asm_model::{Expr, Value};
 use sdt_fault::kinds::LineKind;
@@ -83,15 +83,15 @@ fn half_of(
 
 fn half(
     alloc: Global,
-    beside: &Beside<'_>,
+    tables: &LineTables<'_>,
     operand: &Expr,
 ) -> Result<Result<Emitted, LineKind>, NoMemory>
     requires { IsRead operand.now }
     ensures { IfOk result (λ half. mapped emitted_of half
         ≡ mapped (λ b. units.Bytes b)
-        (and_then (number_in (context_of beside.now.scene) operand.now) (units.narrow 2))) }
+        (and_then (number_in (context_of tables.now.lookup) operand.now) (units.narrow 2))) }
 {
-    let number = number_there(alloc, &beside.scene, operand)?;
+    let number = number_there(alloc, &tables.lookup, operand)?;
     let bytes = half_of(alloc, number)?;
     Ok(bytes_unit(bytes))
 }
@@ -99,12 +99,12 @@ fn half(
 /// The half-words of DCW.
 pub fn halves(
     alloc: Global,
-    beside: &Beside<'_>,
+    tables: &LineTables<'_>,
     operands: &[Expr],
 ) -> Result<Result<Vec<Emitted>, LineKind>, NoMemory>
     requires { AllRead operands.now }
     ensures { IfOk result (λ us. all_emitted us
-        ≡ units.half_units (context_of beside.now.scene) operands.now) }
+        ≡ units.half_units (context_of tables.now.lookup) operands.now) }
 {
     let mut so_far = Ok(Vec::new(alloc));
     let mut left = operands;
@@ -112,7 +112,7 @@ pub fn halves(
         match left {
             [] => return Ok(so_far),
             [operand, behind @ ..] => {
-                let next = half(alloc, beside, operand)?;
+                let next = half(alloc, tables, operand)?;
                 so_far = push_next(so_far, next)?;
                 left = behind;
             }
@@ -147,16 +147,16 @@ fn operand_of(
 
 fn operand_bytes(
     alloc: Global,
-    beside: &Beside<'_>,
+    tables: &LineTables<'_>,
     mark: bool,
     operand: &Expr,
 ) -> Result<Result<Emitted, LineKind>, NoMemory>
     requires { IsRead operand.now }
     ensures { IfOk result (λ bytes. mapped emitted_of bytes
         ≡ mapped (λ b. units.Bytes b)
-        (marked.marked_operand mark (value_of (context_of beside.now.scene) operand.now))) }
+        (marked.marked_operand mark (value_of (context_of tables.now.lookup) operand.now))) }
 {
-    let value = value_there(alloc, &beside.scene, operand)?;
+    let value = value_there(alloc, &tables.lookup, operand)?;
     let bytes = operand_of(alloc, mark, value)?;
     Ok(bytes_unit(bytes))
 }
@@ -182,21 +182,21 @@ fn other_marks(marks: &[bool]) -> &[bool]
 /// The bytes of DCB.
 pub fn bytes(
     alloc: Global,
-    beside: &Beside<'_>,
+    tables: &LineTables<'_>,
     operands: &[Expr],
 ) -> Result<Result<Vec<Emitted>, LineKind>, NoMemory>
     requires { AllRead operands.now }
     ensures { IfOk result (λ us. all_emitted us
-        ≡ marked.marked_units (context_of beside.now.scene) beside.now.strings.now operands.now) }
+        ≡ marked.marked_units (context_of tables.now.lookup) tables.now.strings.now operands.now) }
 {
     let mut so_far = Ok(Vec::new(alloc));
-    let mut marks = beside.strings;
+    let mut marks = tables.strings;
     let mut left = operands;
     'operands: loop {
         match left {
             [] => return Ok(so_far),
             [operand, behind @ ..] => {
-                let next = operand_bytes(alloc, beside, first_mark(marks), operand)?;
+                let next = operand_bytes(alloc, tables, first_mark(marks), operand)?;
                 so_far = push_next(so_far, next)?;
                 marks = other_marks(marks);
                 left = behind;

@@ -8,11 +8,11 @@ ghost use Rattle.source_model.specs.Contexts.{Context};
 ghost use Rattle.source_model.specs.PseudoForms as pseudo;
 ghost use Rattle.source_model.specs.ThumbForms as halves;
 ghost use Rattle.source_model.specs.Units as units;
-ghost use Rattle.asm_instructions.specs.Scenes.{Shows};
+ghost use Rattle.asm_instructions.specs.Lookups.{Shows};
 ghost use Rattle.asm_units.specs.Emitting.{all_emitted, emitted_of};
 
-use crate::beside::Beside;
 use crate::emitted::Emitted;
+use crate::tables::LineTables;
 use arm_isa::ArmInstr;
 use asm_instructions::{
     arm_instruction, branch_symbol, link_symbol, pseudo_instructions, thumb_instruction,
@@ -59,16 +59,16 @@ fn instruction_unit(
 /// The instruction of a line of ARM state.
 pub fn arm(
     alloc: Global,
-    beside: &Beside<'_>,
+    tables: &LineTables<'_>,
     line: &ArmLine,
 ) -> Result<Result<Vec<Emitted>, LineKind>, NoMemory>
     requires { ArmSaid line.now }
-    ensures { IfOk result (λ us. (c : Context) → Shows beside.now.scene c → all_emitted us
+    ensures { IfOk result (λ us. (c : Context) → Shows tables.now.lookup c → all_emitted us
         ≡ mapped (λ i. units.Instruction i (units.branch_symbol c line.now) ∷ [])
         (forms.arm_instruction c line.now)) }
 {
-    let instruction = arm_instruction(alloc, &beside.scene, line)?;
-    let symbol = branch_symbol(alloc, &beside.scene, line)?;
+    let instruction = arm_instruction(alloc, &tables.lookup, line)?;
+    let symbol = branch_symbol(alloc, &tables.lookup, line)?;
     instruction_unit(alloc, instruction, symbol)
 }
 
@@ -140,16 +140,16 @@ fn code_units(
 /// What a line of Thumb state says.
 pub fn thumb(
     alloc: Global,
-    beside: &Beside<'_>,
+    tables: &LineTables<'_>,
     line: &ThumbLine,
 ) -> Result<Result<Vec<Emitted>, LineKind>, NoMemory>
     requires { ThumbSaid line.now }
-    ensures { IfOk result (λ us. (c : Context) → Shows beside.now.scene c → all_emitted us
+    ensures { IfOk result (λ us. (c : Context) → Shows tables.now.lookup c → all_emitted us
         ≡ mapped (λ i. units.code_unit (units.link_symbol c line.now) i ∷ [])
         (halves.thumb_instruction c line.now)) }
 {
-    let code = thumb_instruction(alloc, &beside.scene, line)?;
-    let symbol = link_symbol(alloc, &beside.scene, line)?;
+    let code = thumb_instruction(alloc, &tables.lookup, line)?;
+    let symbol = link_symbol(alloc, &tables.lookup, line)?;
     code_units(alloc, symbol, code)
 }
 
@@ -170,42 +170,42 @@ fn half_units(
 
 fn thumb_pseudo(
     alloc: Global,
-    beside: &Beside<'_>,
+    tables: &LineTables<'_>,
     line: &PseudoLine,
 ) -> Result<Result<Vec<Emitted>, LineKind>, NoMemory>
     requires { PseudoSaid line.now }
-    ensures { IfOk result (λ us. (c : Context) → Shows beside.now.scene c → all_emitted us
-        ≡ mapped (λ i. units.Half i ∷ []) (halves.thumb_pseudo c beside.now.word line.now)) }
+    ensures { IfOk result (λ us. (c : Context) → Shows tables.now.lookup c → all_emitted us
+        ≡ mapped (λ i. units.Half i ∷ []) (halves.thumb_pseudo c tables.now.word line.now)) }
 {
-    let instruction = thumb_pseudo_instruction(alloc, &beside.scene, beside.word, line)?;
+    let instruction = thumb_pseudo_instruction(alloc, &tables.lookup, tables.word, line)?;
     half_units(alloc, instruction)
 }
 
 fn arm_pseudo(
     alloc: Global,
-    beside: &Beside<'_>,
+    tables: &LineTables<'_>,
     line: &PseudoLine,
 ) -> Result<Result<Vec<Emitted>, LineKind>, NoMemory>
     requires { PseudoSaid line.now }
-    ensures { IfOk result (λ us. (c : Context) → Shows beside.now.scene c → all_emitted us
-        ≡ mapped units.instruction_units (pseudo.pseudo_instructions c beside.now.word line.now)) }
+    ensures { IfOk result (λ us. (c : Context) → Shows tables.now.lookup c → all_emitted us
+        ≡ mapped units.instruction_units (pseudo.pseudo_instructions c tables.now.word line.now)) }
 {
-    let instructions = pseudo_instructions(alloc, &beside.scene, beside.word, line)?;
+    let instructions = pseudo_instructions(alloc, &tables.lookup, tables.word, line)?;
     all_units(alloc, instructions)
 }
 
 /// The instructions of a pseudo-instruction, in its line's state.
 pub fn pseudo(
     alloc: Global,
-    beside: &Beside<'_>,
+    tables: &LineTables<'_>,
     line: &PseudoLine,
 ) -> Result<Result<Vec<Emitted>, LineKind>, NoMemory>
     requires { PseudoSaid line.now }
-    ensures { IfOk result (λ us. (c : Context) → Shows beside.now.scene c → all_emitted us
-        ≡ units.pseudo_units c.line.thumb c beside.now.word line.now) }
+    ensures { IfOk result (λ us. (c : Context) → Shows tables.now.lookup c → all_emitted us
+        ≡ units.pseudo_units c.line.thumb c tables.now.word line.now) }
 {
-    if beside.scene.line.place.thumb {
-        return thumb_pseudo(alloc, beside, line);
+    if tables.lookup.line.place.thumb {
+        return thumb_pseudo(alloc, tables, line);
     }
-    arm_pseudo(alloc, beside, line)
+    arm_pseudo(alloc, tables, line)
 }

@@ -9,13 +9,13 @@ ghost use Rattle.asm_model.specs.LayoutKinds.{fault_kinds};
 ghost use Rattle.said_model.specs.Said.{DirectiveSaid, WhatSaid};
 ghost use Rattle.source_model.specs.Contexts.{Context};
 ghost use Rattle.source_model.specs.ValueKinds as model;
-ghost use Rattle.asm_instructions.specs.Scenes.{context_of};
-ghost use Rattle.asm_units.specs.Showing.{ShowsBeside, sizes_of};
+ghost use Rattle.asm_instructions.specs.Lookups.{context_of};
+ghost use Rattle.asm_units.specs.Showing.{ShowsTables, sizes_of};
 
-use crate::beside::Beside;
+use crate::tables::LineTables;
 use asm_expr::slots::{Slot, known};
 use asm_expr::told::kind_if;
-use asm_instructions::scenes::stands_at;
+use asm_instructions::lookups::stands_at;
 use asm_instructions::values::value_there;
 use asm_model::{DirectiveLine, Value, What};
 use sdt_fault::kinds::LineKind;
@@ -33,35 +33,35 @@ fn kind_unless(holds: bool, kind: LineKind) -> Option<LineKind>
 }
 
 /// The size of an area; 0 of one that isn't listed.
-fn size_of(beside: &Beside<'_>, area: u32) -> u32
-    ensures { result ≡ sizes_of beside.now area }
+fn size_of(tables: &LineTables<'_>, area: u32) -> u32
+    ensures { result ≡ sizes_of tables.now area }
 {
-    match beside.sizes.get(area as usize) {
+    match tables.sizes.get(area as usize) {
         None => 0,
         Some(size) => *size,
     }
 }
 
 /// Whether a place of this source is in its label's area, or at its end.
-fn lies_within(beside: &Beside<'_>, place: Option<(u32, u32)>, plus: u32) -> bool
-    ensures { result ≡ model.lies_within (sizes_of beside.now) place plus }
+fn lies_within(tables: &LineTables<'_>, place: Option<(u32, u32)>, plus: u32) -> bool
+    ensures { result ≡ model.lies_within (sizes_of tables.now) place plus }
 {
     match place {
         None => false,
-        Some((area, offset)) => offset.wrapping_add(plus) <= size_of(beside, area),
+        Some((area, offset)) => offset.wrapping_add(plus) <= size_of(tables, area),
     }
 }
 
 /// The kind of a name with a value, or with none, in EXPORT and KEEP.
-fn exported_kind(beside: &Beside<'_>, value: Result<Value, LineKind>) -> Option<LineKind>
+fn exported_kind(tables: &LineTables<'_>, value: Result<Value, LineKind>) -> Option<LineKind>
     ensures { result ≡ told_kind
-        (model.exported_kinds (context_of beside.now.scene) (sizes_of beside.now) value) }
+        (model.exported_kinds (context_of tables.now.lookup) (sizes_of tables.now) value) }
 {
     match value {
         Ok(Value::Number(_)) => None,
         Ok(Value::Place { symbol, plus }) => {
-            let place = stands_at(&beside.scene, &symbol);
-            kind_unless(lies_within(beside, place, plus), LineKind::WrongType)
+            let place = stands_at(&tables.lookup, &symbol);
+            kind_unless(lies_within(tables, place, plus), LineKind::WrongType)
         }
         _ => Some(LineKind::WrongType),
     }
@@ -70,18 +70,18 @@ fn exported_kind(beside: &Beside<'_>, value: Result<Value, LineKind>) -> Option<
 /// The kind of a name in EXPORT and KEEP.
 fn export_kind(
     alloc: Global,
-    beside: &Beside<'_>,
+    tables: &LineTables<'_>,
     name: &Text,
 ) -> Result<Option<LineKind>, NoMemory>
     ensures { IfOk result (λ kind. kind
-        ≡ told_kind (model.export_kinds (context_of beside.now.scene) (sizes_of beside.now)
-        (named_in name.now beside.now.scene.names.now))) }
+        ≡ told_kind (model.export_kinds (context_of tables.now.lookup) (sizes_of tables.now)
+        (named_in name.now tables.now.lookup.names.now))) }
 {
-    match beside.scene.names.find(name) {
+    match tables.lookup.names.find(name) {
         None => Ok(Some(LineKind::UnknownWord)),
         Some(entry) => {
             let value = known(alloc, Slot::Name(Some(entry)))?;
-            Ok(exported_kind(beside, value))
+            Ok(exported_kind(tables, value))
         }
     }
 }
@@ -108,23 +108,23 @@ fn assert_kind(value: Result<Value, LineKind>) -> Option<LineKind>
 
 fn directive_there(
     alloc: Global,
-    beside: &Beside<'_>,
+    tables: &LineTables<'_>,
     line: &DirectiveLine,
 ) -> Result<Option<LineKind>, NoMemory>
     requires { DirectiveSaid line.now }
     ensures { IfOk result (λ kind. kind
-        ≡ told_kind (model.directive_kinds (context_of beside.now.scene)
-        (sizes_of beside.now) line.now)) }
+        ≡ told_kind (model.directive_kinds (context_of tables.now.lookup)
+        (sizes_of tables.now) line.now)) }
 {
     match line {
-        DirectiveLine::Export { name } => export_kind(alloc, beside, name),
-        DirectiveLine::Keep { name } => export_kind(alloc, beside, name),
+        DirectiveLine::Export { name } => export_kind(alloc, tables, name),
+        DirectiveLine::Keep { name } => export_kind(alloc, tables, name),
         DirectiveLine::Equ { value } => {
-            let value = value_there(alloc, &beside.scene, value)?;
+            let value = value_there(alloc, &tables.lookup, value)?;
             Ok(value_fault(value))
         }
         DirectiveLine::Assert { condition } => {
-            let value = value_there(alloc, &beside.scene, condition)?;
+            let value = value_there(alloc, &tables.lookup, condition)?;
             Ok(assert_kind(value))
         }
         _ => Ok(None),
@@ -133,16 +133,16 @@ fn directive_there(
 
 fn statement_there(
     alloc: Global,
-    beside: &Beside<'_>,
+    tables: &LineTables<'_>,
     what: &What,
 ) -> Result<Option<LineKind>, NoMemory>
     requires { WhatSaid what.now }
     ensures { IfOk result (λ kind. kind
-        ≡ told_kind (model.statement_kinds (context_of beside.now.scene)
-        (sizes_of beside.now) what.now)) }
+        ≡ told_kind (model.statement_kinds (context_of tables.now.lookup)
+        (sizes_of tables.now) what.now)) }
 {
     match what {
-        What::Directive(line) => directive_there(alloc, beside, line),
+        What::Directive(line) => directive_there(alloc, tables, line),
         _ => Ok(None),
     }
 }
@@ -150,15 +150,15 @@ fn statement_there(
 /// The kind of a statement's own values: of a name for an expression, of EXPORT, KEEP and ASSERT.
 pub fn statement_kind(
     alloc: Global,
-    beside: &Beside<'_>,
+    tables: &LineTables<'_>,
     what: &What,
 ) -> Result<Option<LineKind>, NoMemory>
     requires { WhatSaid what.now }
     ensures { IfOk result
         (λ kind. (c : Context) (data_names : List (List ℕ)) (sizes : ℕ
         → ℕ) (s : Names) (word : Option ℕ)
-        → ShowsBeside beside.now c data_names sizes s word what.now → kind
+        → ShowsTables tables.now c data_names sizes s word what.now → kind
         ≡ told_kind (model.statement_kinds c sizes what.now)) }
 {
-    statement_there(alloc, beside, what)
+    statement_there(alloc, tables, what)
 }

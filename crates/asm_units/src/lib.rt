@@ -2,7 +2,6 @@
 //! order of their first need, with their records.
 #![tactic(auto)]
 
-pub mod beside;
 mod bytes;
 pub mod emitted;
 mod instructions;
@@ -16,12 +15,13 @@ pub mod records;
 mod second_pass;
 mod statements;
 pub mod symbols;
+pub mod tables;
 mod words;
 
-pub use crate::beside::Beside;
 pub use crate::emitted::{Emitted, LineUnits, Stored, Target};
 pub use crate::lines::add_line;
 pub use crate::literals::literal_stored;
-pub use crate::records::{Facts, record_of};
+pub use crate::records::{SymbolFlags, record_of};
 pub use crate::second_pass::pass_two;
 pub use crate::symbols::Symbols;
+pub use crate::tables::LineTables;

@@ -12,7 +12,7 @@ ghost use Rattle.asm_units.specs.Listing.{statement_symbols};
 
 use crate::needs::{add_branch, add_literal, add_name, add_words};
 use crate::symbols::Symbols;
-use asm_instructions::Scene;
+use asm_instructions::Lookup;
 use asm_model::{ArmLine, DirectiveLine, ThumbLine, Value, What};
 use sdt_fault::NoMemory;
 use std::alloc::Global;
@@ -20,20 +20,20 @@ use std::alloc::Global;
 fn add_directive(
     alloc: Global,
     symbols: &mut Symbols,
-    scene: &Scene<'_>,
+    lookup: &Lookup<'_>,
     line: &DirectiveLine,
 ) -> Result<(), NoMemory>
     requires { DirectiveSaid line.now }
     ensures { OnOk result (symbols.new
         ≡ model.listed_behind symbols.old
-        (model.directive_symbols scene.now.names.now (line_of scene.now.line.now) line.now)) }
+        (model.directive_symbols lookup.now.names.now (line_of lookup.now.line.now) line.now)) }
 {
     match line {
         DirectiveLine::Export { name } => add_name(alloc, symbols, name),
         DirectiveLine::Keep { name } => add_name(alloc, symbols, name),
         DirectiveLine::Import { name, weak: _ } => add_name(alloc, symbols, name),
-        DirectiveLine::Dcd { values } => add_words(alloc, symbols, scene, values.as_slice()),
-        DirectiveLine::Dcdu { values } => add_words(alloc, symbols, scene, values.as_slice()),
+        DirectiveLine::Dcd { values } => add_words(alloc, symbols, lookup, values.as_slice()),
+        DirectiveLine::Dcdu { values } => add_words(alloc, symbols, lookup, values.as_slice()),
         _ => Ok(()),
     }
 }
@@ -41,16 +41,16 @@ fn add_directive(
 fn add_arm(
     alloc: Global,
     symbols: &mut Symbols,
-    scene: &Scene<'_>,
+    lookup: &Lookup<'_>,
     line: &ArmLine,
 ) -> Result<(), NoMemory>
     requires { ArmSaid line.now }
     ensures { OnOk result (symbols.new
         ≡ model.listed_behind symbols.old
-        (model.arm_symbols scene.now.names.now (line_of scene.now.line.now) line.now)) }
+        (model.arm_symbols lookup.now.names.now (line_of lookup.now.line.now) line.now)) }
 {
     match line {
-        ArmLine::Branch { target, .. } => add_branch(alloc, symbols, scene, target),
+        ArmLine::Branch { target, .. } => add_branch(alloc, symbols, lookup, target),
         _ => Ok(()),
     }
 }
@@ -58,16 +58,16 @@ fn add_arm(
 fn add_thumb(
     alloc: Global,
     symbols: &mut Symbols,
-    scene: &Scene<'_>,
+    lookup: &Lookup<'_>,
     line: &ThumbLine,
 ) -> Result<(), NoMemory>
     requires { ThumbSaid line.now }
     ensures { OnOk result (symbols.new
         ≡ model.listed_behind symbols.old
-        (model.thumb_symbols scene.now.names.now (line_of scene.now.line.now) line.now)) }
+        (model.thumb_symbols lookup.now.names.now (line_of lookup.now.line.now) line.now)) }
 {
     match line {
-        ThumbLine::BranchLink { target } => add_branch(alloc, symbols, scene, target),
+        ThumbLine::BranchLink { target } => add_branch(alloc, symbols, lookup, target),
         _ => Ok(()),
     }
 }
@@ -75,37 +75,37 @@ fn add_thumb(
 fn add_statement(
     alloc: Global,
     symbols: &mut Symbols,
-    scene: &Scene<'_>,
+    lookup: &Lookup<'_>,
     literal: Option<&Value>,
     what: &What,
 ) -> Result<(), NoMemory>
     requires { WhatSaid what.now }
     ensures { OnOk result (symbols.new
         ≡ model.listed_behind symbols.old
-        (statement_symbols scene.now.names.now (line_of scene.now.line.now)
+        (statement_symbols lookup.now.names.now (line_of lookup.now.line.now)
         (option_copied literal.entry) what.now)) }
 {
     match what {
         What::Nothing => Ok(()),
-        What::Arm(line) => add_arm(alloc, symbols, scene, line),
-        What::Thumb(line) => add_thumb(alloc, symbols, scene, line),
-        What::Pseudo(_) => add_literal(alloc, symbols, scene, literal),
-        What::Directive(line) => add_directive(alloc, symbols, scene, line),
+        What::Arm(line) => add_arm(alloc, symbols, lookup, line),
+        What::Thumb(line) => add_thumb(alloc, symbols, lookup, line),
+        What::Pseudo(_) => add_literal(alloc, symbols, lookup, literal),
+        What::Directive(line) => add_directive(alloc, symbols, lookup, line),
     }
 }
 
-/// Adds the symbols that the scene's line names or needs, where its literal, if it has one, is this.
+/// Adds the symbols that the lookup's line names or needs, where its literal, if it has one, is this.
 pub fn add_line(
     alloc: Global,
     symbols: &mut Symbols,
-    scene: &Scene<'_>,
+    lookup: &Lookup<'_>,
     literal: Option<&Value>,
 ) -> Result<(), NoMemory>
-    requires { WhatSaid scene.now.line.now.statement.now.what }
-    ensures { OnOk result ((f : SourceLine) (e : Extent) → Sees scene.now.line.now f → literal_in e
+    requires { WhatSaid lookup.now.line.now.statement.now.what }
+    ensures { OnOk result ((f : SourceLine) (e : Extent) → Sees lookup.now.line.now f → literal_in e
         ≡ option_copied literal.entry → symbols.new
         ≡ model.listed_behind symbols.old
-        (model.symbols_in scene.now.names.now f e scene.now.line.now.statement.now.what)) }
+        (model.symbols_in lookup.now.names.now f e lookup.now.line.now.statement.now.what)) }
 {
-    add_statement(alloc, symbols, scene, literal, &scene.line.statement.what)
+    add_statement(alloc, symbols, lookup, literal, &lookup.line.statement.what)
 }

@@ -7,7 +7,7 @@ ghost use Rattle.asm_model.specs.Meaning.{named_in, value_of};
 ghost use Rattle.asm_model.specs.declared.names.Names.{Names};
 
 use asm_expr::slots::{Slot, known};
-use asm_instructions::scenes::entry_stands_at;
+use asm_instructions::lookups::entry_stands_at;
 use asm_model::Value;
 use asm_names::KnownNames;
 use sdt_fault::kinds::LineKind;

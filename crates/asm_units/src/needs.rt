@@ -8,14 +8,14 @@ ghost use Rattle.asm_model.specs.Symbols as model;
 ghost use Rattle.said_model.specs.Said.{AllRead, IsRead};
 ghost use Rattle.source_model.specs.Contexts.{sees, value_of};
 ghost use Rattle.asm_names.specs.Lines.{line_of};
-ghost use Rattle.asm_instructions.specs.Scenes.{context_of};
+ghost use Rattle.asm_instructions.specs.Lookups.{context_of};
 ghost use Rattle.asm_units.specs.Listing.{loaded_symbols, one_symbol};
 
 use crate::literals::literal_value;
 use crate::symbols::Symbols;
-use asm_instructions::Scene;
+use asm_instructions::Lookup;
 use asm_instructions::branches::target_symbol;
-use asm_instructions::scenes::stands_at;
+use asm_instructions::lookups::stands_at;
 use asm_instructions::values::value_there;
 use asm_model::{Expr, Value};
 use sdt_fault::kinds::LineKind;
@@ -43,25 +43,25 @@ fn add_needed(alloc: Global, symbols: &mut Symbols, needed: Option<Text>) -> Res
 }
 
 /// A symbol that stands in no area of the source.
-fn unplaced(scene: &Scene<'_>, symbol: Text) -> Option<Text>
+fn unplaced(lookup: &Lookup<'_>, symbol: Text) -> Option<Text>
     ensures { one_symbol result
-        ≡ model.word_symbols (sees (context_of scene.now)) (Ok (values.Place symbol 0)) }
+        ≡ model.word_symbols (sees (context_of lookup.now)) (Ok (values.Place symbol 0)) }
 {
     if symbol.as_slice().is_empty() {
         return None;
     }
-    if stands_at(scene, &symbol).is_some() {
+    if stands_at(lookup, &symbol).is_some() {
         return None;
     }
     Some(symbol)
 }
 
 /// The symbol of a word.
-fn word_symbol(scene: &Scene<'_>, value: Result<Value, LineKind>) -> Option<Text>
-    ensures { one_symbol result ≡ model.word_symbols (sees (context_of scene.now)) value }
+fn word_symbol(lookup: &Lookup<'_>, value: Result<Value, LineKind>) -> Option<Text>
+    ensures { one_symbol result ≡ model.word_symbols (sees (context_of lookup.now)) value }
 {
     match value {
-        Ok(Value::Place { symbol, plus: _ }) => unplaced(scene, symbol),
+        Ok(Value::Place { symbol, plus: _ }) => unplaced(lookup, symbol),
         _ => None,
     }
 }
@@ -69,37 +69,37 @@ fn word_symbol(scene: &Scene<'_>, value: Result<Value, LineKind>) -> Option<Text
 fn add_word(
     alloc: Global,
     symbols: &mut Symbols,
-    scene: &Scene<'_>,
+    lookup: &Lookup<'_>,
     operand: &Expr,
 ) -> Result<(), NoMemory>
     requires { IsRead operand.now }
     ensures { OnOk result (symbols.new
         ≡ model.listed_behind symbols.old
-        (model.word_symbols (sees (context_of scene.now))
-        (value_of (context_of scene.now) operand.now))) }
+        (model.word_symbols (sees (context_of lookup.now))
+        (value_of (context_of lookup.now) operand.now))) }
 {
-    let value = value_there(alloc, scene, operand)?;
-    add_needed(alloc, symbols, word_symbol(scene, value))
+    let value = value_there(alloc, lookup, operand)?;
+    add_needed(alloc, symbols, word_symbol(lookup, value))
 }
 
 /// The symbols that words need.
 pub fn add_words(
     alloc: Global,
     symbols: &mut Symbols,
-    scene: &Scene<'_>,
+    lookup: &Lookup<'_>,
     operands: &[Expr],
 ) -> Result<(), NoMemory>
     requires { AllRead operands.now }
     ensures { OnOk result (symbols.new
         ≡ model.listed_behind symbols.old
-        (model.words_symbols scene.now.names.now (line_of scene.now.line.now) operands.now)) }
+        (model.words_symbols lookup.now.names.now (line_of lookup.now.line.now) operands.now)) }
 {
     let mut left = operands;
     'operands: loop {
         match left {
             [] => return Ok(()),
             [operand, behind @ ..] => {
-                add_word(alloc, symbols, scene, operand)?;
+                add_word(alloc, symbols, lookup, operand)?;
                 left = behind;
             }
         }
@@ -110,47 +110,47 @@ pub fn add_words(
 pub fn add_branch(
     alloc: Global,
     symbols: &mut Symbols,
-    scene: &Scene<'_>,
+    lookup: &Lookup<'_>,
     target: &Expr,
 ) -> Result<(), NoMemory>
     requires { IsRead target.now }
     ensures { OnOk result (symbols.new
         ≡ model.listed_behind symbols.old
-        (model.branch_symbols (sees (context_of scene.now))
-        (value_of (context_of scene.now) target.now))) }
+        (model.branch_symbols (sees (context_of lookup.now))
+        (value_of (context_of lookup.now) target.now))) }
 {
-    let symbol = target_symbol(alloc, scene, target)?;
+    let symbol = target_symbol(alloc, lookup, target)?;
     add_needed(alloc, symbols, symbol)
 }
 
 fn add_loaded(
     alloc: Global,
     symbols: &mut Symbols,
-    scene: &Scene<'_>,
+    lookup: &Lookup<'_>,
     literal: &Value,
 ) -> Result<(), NoMemory>
     ensures { OnOk result (symbols.new
         ≡ model.listed_behind symbols.old
-        (model.word_symbols (sees (context_of scene.now))
-        (model.literal_value (sees (context_of scene.now)) literal.now))) }
+        (model.word_symbols (sees (context_of lookup.now))
+        (model.literal_value (sees (context_of lookup.now)) literal.now))) }
 {
-    let value = literal_value(alloc, scene.names, literal)?;
-    add_needed(alloc, symbols, word_symbol(scene, value))
+    let value = literal_value(alloc, lookup.names, literal)?;
+    add_needed(alloc, symbols, word_symbol(lookup, value))
 }
 
 /// The symbol that a literal needs.
 pub fn add_literal(
     alloc: Global,
     symbols: &mut Symbols,
-    scene: &Scene<'_>,
+    lookup: &Lookup<'_>,
     literal: Option<&Value>,
 ) -> Result<(), NoMemory>
     ensures { OnOk result (symbols.new
         ≡ model.listed_behind symbols.old
-        (loaded_symbols (sees (context_of scene.now)) (option_copied literal.entry))) }
+        (loaded_symbols (sees (context_of lookup.now)) (option_copied literal.entry))) }
 {
     match literal {
         None => Ok(()),
-        Some(literal) => add_loaded(alloc, symbols, scene, literal),
+        Some(literal) => add_loaded(alloc, symbols, lookup, literal),
     }
 }

@@ -19,9 +19,9 @@ use sdt_fault::kinds::LineKind;
 use sdt_fault::{NoMemory, Text};
 use std::alloc::Global;
 
-/// What the records of symbols say of a source.
+/// What the records of symbols say of a source: which names have which flags.
 #[derive(Clone, Copy)]
-pub struct Facts<'a> {
+pub struct SymbolFlags<'a> {
     /// All names of the source.
     pub names: &'a KnownNames,
     /// The names that EXPORT has.
@@ -55,11 +55,11 @@ fn scope_by(exported: bool) -> u32
     1
 }
 
-fn scope(facts: &Facts<'_>, name: &Text) -> u32
-    ensures is { (s : Source) → Shows facts.now s → result ≡ objects.scope s name.now }
+fn scope(flags: &SymbolFlags<'_>, name: &Text) -> u32
+    ensures is { (s : Source) → Shows flags.now s → result ≡ objects.scope s name.now }
     ensures below { result ≤ 3 }
 {
-    scope_by(facts.exported.has(name))
+    scope_by(flags.exported.has(name))
 }
 
 fn holds_code(code: &[bool], area: u32) -> bool
@@ -72,33 +72,33 @@ fn holds_code(code: &[bool], area: u32) -> bool
 }
 
 /// Whether a label is a datum in a code area.
-fn is_marked(facts: &Facts<'_>, label: &Text, area: u32) -> bool
-    ensures { result ≡ list_any (same label.now) facts.now.data.now
-        && get_or facts.now.code.now area false }
+fn is_marked(flags: &SymbolFlags<'_>, label: &Text, area: u32) -> bool
+    ensures { result ≡ list_any (same label.now) flags.now.data.now
+        && get_or flags.now.code.now area false }
 {
-    if facts.data.has(label) {
-        return holds_code(facts.code, area);
+    if flags.data.has(label) {
+        return holds_code(flags.code, area);
     }
     false
 }
 
-fn marks(facts: &Facts<'_>, label: &Text, area: u32) -> u32
-    ensures is { (s : Source) → Shows facts.now s → result ≡ objects.marks_of s label.now area }
+fn marks(flags: &SymbolFlags<'_>, label: &Text, area: u32) -> u32
+    ensures is { (s : Source) → Shows flags.now s → result ≡ objects.marks_of s label.now area }
     ensures below { result ≤ 0x1100 }
 {
-    bits(is_marked(facts, label, area), 0x100) + bits(is_thumb(facts.names, label), 0x1000)
+    bits(is_marked(flags, label, area), 0x100) + bits(is_thumb(flags.names, label), 0x1000)
 }
 
 /// Where a label stands.
-fn label_place(facts: &Facts<'_>, label: &Text) -> Option<(u32, u32)>
-    ensures { (s : Source) → Shows facts.now s → result
+fn label_place(flags: &SymbolFlags<'_>, label: &Text) -> Option<(u32, u32)>
+    ensures { (s : Source) → Shows flags.now s → result
         ≡ meaning.stands_at (sees (objects.context_in s None)) label.now }
 {
-    stands_at(facts.names, None, label)
+    stands_at(flags.names, None, label)
 }
 
-fn undefined(alloc: Global, facts: &Facts<'_>, name: &Text) -> Result<Symbol, NoMemory>
-    ensures { IfOk result (λ symbol. (s : Source) → Shows facts.now s → symbol
+fn undefined(alloc: Global, flags: &SymbolFlags<'_>, name: &Text) -> Result<Symbol, NoMemory>
+    ensures { IfOk result (λ symbol. (s : Source) → Shows flags.now s → symbol
         ≡ record {
           name = name.now;
           attributes = 2 + flag_of
@@ -110,7 +110,7 @@ fn undefined(alloc: Global, facts: &Facts<'_>, name: &Text) -> Result<Symbol, No
     let name_copy = name.try_clone(alloc)?;
     Ok(Symbol {
         name: name_copy,
-        attributes: 2 + bits(facts.weak.has(name), 0x10),
+        attributes: 2 + bits(flags.weak.has(name), 0x10),
         value: 0,
         area: None,
     })
@@ -118,22 +118,22 @@ fn undefined(alloc: Global, facts: &Facts<'_>, name: &Text) -> Result<Symbol, No
 
 fn placed(
     alloc: Global,
-    facts: &Facts<'_>,
+    flags: &SymbolFlags<'_>,
     name: &Text,
     label: &Text,
     plus: u32,
     place: Option<(u32, u32)>,
 ) -> Result<Symbol, NoMemory>
-    ensures { IfOk result (λ symbol. (s : Source) → Shows facts.now s → symbol
+    ensures { IfOk result (λ symbol. (s : Source) → Shows flags.now s → symbol
         ≡ objects.symbol_placed s name.now label.now plus place) }
 {
     match place {
-        None => undefined(alloc, facts, name),
+        None => undefined(alloc, flags, name),
         Some((area, offset)) => {
             let name_copy = name.try_clone(alloc)?;
             Ok(Symbol {
                 name: name_copy,
-                attributes: scope(facts, name) + marks(facts, label, area),
+                attributes: scope(flags, name) + marks(flags, label, area),
                 value: offset.wrapping_add(plus),
                 area: Some(area),
             })
@@ -155,8 +155,13 @@ fn unvalued(alloc: Global, name: &Text) -> Result<Symbol, NoMemory>
     })
 }
 
-fn absolute(alloc: Global, facts: &Facts<'_>, name: &Text, number: u32) -> Result<Symbol, NoMemory>
-    ensures { IfOk result (λ symbol. (s : Source) → Shows facts.now s → symbol
+fn absolute(
+    alloc: Global,
+    flags: &SymbolFlags<'_>,
+    name: &Text,
+    number: u32,
+) -> Result<Symbol, NoMemory>
+    ensures { IfOk result (λ symbol. (s : Source) → Shows flags.now s → symbol
         ≡ record {
           name = name.now;
           attributes = objects.scope s name.now
@@ -168,7 +173,7 @@ fn absolute(alloc: Global, facts: &Facts<'_>, name: &Text, number: u32) -> Resul
     let name_copy = name.try_clone(alloc)?;
     Ok(Symbol {
         name: name_copy,
-        attributes: scope(facts, name) + 4,
+        attributes: scope(flags, name) + 4,
         value: number,
         area: None,
     })
@@ -176,28 +181,28 @@ fn absolute(alloc: Global, facts: &Facts<'_>, name: &Text, number: u32) -> Resul
 
 fn valued(
     alloc: Global,
-    facts: &Facts<'_>,
+    flags: &SymbolFlags<'_>,
     name: &Text,
     value: Result<Value, LineKind>,
 ) -> Result<Symbol, NoMemory>
-    ensures { IfOk result (λ symbol. (s : Source) → Shows facts.now s → symbol
+    ensures { IfOk result (λ symbol. (s : Source) → Shows flags.now s → symbol
         ≡ objects.symbol_valued s name.now value) }
 {
     match value {
-        Ok(Value::Number(number)) => absolute(alloc, facts, name, number),
+        Ok(Value::Number(number)) => absolute(alloc, flags, name, number),
         Ok(Value::Place { symbol, plus }) => {
-            let place = label_place(facts, &symbol);
-            placed(alloc, facts, name, &symbol, plus, place)
+            let place = label_place(flags, &symbol);
+            placed(alloc, flags, name, &symbol, plus, place)
         }
         _ => unvalued(alloc, name),
     }
 }
 
 /// The record of a symbol.
-pub fn record_of(alloc: Global, name: &Text, facts: &Facts<'_>) -> Result<Symbol, NoMemory>
-    ensures { IfOk result (λ symbol. (s : Source) → Shows facts.now s → symbol
+pub fn record_of(alloc: Global, name: &Text, flags: &SymbolFlags<'_>) -> Result<Symbol, NoMemory>
+    ensures { IfOk result (λ symbol. (s : Source) → Shows flags.now s → symbol
         ≡ objects.symbol_named s name.now) }
 {
-    let value = value_named(alloc, facts.names, name)?;
-    valued(alloc, facts, name, value)
+    let value = value_named(alloc, flags.names, name)?;
+    valued(alloc, flags, name, value)
 }

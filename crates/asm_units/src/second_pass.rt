@@ -11,19 +11,19 @@ ghost use Rattle.asm_model.specs.declared.statements.What.{What as Said};
 ghost use Rattle.said_model.specs.Said.{WhatSaid};
 ghost use Rattle.source_model.specs.Contexts.{Context};
 ghost use Rattle.source_model.specs.ValueKinds as model;
-ghost use Rattle.asm_instructions.specs.Scenes.{Shows};
+ghost use Rattle.asm_instructions.specs.Lookups.{Shows};
 ghost use Rattle.asm_units.specs.Literals.{literal_in};
 ghost use Rattle.asm_units.specs.Passing.{AreJoined, IsNumber, IsPassTwo};
-ghost use Rattle.asm_units.specs.Showing.{ShowsBeside};
+ghost use Rattle.asm_units.specs.Showing.{ShowsTables};
 
-use crate::beside::Beside;
 use crate::emitted::{Emitted, LineUnits, Stored};
 use crate::kinds::statement_kind;
 use crate::literals::literal_stored;
 use crate::statements::units;
+use crate::tables::LineTables;
 use asm_expr::kinds::earlier;
 use asm_expr::told::first_told;
-use asm_instructions::{Scene, number_in};
+use asm_instructions::{Lookup, number_in};
 use asm_model::{DirectiveLine, RnOperand, Value, What};
 use sdt_fault::NoMemory;
 use sdt_fault::kinds::LineKind;
@@ -41,21 +41,21 @@ fn fault_of(word: &Result<Stored, LineKind>) -> Option<LineKind>
 /// The kind of the fault of the literal that a statement loads.
 fn literal_kind(
     alloc: Global,
-    beside: &Beside<'_>,
+    tables: &LineTables<'_>,
     value: Option<&Value>,
 ) -> Result<Option<LineKind>, NoMemory>
     ensures { IfOk result
         (λ kind. (c : Context) (data_names : List (List ℕ)) (sizes : ℕ
         → ℕ) (s : Names) (word : Option ℕ) (said : Said) (e : Extent)
-        → ShowsBeside beside.now c data_names sizes s word said → literal_in e
+        → ShowsTables tables.now c data_names sizes s word said → literal_in e
         ≡ option_copied value.entry → kind ≡ told_kind (model.literal_kinds c data_names e)) }
 {
     match value {
         None => Ok(None),
         Some(value) => {
-            let scene = &beside.scene;
-            let area = scene.line.place.area;
-            let word = literal_stored(alloc, scene.names, beside.data, area, value)?;
+            let lookup = &tables.lookup;
+            let area = lookup.line.place.area;
+            let word = literal_stored(alloc, lookup.names, tables.data, area, value)?;
             Ok(fault_of(&word))
         }
     }
@@ -64,11 +64,11 @@ fn literal_kind(
 /// The number that RN is given.
 fn given_number(
     alloc: Global,
-    scene: &Scene<'_>,
+    lookup: &Lookup<'_>,
     what: &What,
 ) -> Result<Result<u32, LineKind>, NoMemory>
     requires { WhatSaid what.now }
-    ensures { IfOk result (λ number. (c : Context) → Shows scene.now c
+    ensures { IfOk result (λ number. (c : Context) → Shows lookup.now c
         → IsNumber c what.now number) }
 {
     match what {
@@ -76,7 +76,7 @@ fn given_number(
             DirectiveLine::Rn {
                 register: RnOperand::Number(e),
             },
-        ) => number_in(alloc, scene, e),
+        ) => number_in(alloc, lookup, e),
         _ => Ok(Ok(0)),
     }
 }
@@ -110,7 +110,7 @@ fn joined(
 /// kind that is told of the faults of its values.
 pub fn pass_two(
     alloc: Global,
-    beside: &Beside<'_>,
+    tables: &LineTables<'_>,
     value: Option<&Value>,
     what: &What,
 ) -> Result<Result<LineUnits, LineKind>, NoMemory>
@@ -118,12 +118,12 @@ pub fn pass_two(
     ensures { IfOk result
         (λ r. (c : Context) (data_names : List (List ℕ)) (sizes : ℕ
         → ℕ) (s : Names) (word : Option ℕ) (e : Extent)
-        → ShowsBeside beside.now c data_names sizes s word what.now → literal_in e
+        → ShowsTables tables.now c data_names sizes s word what.now → literal_in e
         ≡ option_copied value.entry → IsPassTwo c data_names sizes s e word what.now r) }
 {
-    let units = units(alloc, beside, what)?;
-    let loads = literal_kind(alloc, beside, value)?;
-    let said = statement_kind(alloc, beside, what)?;
-    let number = given_number(alloc, &beside.scene, what)?;
+    let units = units(alloc, tables, what)?;
+    let loads = literal_kind(alloc, tables, value)?;
+    let said = statement_kind(alloc, tables, what)?;
+    let number = given_number(alloc, &tables.lookup, what)?;
     Ok(joined(units, first_told(loads, said), number))
 }

@@ -7,14 +7,14 @@ ghost use Rattle.said_model.specs.Said.{AllRead, IsRead};
 ghost use Rattle.source_model.specs.Contexts.{Context, sees, value_of};
 ghost use Rattle.source_model.specs.Units as units;
 ghost use Rattle.source_model.specs.Units.{ByArea};
-ghost use Rattle.asm_instructions.specs.Scenes.{context_of};
+ghost use Rattle.asm_instructions.specs.Lookups.{context_of};
 ghost use Rattle.asm_units.specs.Emitting.{all_emitted, emitted_of, stored_of};
 ghost use Rattle.asm_units.specs.Showing.{ShowsNames};
 
-use crate::beside::Beside;
 use crate::emitted::{Emitted, Stored, Target};
 use crate::joining::{push_next, word_unit};
 use crate::named::{is_thumb, stands_at};
+use crate::tables::LineTables;
 use asm_instructions::values::value_there;
 use asm_model::{Expr, Value};
 use asm_names::KnownNames;
@@ -110,30 +110,30 @@ pub fn stored(
 
 fn word(
     alloc: Global,
-    beside: &Beside<'_>,
+    tables: &LineTables<'_>,
     operand: &Expr,
 ) -> Result<Result<Emitted, LineKind>, NoMemory>
     requires { IsRead operand.now }
     ensures { IfOk result (λ word. mapped emitted_of word
         ≡ mapped (λ w. units.Word w)
-        (units.stored (context_of beside.now.scene) beside.now.data.now
-        (value_of (context_of beside.now.scene) operand.now))) }
+        (units.stored (context_of tables.now.lookup) tables.now.data.now
+        (value_of (context_of tables.now.lookup) operand.now))) }
 {
-    let value = value_there(alloc, &beside.scene, operand)?;
-    let scene = &beside.scene;
-    let stored = stored(scene.names, beside.data, scene.line.place.area, value);
+    let value = value_there(alloc, &tables.lookup, operand)?;
+    let lookup = &tables.lookup;
+    let stored = stored(lookup.names, tables.data, lookup.line.place.area, value);
     Ok(word_unit(stored))
 }
 
 /// The words of DCD and DCDU.
 pub fn words(
     alloc: Global,
-    beside: &Beside<'_>,
+    tables: &LineTables<'_>,
     operands: &[Expr],
 ) -> Result<Result<Vec<Emitted>, LineKind>, NoMemory>
     requires { AllRead operands.now }
     ensures { IfOk result (λ us. all_emitted us
-        ≡ units.word_units (context_of beside.now.scene) beside.now.data.now operands.now) }
+        ≡ units.word_units (context_of tables.now.lookup) tables.now.data.now operands.now) }
 {
     let mut so_far = Ok(Vec::new(alloc));
     let mut left = operands;
@@ -141,7 +141,7 @@ pub fn words(
         match left {
             [] => return Ok(so_far),
             [operand, behind @ ..] => {
-                let next = word(alloc, beside, operand)?;
+                let next = word(alloc, tables, operand)?;
                 so_far = push_next(so_far, next)?;
                 left = behind;
             }

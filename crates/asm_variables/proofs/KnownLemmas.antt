@@ -12,8 +12,8 @@ use Rattle.asm_model.specs.Meaning.{named_in}
 use Rattle.asm_model.proofs.WordLemmas.{same_true}
 use Rattle.expand_model.specs.Known.{value_entries, variable_entries, number_entries, label_entries}
 use Rattle.expand_model.specs.States.{Table, State, found, locals_of}
-use Rattle.asm_variables.specs.declared.values.Sight.{Sight}
-use Rattle.asm_variables.specs.declared.values.Sight.TheVariants as sight
+use Rattle.asm_variables.specs.declared.values.Visible.{Visible}
+use Rattle.asm_variables.specs.declared.values.Visible.TheVariants as visible
 use Rattle.asm_variables.specs.Known.{entries_in, all_entries, value_in, number_value}
 use Rattle.asm_variables.proofs.MeaningLemmas.{NoAreas, no_areas_append}
 
@@ -61,29 +61,29 @@ named_variables q s =
     ∙ ap (λ (o : Option LaidName). or_else (entry_for q (found q (locals_of s.scope))) o) (named_values q s.globals)
     ∙ either q (found q (locals_of s.scope)) (found q s.globals)
 
-pub named_known : (v : Sight) (q : List ℕ) (s : State) → named_in q (entries_in v s) ≡ entry_for q (value_in v s q)
-named_known sight.Everything q s =
+pub named_known : (v : Visible) (q : List ℕ) (s : State) → named_in q (entries_in v s) ≡ entry_for q (value_in v s q)
+named_known visible.Everything q s =
     named_append q (variable_entries s) (number_entries s)
     ∙ ap (λ (o : Option LaidName). or_else o (named_in q (number_entries s))) (named_variables q s)
     ∙ ap (λ (o : Option LaidName). or_else (entry_for q (or_else (found q (locals_of s.scope)) (found q s.globals))) o) (named_numbers q s.numbers)
     ∙ either q (or_else (found q (locals_of s.scope)) (found q s.globals)) (number_value (found q s.numbers))
-named_known sight.Numbers q s = named_numbers q s.numbers
+named_known visible.Numbers q s = named_numbers q s.numbers
 
 some_entry : (q : List ℕ) (o : Option Value) → is_some (entry_for q o) ≡ is_some o
 some_entry q None = refl
 some_entry q (Some v) = refl
 
 -- a name with an entry has a value
-pub known_some : (v : Sight) (q : List ℕ) (s : State) → is_some (named_in q (entries_in v s)) ≡ is_some (value_in v s q)
+pub known_some : (v : Visible) (q : List ℕ) (s : State) → is_some (named_in q (entries_in v s)) ≡ is_some (value_in v s q)
 known_some v q s = ap (λ (o : Option LaidName). is_some o) (named_known v q s) ∙ some_entry q (value_in v s q)
 
-pub entry_some : (v : Sight) (q : List ℕ) (s : State) (value : Value) → Some value ≡ value_in v s q → Some (valued_entry q value false) ≡ named_in q (all_entries v s)
+pub entry_some : (v : Visible) (q : List ℕ) (s : State) (value : Value) → Some value ≡ value_in v s q → Some (valued_entry q value false) ≡ named_in q (all_entries v s)
 entry_some v q s value h =
     sym
     (named_append q (entries_in v s) (label_entries s)
     ∙ ap (λ (o : Option LaidName). or_else o (named_in q (label_entries s))) (named_known v q s ∙ ap (entry_for q) (sym h)))
 
-pub entry_none : (v : Sight) (q : List ℕ) (s : State) → None ≡ value_in v s q → named_in q (label_entries s) ≡ named_in q (all_entries v s)
+pub entry_none : (v : Visible) (q : List ℕ) (s : State) → None ≡ value_in v s q → named_in q (label_entries s) ≡ named_in q (all_entries v s)
 entry_none v q s h =
     sym
     (named_append q (entries_in v s) (label_entries s)
@@ -117,12 +117,12 @@ no_label_areas : (names : List (List ℕ)) → NoAreas (map (λ name. valued_ent
 no_label_areas [] = tt
 no_label_areas (n ∷ ns) = (refl, no_label_areas ns)
 
-no_known_areas : (v : Sight) (s : State) → NoAreas (entries_in v s)
-no_known_areas sight.Everything s =
+no_known_areas : (v : Visible) (s : State) → NoAreas (entries_in v s)
+no_known_areas visible.Everything s =
     no_areas_append (variable_entries s) (number_entries s)
     (no_areas_append (value_entries (locals_of s.scope)) (value_entries s.globals) (no_value_areas (locals_of s.scope)) (no_value_areas s.globals))
     (no_number_areas s.numbers)
-no_known_areas sight.Numbers s = no_number_areas s.numbers
+no_known_areas visible.Numbers s = no_number_areas s.numbers
 
-pub no_areas : (v : Sight) (s : State) → NoAreas (all_entries v s)
+pub no_areas : (v : Visible) (s : State) → NoAreas (all_entries v s)
 no_areas v s = no_areas_append (entries_in v s) (label_entries s) (no_known_areas v s) (no_label_areas s.labels)

@@ -23,7 +23,7 @@ use Rattle.asm_model.proofs.TreeLemmas.{plain_operand, trees_read_back}
 use Rattle.expand_model.specs.Known.{Operand, asked_kinds, tree_kinds, unless_told, names_with, maybe_value, value_with}
 use Rattle.expand_model.specs.States.{State}
 use Rattle.asm_variables.specs.declared.expansion.Expansion.{Expansion}
-use Rattle.asm_variables.specs.declared.values.Sight.{Sight}
+use Rattle.asm_variables.specs.declared.values.Visible.{Visible}
 use Rattle.asm_variables.specs.Entries.{items_entries}
 use Rattle.asm_variables.specs.Expanding.{Represents}
 use Rattle.asm_variables.specs.Known.{IsExpression, entries_in, all_entries, is_asked, kinds_of, items_kinds}
@@ -33,7 +33,7 @@ use Rattle.asm_variables.proofs.MeaningLemmas.{placeless, small_meaning}
 
 -- ---- with few names
 
-pub with_small : (v : Sight) (s : State) (items : List ExprItem) (names : Names) (result : Result Value EvalFault)
+pub with_small : (v : Visible) (s : State) (items : List ExprItem) (names : Names) (result : Result Value EvalFault)
     → names ≡ placeless s.thumb (items_entries (all_entries v s) items) → Evaluates names items result
     → (ps : List Part) (t : Tree) → IsSpelled ps t → items ≡ postfix t → IsValue (meaning (names_with s (all_entries v s)) t) result
 with_small v s items names result e evaluates ps t spelled is =
@@ -141,7 +141,7 @@ module _ (values : List LaidName) where
 
 -- ---- values
 
-pub value_of_items : (v : Sight) (s : State) (e : Expr) (x : IsExpression e.items) (told : Option LineKind) → told ≡ told_kind (items_kinds (entries_in v s) e.items)
+pub value_of_items : (v : Visible) (s : State) (e : Expr) (x : IsExpression e.items) (told : Option LineKind) → told ≡ told_kind (items_kinds (entries_in v s) e.items)
     → value_with s (entries_in v s) (Ok e) ≡ unless_told told (meaning (names_with s (all_entries v s)) x.tree)
 value_of_items v s e x told h =
     ap (λ (o : Option Tree). maybe_value s (entries_in v s) o) (trees_read_back x.parts x.tree e x.spelled x.are)
@@ -149,7 +149,7 @@ value_of_items v s e x told h =
     (ap told_kind (kinds_of_items (entries_in v s) x.parts x.tree x.spelled) ∙ ap (λ (is : List ExprItem). told_kind (items_kinds (entries_in v s) is)) (sym x.are) ∙ sym h)
 
 -- a value that is the model's of each state
-pub given_each : (v : Sight) (c : Expansion) (x : Operand) (told : Result (Result Value LineKind) NoMemory)
+pub given_each : (v : Visible) (c : Expansion) (x : Operand) (told : Result (Result Value LineKind) NoMemory)
     → ((s : State) → Represents c s → IfOk told (λ y. y ≡ value_with s (entries_in v s) x)) → IfOk told (λ y. IsValueOf v c x y)
 given_each v c x (Ok y) h = h
 given_each v c x (Err e) h = tt

@@ -12,8 +12,8 @@ use Rattle.asm_model.specs.Directives.{or_else}
 use Rattle.asm_model.specs.Grammar.{Tree, postfix, IsSpelled}
 use Rattle.expand_model.specs.Known.{Operand, variable_entries, number_entries, label_entries, item_kinds, asked_kinds}
 use Rattle.expand_model.specs.States.{State, found, variable}
-use Rattle.asm_variables.specs.declared.values.Sight.{Sight}
-use Rattle.asm_variables.specs.declared.values.Sight.TheVariants as sight
+use Rattle.asm_variables.specs.declared.values.Visible.{Visible}
+use Rattle.asm_variables.specs.declared.values.Visible.TheVariants as visible
 
 -- items that tokens spell
 pub record IsExpression (items : List ExprItem) : Type 0 where
@@ -27,12 +27,12 @@ WasRead (Ok e) = IsExpression e.items
 WasRead (Err k) = Unit {0}
 
 -- the names with values
-abbrev pub entries_in : Sight → State → List LaidName
-entries_in sight.Everything s = variable_entries s ++ number_entries s
-entries_in sight.Numbers s = number_entries s
+abbrev pub entries_in : Visible → State → List LaidName
+entries_in visible.Everything s = variable_entries s ++ number_entries s
+entries_in visible.Numbers s = number_entries s
 
 -- all names
-abbrev pub all_entries : Sight → State → List LaidName
+abbrev pub all_entries : Visible → State → List LaidName
 all_entries v s = entries_in v s ++ label_entries s
 
 abbrev pub number_value : Option ℕ → Option Value
@@ -40,9 +40,9 @@ number_value None = None
 number_value (Some n) = Some (Number n)
 
 -- the value for which a name stands
-abbrev pub value_in : Sight → State → List ℕ → Option Value
-value_in sight.Everything s q = or_else (variable s q) (number_value (found q s.numbers))
-value_in sight.Numbers s q = number_value (found q s.numbers)
+abbrev pub value_in : Visible → State → List ℕ → Option Value
+value_in visible.Everything s q = or_else (variable s q) (number_value (found q s.numbers))
+value_in visible.Numbers s q = number_value (found q s.numbers)
 
 -- whether :DEF: stands first
 abbrev pub is_asked : List ExprItem → Bool

@@ -5,7 +5,7 @@ ghost use Rattle.asm_model.specs.Entries.{valued_entry};
 ghost use Rattle.asm_model.specs.declared.exprs.UnaryOp.TheVariants as unary;
 ghost use Rattle.expand_model.specs.Known.{asked_kinds, item_kinds};
 ghost use Rattle.expand_model.specs.Known as model;
-ghost use Rattle.asm_variables.specs.declared.values.Sight.TheVariants as sight;
+ghost use Rattle.asm_variables.specs.declared.values.Visible.TheVariants as visible;
 ghost use Rattle.asm_variables.specs.Known.{IsExpression, WasRead};
 ghost use Rattle.asm_variables.specs.Known as known;
 ghost use Rattle.asm_variables.specs.Valued.{Gives, HasEntries, HasEntry, HasValue, IsEntry, IsLabel, IsNamed, IsTold, IsValueOf, Knows, Values};
@@ -21,7 +21,7 @@ use std::alloc::Global;
 
 /// Which names have values.
 #[derive(Clone, Copy, Debug)]
-pub enum Sight {
+pub enum Visible {
     /// Variables, and numbers of EQUs.
     Everything,
     /// Numbers of EQUs.
@@ -29,7 +29,7 @@ pub enum Sight {
 }
 
 fn number_named(state: &Expansion, name: &Text) -> Option<Value>
-    ensures { IsNamed sight.Numbers state.now name.now result }
+    ensures { IsNamed visible.Numbers state.now name.now result }
 {
     match state.numbers.get(name) {
         None => None,
@@ -42,14 +42,14 @@ fn number_named(state: &Expansion, name: &Text) -> Option<Value>
 fn value_named(
     alloc: Global,
     state: &Expansion,
-    sight: Sight,
+    visible: Visible,
     name: &Text,
 ) -> Result<Option<Value>, NoMemory>
-    ensures { IfOk result (λ value. IsNamed sight state.now name.now value) }
+    ensures { IfOk result (λ value. IsNamed visible state.now name.now value) }
 {
-    match sight {
-        Sight::Numbers => Ok(number_named(state, name)),
-        Sight::Everything => match state.tables.variable(name) {
+    match visible {
+        Visible::Numbers => Ok(number_named(state, name)),
+        Visible::Everything => match state.tables.variable(name) {
             None => Ok(number_named(state, name)),
             Some(value) => Ok(Some(value.try_clone(alloc)?)),
         },
@@ -58,30 +58,30 @@ fn value_named(
 
 /// Whether a name stands for a value.
 #[tactic(auto, using(crate::proofs::StateLemmas::tables_of))]
-fn has_value(state: &Expansion, sight: Sight, name: &Text) -> bool
-    ensures { HasValue sight state.now name.now result }
+fn has_value(state: &Expansion, visible: Visible, name: &Text) -> bool
+    ensures { HasValue visible state.now name.now result }
 {
-    match sight {
-        Sight::Numbers => state.numbers.contains_key(name),
-        Sight::Everything => {
+    match visible {
+        Visible::Numbers => state.numbers.contains_key(name),
+        Visible::Everything => {
             state.tables.variable(name).is_some() || state.numbers.contains_key(name)
         }
     }
 }
 
 /// Whether one of the names with values is this one.
-fn knows(state: &Expansion, sight: Sight, name: &Text) -> bool
-    ensures { Knows sight state.now name.now result }
+fn knows(state: &Expansion, visible: Visible, name: &Text) -> bool
+    ensures { Knows visible state.now name.now result }
 {
-    has_value(state, sight, name)
+    has_value(state, visible, name)
 }
 
 /// The fault of an item.
-fn item_fault(state: &Expansion, sight: Sight, item: &ExprItem) -> Option<LineKind>
-    ensures { IsTold sight state.now (λ values. item_kinds values item.now) result }
+fn item_fault(state: &Expansion, visible: Visible, item: &ExprItem) -> Option<LineKind>
+    ensures { IsTold visible state.now (λ values. item_kinds values item.now) result }
 {
     match item {
-        ExprItem::Name(name) => kind_if(!knows(state, sight, name), LineKind::Forward),
+        ExprItem::Name(name) => kind_if(!knows(state, visible, name), LineKind::Forward),
         ExprItem::Local(_) => Some(LineKind::Forward),
         ExprItem::TooLarge => Some(LineKind::Constant),
         ExprItem::Here => Some(LineKind::Forward),
@@ -91,23 +91,24 @@ fn item_fault(state: &Expansion, sight: Sight, item: &ExprItem) -> Option<LineKi
 }
 
 /// The fault of an item before `:DEF:`.
-fn asked_fault(state: &Expansion, sight: Sight, item: &ExprItem) -> Option<LineKind>
-    ensures { IsTold sight state.now (λ values. asked_kinds values unary.Defined item.now) result }
+fn asked_fault(state: &Expansion, visible: Visible, item: &ExprItem) -> Option<LineKind>
+    ensures { IsTold visible state.now (λ values. asked_kinds values unary.Defined item.now)
+        result }
 {
     match item {
         ExprItem::Name(_) => None,
-        _ => item_fault(state, sight, item),
+        _ => item_fault(state, visible, item),
     }
 }
 
 /// The fault of an item, before `:DEF:` or not.
-fn fault_of(state: &Expansion, sight: Sight, asked: bool, item: &ExprItem) -> Option<LineKind>
-    ensures { IsTold sight state.now (λ values. known.kinds_of values asked item.now) result }
+fn fault_of(state: &Expansion, visible: Visible, asked: bool, item: &ExprItem) -> Option<LineKind>
+    ensures { IsTold visible state.now (λ values. known.kinds_of values asked item.now) result }
 {
     if asked {
-        return asked_fault(state, sight, item);
+        return asked_fault(state, visible, item);
     }
-    item_fault(state, sight, item)
+    item_fault(state, visible, item)
 }
 
 /// Whether `:DEF:` stands first.
@@ -121,8 +122,8 @@ fn is_asked(items: &[ExprItem]) -> bool
 }
 
 /// The fault of the items in an expression that is told.
-fn items_fault(state: &Expansion, sight: Sight, items: &[ExprItem]) -> Option<LineKind>
-    ensures { IsTold sight state.now (λ values. known.items_kinds values items.now) result }
+fn items_fault(state: &Expansion, visible: Visible, items: &[ExprItem]) -> Option<LineKind>
+    ensures { IsTold visible state.now (λ values. known.items_kinds values items.now) result }
 {
     let mut told = None;
     let mut left = items;
@@ -130,7 +131,7 @@ fn items_fault(state: &Expansion, sight: Sight, items: &[ExprItem]) -> Option<Li
         let Some((item, behind)) = left.split_first() else {
             return told;
         };
-        told = first_told(told, fault_of(state, sight, is_asked(behind), item));
+        told = first_told(told, fault_of(state, visible, is_asked(behind), item));
         left = behind;
     }
 }
@@ -167,12 +168,12 @@ fn label_named(alloc: Global, state: &Expansion, name: &Text) -> Result<Option<L
 fn entry_named(
     alloc: Global,
     state: &Expansion,
-    sight: Sight,
+    visible: Visible,
     name: &Text,
 ) -> Result<Option<LaidName>, NoMemory>
-    ensures { IfOk result (λ entry. IsEntry sight state.now name.now entry) }
+    ensures { IfOk result (λ entry. IsEntry visible state.now name.now entry) }
 {
-    let found = value_named(alloc, state, sight, name)?;
+    let found = value_named(alloc, state, visible, name)?;
     let Some(value) = found else {
         return label_named(alloc, state, name);
     };
@@ -184,13 +185,13 @@ fn entry_named(
 fn item_entry(
     alloc: Global,
     state: &Expansion,
-    sight: Sight,
+    visible: Visible,
     item: &ExprItem,
 ) -> Result<Option<LaidName>, NoMemory>
-    ensures { IfOk result (λ entry. HasEntry sight state.now item.now entry) }
+    ensures { IfOk result (λ entry. HasEntry visible state.now item.now entry) }
 {
     match item {
-        ExprItem::Name(name) => entry_named(alloc, state, sight, name),
+        ExprItem::Name(name) => entry_named(alloc, state, visible, name),
         _ => Ok(None),
     }
 }
@@ -199,24 +200,29 @@ fn item_entry(
 fn entries_of(
     alloc: Global,
     state: &Expansion,
-    sight: Sight,
+    visible: Visible,
     items: &[ExprItem],
 ) -> Result<KnownNames, NoMemory>
-    ensures { IfOk result (λ names. HasEntries sight state.now items.now names) }
+    ensures { IfOk result (λ names. HasEntries visible state.now items.now names) }
 {
     let mut names = KnownNames::new(alloc);
     'items: for item in items {
-        let entry = item_entry(alloc, state, sight, item)?;
+        let entry = item_entry(alloc, state, visible, item)?;
         add_entry(alloc, &mut names, entry)?;
     }
     Ok(names)
 }
 
 /// The value of an expression whose items have no fault.
-fn value_known(alloc: Global, state: &Expansion, sight: Sight, e: &Expr) -> Result<Value, EvalFault>
-    ensures { Gives sight state.now e.now.items result }
+fn value_known(
+    alloc: Global,
+    state: &Expansion,
+    visible: Visible,
+    e: &Expr,
+) -> Result<Value, EvalFault>
+    ensures { Gives visible state.now e.now.items result }
 {
-    let names = entries_of(alloc, state, sight, e.items.as_slice())?;
+    let names = entries_of(alloc, state, visible, e.items.as_slice())?;
     let seen = Seen {
         names: &names,
         own: None,
@@ -233,30 +239,30 @@ fn value_known(alloc: Global, state: &Expansion, sight: Sight, e: &Expr) -> Resu
 fn expression_value(
     alloc: Global,
     state: &Expansion,
-    sight: Sight,
+    visible: Visible,
     e: &Expr,
 ) -> Result<Result<Value, LineKind>, NoMemory>
     requires { IsExpression e.now.items }
-    ensures { IfOk result (λ value. IsValueOf sight state.now (Ok e.now) value) }
+    ensures { IfOk result (λ value. IsValueOf visible state.now (Ok e.now) value) }
 {
-    if let Some(kind) = items_fault(state, sight, e.items.as_slice()) {
+    if let Some(kind) = items_fault(state, visible, e.items.as_slice()) {
         return Ok(Err(kind));
     }
-    told_value(value_known(alloc, state, sight, e))
+    told_value(value_known(alloc, state, visible, e))
 }
 
 /// The value of what stands behind an operation, with these names.
 fn value_with(
     alloc: Global,
     state: &Expansion,
-    sight: Sight,
+    visible: Visible,
     operand: &Result<Expr, LineKind>,
 ) -> Result<Result<Value, LineKind>, NoMemory>
     requires { WasRead operand.now }
-    ensures { IfOk result (λ value. IsValueOf sight state.now operand.now value) }
+    ensures { IfOk result (λ value. IsValueOf visible state.now operand.now value) }
 {
     match operand {
-        Ok(e) => expression_value(alloc, state, sight, e),
+        Ok(e) => expression_value(alloc, state, visible, e),
         Err(kind) => Ok(Err(*kind)),
     }
 }
@@ -271,7 +277,7 @@ pub fn value_of(
     requires { WasRead operand.now }
     ensures { IfOk result (λ value. Values state.now (λ s. value ≡ model.value_of s operand.now)) }
 {
-    value_with(alloc, state, Sight::Everything, operand)
+    value_with(alloc, state, Visible::Everything, operand)
 }
 
 fn as_number(value: Result<Value, LineKind>) -> Option<u32>
@@ -294,5 +300,5 @@ pub fn known_number(
     ensures { IfOk result
         (λ number. Values state.now (λ s. number ≡ model.known_number s operand.now)) }
 {
-    Ok(as_number(value_with(alloc, state, Sight::Numbers, operand)?))
+    Ok(as_number(value_with(alloc, state, Visible::Numbers, operand)?))
 }

@@ -30,7 +30,7 @@ use Rattle.stand_model.specs.Shown.{meant_by, LinkedBranch}
 use Rattle.stand_model.specs.Stands.{IsNumber, ReadsAt, TransferStands, BranchStands, InstructionStands, ArmStands, target_state}
 use Rattle.stand_laws.proofs.FieldLemmas.{away, away_leads, distance_leads, field_spans, field_spans_back}
 use Rattle.stand_laws.proofs.ResultLemmas.{then_ok, mapped_ok}
-use Rattle.stand_laws.proofs.ValueLemmas.{Setting, scene, Shown, value_stands}
+use Rattle.stand_laws.proofs.ValueLemmas.{Setting, lookup, Shown, value_stands}
 
 -- what is known of a statement that stands at an offset behind the base
 pub record Ready (k : Setting) (area at : ℕ) : Type 0 where
@@ -59,15 +59,15 @@ pub sum_in_area : (base b n o x : ℕ) → x ≡ base → (b + n) % 2 ^ 32 ≡ o
 sum_in_area base b n o x e h = omega (arith, e, h)
 
 pub own_stands : (k : Setting) (area at : ℕ) → Ready k area at → (e : Expr) (o : ℕ) (r : Result Value LineKind) → value_of k.context e ≡ r
-    → own_offset k.context r ≡ Ok o → IsNumber (scene k) e ((k.base + o) % 2 ^ 32)
+    → own_offset k.context r ≡ Ok o → IsNumber (lookup k) e ((k.base + o) % 2 ^ 32)
 own_stands k area at ready e o (Ok (Place q n)) x h =
     let b = in_own_is k.context.line.area (stands_at (sees k.context) q) area n o ready.own h in
-    value_stands (scene k) e (Place q n) ready.here x
+    value_stands (lookup k) e (Place q n) ready.here x
     ∙ ap (λ z. Ok (placed z)) b.1
     ∙ ap (λ z. Ok (Number z)) (sum_in_area k.base b.0 n o (k.values.base area) ready.based b.2)
   where
     placed : Option (ℕ × ℕ) → Value
-    placed a = Number ((address_at (scene k).placing q a + n) % 2 ^ 32)
+    placed a = Number ((address_at (lookup k).placing q a + n) % 2 ^ 32)
 own_stands k area at ready e o (Ok (Number n)) x h = absurd (cc)
 own_stands k area at ready e o (Ok (Truth b)) x h = absurd (cc)
 own_stands k area at ready e o (Ok (Words b)) x h = absurd (cc)
@@ -81,7 +81,7 @@ away_is k area at o ready = ap (λ z. away z o) ready.starts
 pub transfer_stands : (k : Setting) (area at a : ℕ) → Ready k area at → a ≡ k.base + at
     → (condition : Condition) (load byte : Bool) (rd : Register) (e : Expr) (i : ArmInstr)
     → arm_instruction k.context (arm.TransferImmediate condition load byte rd (address.Label e)) ≡ Ok i → ReadsAt k.view a i
-    → TransferStands (scene k) a condition load byte (register k.context rd) e
+    → TransferStands (lookup k) a condition load byte (register k.context rd) e
 transfer_stands k area at a ready x condition load byte rd e i h s =
     let f = λ (o : Bool × ℕ). instr.TransferImmediate condition true o.0 byte false load 15 (register k.context rd) o.1 in
     let t = then_ok (λ o. mapped f (offset_below 4096 (away_from k.context o))) (own_offset k.context (value_of k.context e)) i h in
@@ -145,18 +145,18 @@ linked_leads at d f n m address small h s same =
 abbrev pub SymbolMeets : Setting → Result Value LineKind → Type 0
 SymbolMeets k r =
     (x : ℕ) (xs : List ℕ) → linked_symbol k.context r ≡ Some (x ∷ xs)
-    → address_of (scene k).placing (sees k.context) (x ∷ xs) % 2 ^ 32 ≡ (meant_by k.source k.values (x ∷ xs)).number % 2 ^ 32
+    → address_of (lookup k).placing (sees k.context) (x ∷ xs) % 2 ^ 32 ≡ (meant_by k.source k.values (x ∷ xs)).number % 2 ^ 32
 
 -- the state in which a branch reaches its target
 abbrev pub state_for : Setting → Expr → Bool
-state_for k e = target_state false (scene k) (value_of k.context e)
+state_for k e = target_state false (lookup k) (value_of k.context e)
 
 pub away_small : (at o d : ℕ) → d ≡ away at o → d < 2 ^ 32
 away_small at o d h = omega (arith, h)
 
 pub direct : (k : Setting) (area at a : ℕ) → Ready k area at → a ≡ k.base + at → (condition : Condition) (link : Bool) (e : Expr) (d f o target : ℕ)
-    → d ≡ away at o → branch_field d ≡ Ok f → ReadsAt k.view a (instr.Branch condition link f) → IsNumber (scene k) e target → (k.base + o) % 2 ^ 32 ≡ target
-    → state_for k e ≡ false → BranchStands (scene k) a condition link e
+    → d ≡ away at o → branch_field d ≡ Ok f → ReadsAt k.view a (instr.Branch condition link f) → IsNumber (lookup k) e target → (k.base + o) % 2 ^ 32 ≡ target
+    → state_for k e ≡ false → BranchStands (lookup k) a condition link e
 direct k area at a ready x condition link e d f o target h field s means t state = record {
   field = f;
   reads = s;
@@ -200,9 +200,9 @@ displaced false x d h = absurd (cc)
 pub to_symbol : (k : Setting) (area at a : ℕ) → Ready k area at → a ≡ k.base + at → (condition : Condition) (link : Bool) (e : Expr) (y : ℕ) (ys : List ℕ) (n d f : ℕ)
     → value_of k.context e ≡ Ok (Place (y ∷ ys) n) → d ≡ branch_from k.context (y ∷ ys) n → branch_field d ≡ Ok f
     → Shown k (at, Instruction (instr.Branch condition link f) (linked_symbol k.context (Ok (Place (y ∷ ys) n)))) → SymbolMeets k (Ok (Place (y ∷ ys) n))
-    → BranchStands (scene k) a condition link e
+    → BranchStands (lookup k) a condition link e
 to_symbol k area at a ready x condition link e y ys n d f v h field s meets =
-    by_test (is_settled k.context (y ∷ ys)) refl h s (meets y ys) (ap (target_state false (scene k)) v)
+    by_test (is_settled k.context (y ∷ ys)) refl h s (meets y ys) (ap (target_state false (lookup k)) v)
   where
     q : List ℕ
     q = y ∷ ys
@@ -211,17 +211,17 @@ to_symbol k area at a ready x condition link e y ys n d f v h field s meets =
     m = meant_by k.source k.values q
 
     left : d ≡ away_from k.context n → Shown k (at, Instruction (instr.Branch condition link f) (Some q))
-        → address_of (scene k).placing (sees k.context) q % 2 ^ 32 ≡ m.number % 2 ^ 32
-        → state_for k e ≡ state_of false m m.home → BranchStands (scene k) a condition link e
+        → address_of (lookup k).placing (sees k.context) q % 2 ^ 32 ≡ m.number % 2 ^ 32
+        → state_for k e ≡ state_of false m m.home → BranchStands (lookup k) a condition link e
     left g b meet state =
         let l : LinkedBranch k.view k.region (k.base + at) at condition link f m = b in
-        let address : ℕ = address_of (scene k).placing (sees k.context) q in
+        let address : ℕ = address_of (lookup k).placing (sees k.context) q in
         let there = g ∙ away_is k area at n ready in
         record {
           field = l.field;
           reads = subst (λ z. ReadsAt k.view z (instr.Branch condition link l.field)) (sym x) l.reads;
           target = (address + n) % 2 ^ 32;
-          means = value_stands (scene k) e (Place q n) ready.here v;
+          means = value_stands (lookup k) e (Place q n) ready.here v;
           reaches = subst (λ z. Reaches k.view k.region false z ((address + n) % 2 ^ 32) (state_for k e)) (sym x)
               (subst (λ z. Reaches k.view k.region false (k.base + at) ((address + n) % 2 ^ 32) z) (sym state)
               (subst (λ z. Reaches k.view k.region false (k.base + at) z (state_of false m m.home))
@@ -231,28 +231,28 @@ to_symbol k area at a ready x condition link e y ys n d f v h field s meets =
     by_test : (t : Bool) → is_settled k.context q ≡ t
         → d ≡ away_from k.context (cond t (offset_at (stands_at (sees k.context) q) + n) n)
         → Shown k (at, Instruction (instr.Branch condition link f) (cond t None (Some q)))
-        → (cond t None (Some q) ≡ Some q → address_of (scene k).placing (sees k.context) q % 2 ^ 32 ≡ m.number % 2 ^ 32)
-        → state_for k e ≡ cond t false (state_of false m m.home) → BranchStands (scene k) a condition link e
+        → (cond t None (Some q) ≡ Some q → address_of (lookup k).placing (sees k.context) q % 2 ^ 32 ≡ m.number % 2 ^ 32)
+        → state_for k e ≡ cond t false (state_of false m m.home) → BranchStands (lookup k) a condition link e
     by_test true t g b meet state =
         let p = settled_in k.context.line.area (stands_at (sees k.context) q) area (keeps_state k.context.line.thumb (named_in q (sees k.context).list)) ready.own t in
         let o : ℕ = p.0 + n in
         direct k area at a ready x condition link e d f o ((k.values.base area + p.0 + n) % 2 ^ 32)
         (g ∙ ap (λ z. away_from k.context (offset_at z + n)) p.1 ∙ away_is k area at o ready) field
         (subst (λ z. ReadsAt k.view z (instr.Branch condition link f)) (sym x) b)
-        (value_stands (scene k) e (Place q n) ready.here v ∙ ap (λ z. Ok (Number ((address_at (scene k).placing q z + n) % 2 ^ 32))) p.1)
+        (value_stands (lookup k) e (Place q n) ready.here v ∙ ap (λ z. Ok (Number ((address_at (lookup k).placing q z + n) % 2 ^ 32))) p.1)
         (area_sum k.base p.0 n (k.values.base area) ready.based) state
     by_test false t g b meet state = left g b (meet refl) state
 
 pub branch_of : (k : Setting) (area at a : ℕ) → Ready k area at → a ≡ k.base + at → (condition : Condition) (link : Bool) (e : Expr) (r : Result Value LineKind) (d f : ℕ)
     → value_of k.context e ≡ r → branch_displacement k.context r ≡ Ok d → branch_field d ≡ Ok f
     → Shown k (at, Instruction (instr.Branch condition link f) (linked_symbol k.context r)) → SymbolMeets k r
-    → BranchStands (scene k) a condition link e
+    → BranchStands (lookup k) a condition link e
 branch_of k area at a ready x condition link e (Ok (Place [] n)) d f v h field s meets =
     direct k area at a ready x condition link e d f n ((k.values.base area + 0 + n) % 2 ^ 32)
     (displaced true (away_from k.context n) d h ∙ away_is k area at n ready) field
     (subst (λ z. ReadsAt k.view z (instr.Branch condition link f)) (sym x) s)
-    (value_stands (scene k) e (Place [] n) ready.here v ∙ ap (λ z. Ok (Number ((address_at (scene k).placing [] (in_area z 0) + n) % 2 ^ 32))) ready.own)
-    (start_sum k.base n (k.values.base area) ready.based) (ap (target_state false (scene k)) v)
+    (value_stands (lookup k) e (Place [] n) ready.here v ∙ ap (λ z. Ok (Number ((address_at (lookup k).placing [] (in_area z 0) + n) % 2 ^ 32))) ready.own)
+    (start_sum k.base n (k.values.base area) ready.based) (ap (target_state false (lookup k)) v)
 branch_of k area at a ready x condition link e (Ok (Place (y ∷ ys) n)) d f v h field s meets =
     to_symbol k area at a ready x condition link e y ys n d f v
     (displaced (has_symbol k.context (y ∷ ys)) (branch_from k.context (y ∷ ys) n) d h) field s meets
@@ -264,7 +264,7 @@ branch_of k area at a ready x condition link e (Err j) d f v h field s meets = a
 pub branch_stands : (k : Setting) (area at a : ℕ) → Ready k area at → a ≡ k.base + at
     → (condition : Condition) (link : Bool) (e : Expr) (i : ArmInstr)
     → arm_instruction k.context (arm.Branch condition link e) ≡ Ok i → Shown k (at, Instruction i (linked_symbol k.context (value_of k.context e)))
-    → SymbolMeets k (value_of k.context e) → BranchStands (scene k) a condition link e
+    → SymbolMeets k (value_of k.context e) → BranchStands (lookup k) a condition link e
 branch_stands k area at a ready x condition link e i h s meets =
     let f : ℕ → ArmInstr = λ f. instr.Branch condition link f in
     let t = then_ok (λ d. mapped f (branch_field d)) (branch_displacement k.context (value_of k.context e)) i h in
@@ -275,7 +275,7 @@ branch_stands k area at a ready x condition link e i h s meets =
 -- ---- all lines
 
 pub plain_stands : (k : Setting) (at a : ℕ) → a ≡ k.base + at → (l : ArmLine) (i : ArmInstr) → arm_instruction k.context l ≡ Ok i → Shown k (at, Instruction i None)
-    → InstructionStands (scene k) a l
+    → InstructionStands (lookup k) a l
 plain_stands k at a x l i h s = record { instruction = i; says = h; reads = subst (λ z. ReadsAt k.view z i) (sym x) s }
 
 abbrev pub BranchMeets : Setting → ArmLine → Type 0
@@ -283,7 +283,7 @@ BranchMeets k (arm.Branch condition link e) = SymbolMeets k (value_of k.context 
 BranchMeets k l = Unit {0}
 
 pub arm_stands : (k : Setting) (area at a : ℕ) → Ready k area at → a ≡ k.base + at → (l : ArmLine) (i : ArmInstr) → arm_instruction k.context l ≡ Ok i
-    → Shown k (at, Instruction i (branch_symbol k.context l)) → BranchMeets k l → ArmStands (scene k) a l
+    → Shown k (at, Instruction i (branch_symbol k.context l)) → BranchMeets k l → ArmStands (lookup k) a l
 arm_stands k area at a ready x (arm.Branch condition link e) i h s meets = branch_stands k area at a ready x condition link e i h s meets
 arm_stands k area at a ready x (arm.TransferImmediate condition load byte rd (address.Label e)) i h s meets =
     transfer_stands k area at a ready x condition load byte rd e i h (subst (λ z. ReadsAt k.view z i) (sym x) s)

@@ -21,7 +21,7 @@ use Rattle.source_model.specs.Units.{Emitted, Bytes, Word, Stored, placed, store
 use Rattle.stand_model.specs.Shown.{added_by, meant_by}
 use Rattle.stand_model.specs.Stands.{WordStands, WordsStand, HalvesStand, AreBytesOf, BytesStand, mark_of}
 use Rattle.stand_laws.proofs.ResultLemmas.{ok_or, both_ok, then_ok}
-use Rattle.stand_laws.proofs.ValueLemmas.{Setting, scene, Shown, AllShown, value_stands, number_stands}
+use Rattle.stand_laws.proofs.ValueLemmas.{Setting, lookup, Shown, AllShown, value_stands, number_stands}
 
 -- ---- words
 
@@ -38,8 +38,8 @@ total_of k w = (w.number + added_by k.source k.values w.target) % 2 ^ 32
 -- the number of a place, and the word that shows it
 abbrev pub HoldsPlace : Setting → List ℕ → ℕ → Stored → Type 0
 HoldsPlace k q n w =
-    (number : ℕ) × (placed_value (scene k).placing (sees k.context) (Place q n) ≡ Number number)
-    × (total_of k w ≡ (number + mark_of (scene k) (Ok (Place q n))) % 2 ^ 32)
+    (number : ℕ) × (placed_value (lookup k).placing (sees k.context) (Place q n) ≡ Number number)
+    × (total_of k w ≡ (number + mark_of (lookup k) (Ok (Place q n))) % 2 ^ 32)
 
 pub place_held : (k : Setting) (q : List ℕ) (n : ℕ) (o : Option (ℕ × ℕ)) → stands_at (sees k.context) q ≡ o
     → HoldsPlace k q n (placed k.context (datum_names k.source.statements) q n o)
@@ -56,19 +56,19 @@ place_held k q n (Some a) x = (
 
 pub word_stands : (k : Setting) (a : ℕ) (e : Expr) (r : Result Value LineKind) (w : Stored) → HaveSymbols (sees k.context)
     → value_of k.context e ≡ r → stored k.context (datum_names k.source.statements) r ≡ Ok w → ShowsWord k.view a (total_of k w)
-    → WordStands (scene k) a e
+    → WordStands (lookup k) a e
 word_stands k a e (Ok (Number n)) w here x y h = record {
   number = n;
-  means = value_stands (scene k) e (Number n) here x;
-  shows = subst (ShowsWord k.view a) (ap (λ z. total_of k (ok_or w z)) (sym y) ∙ ap (λ z. (n + mark_of (scene k) z) % 2 ^ 32) (sym x)) h;
+  means = value_stands (lookup k) e (Number n) here x;
+  shows = subst (ShowsWord k.view a) (ap (λ z. total_of k (ok_or w z)) (sym y) ∙ ap (λ z. (n + mark_of (lookup k) z) % 2 ^ 32) (sym x)) h;
 }
 word_stands k a e (Ok (Place q n)) w here x y h =
     let p = place_held k q n (stands_at (sees k.context) q) refl in
     record {
       number = p.0;
-      means = value_stands (scene k) e (Place q n) here x ∙ ap Ok p.1;
+      means = value_stands (lookup k) e (Place q n) here x ∙ ap Ok p.1;
       shows = subst (ShowsWord k.view a)
-          (ap (λ z. total_of k (ok_or w z)) (sym y) ∙ p.2 ∙ ap (λ z. (p.0 + mark_of (scene k) z) % 2 ^ 32) (sym x)) h;
+          (ap (λ z. total_of k (ok_or w z)) (sym y) ∙ p.2 ∙ ap (λ z. (p.0 + mark_of (lookup k) z) % 2 ^ 32) (sym x)) h;
     }
 word_stands k a e (Ok (Truth b)) w here x y h = absurd (cc)
 word_stands k a e (Ok (Words b)) w here x y h = absurd (cc)
@@ -86,7 +86,7 @@ pub further : (a base at n : ℕ) → a ≡ base + at → a + n ≡ base + (at +
 further a base at n h = omega (arith, h)
 
 pub words_stand : (k : Setting) (es : List Expr) (us : List Emitted) (a at : ℕ) → HaveSymbols (sees k.context) → a ≡ k.base + at
-    → word_units k.context (datum_names k.source.statements) es ≡ Ok us → AllShown k (units_from at us) → WordsStand (scene k) a es
+    → word_units k.context (datum_names k.source.statements) es ≡ Ok us → AllShown k (units_from at us) → WordsStand (lookup k) a es
 words_stand k [] us a at here x h s = tt
 words_stand k (e ∷ es) us a at here x h s =
     let d = datum_names k.source.statements in
@@ -109,7 +109,7 @@ pub further_by : (a base at n m : ℕ) → a ≡ base + at → n ≡ m → a + n
 further_by a base at n m h e = omega (arith, h, e)
 
 pub halves_stand : (k : Setting) (es : List Expr) (us : List Emitted) (a at : ℕ) → HaveSymbols (sees k.context) → a ≡ k.base + at
-    → half_units k.context es ≡ Ok us → AllShown k (units_from at us) → HalvesStand (scene k) a es
+    → half_units k.context es ≡ Ok us → AllShown k (units_from at us) → HalvesStand (lookup k) a es
 halves_stand k [] us a at here x h s = tt
 halves_stand k (e ∷ es) us a at here x h s =
     let b = both_ok (λ b vs. Bytes b ∷ vs) (and_then (number_in k.context e) (narrow 2)) (half_units k.context es) us h in
@@ -118,7 +118,7 @@ halves_stand k (e ∷ es) us a at here x h s =
     let f = first_shown k at (Bytes b.first) b.second us b.gives s in (
       record {
         number = t.from;
-        means = number_stands (scene k) e t.from here t.is;
+        means = number_stands (lookup k) e t.from here t.is;
         shows = subst (Shows k.view a) (sym n) (subst (λ z. Shows k.view z b.first) (sym x) f.0);
       },
       halves_stand k es b.second (a + 2) (at + length b.first) here (further_by a k.base at 2 (length b.first) x (ap length n)) b.is_second f.1,
@@ -140,7 +140,7 @@ byte_is known (Ok (Place s n)) bytes h = absurd (cc)
 byte_is known (Err j) bytes h = absurd (cc)
 
 pub bytes_stand : (k : Setting) (s : Names) (es : List Expr) (us : List Emitted) (a at : ℕ) → HaveSymbols (sees k.context) → KnownStay k.context s
-    → a ≡ k.base + at → byte_units k.context s es ≡ Ok us → AllShown k (units_from at us) → BytesStand (scene k) a es
+    → a ≡ k.base + at → byte_units k.context s es ≡ Ok us → AllShown k (units_from at us) → BytesStand (lookup k) a es
 bytes_stand k s [] us a at here stay x h shown = tt
 bytes_stand k s (e ∷ es) us a at here stay x h shown =
     let b = both_ok (λ b vs. Bytes b ∷ vs) (byte_operand (value_there s e) (value_of k.context e)) (byte_units k.context s es) us h in
@@ -151,6 +151,6 @@ bytes_stand k s (e ∷ es) us a at here stay x h shown =
       bytes_stand k s es b.second (a + length b.first) (at + length b.first) here stay (further a k.base at (length b.first) x) b.is_second f.1,
     )
   where
-    by_kind : {bytes : List ℕ} → ByteIs (value_there s e) (value_of k.context e) bytes → AreBytesOf (scene k) e bytes
-    by_kind {bytes = bytes} (inl i) = inl (value_stands (scene k) e (Words bytes) here (stay e (Words bytes) i))
-    by_kind {bytes = bytes} (inr i) = inr (i.0, value_stands (scene k) e (Number i.0) here i.1, sym (narrow_is 1 i.0 bytes i.2))
+    by_kind : {bytes : List ℕ} → ByteIs (value_there s e) (value_of k.context e) bytes → AreBytesOf (lookup k) e bytes
+    by_kind {bytes = bytes} (inl i) = inl (value_stands (lookup k) e (Words bytes) here (stay e (Words bytes) i))
+    by_kind {bytes = bytes} (inr i) = inr (i.0, value_stands (lookup k) e (Number i.0) here i.1, sym (narrow_is 1 i.0 bytes i.2))

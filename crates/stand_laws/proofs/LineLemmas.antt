@@ -31,7 +31,7 @@ use Rattle.stand_laws.proofs.DataLemmas.{KnownStay, words_stand, halves_stand, b
 use Rattle.stand_laws.proofs.PseudoLemmas.{PseudoHolds, pseudo_stands}
 use Rattle.stand_laws.proofs.ResultLemmas.{mapped_ok}
 use Rattle.stand_laws.proofs.ThumbLemmas.{LinkMeets, thumb_pseudo_stands, thumb_stands}
-use Rattle.stand_laws.proofs.ValueLemmas.{Setting, scene, AllShown, GapsShown}
+use Rattle.stand_laws.proofs.ValueLemmas.{Setting, lookup, AllShown, GapsShown}
 
 -- ---- statements
 
@@ -50,7 +50,7 @@ WhatMeets k a size word (what.Directive l) = DirectiveZero k.view a size l
 
 pub directive_stands : (k : Setting) (area at a : ℕ) → Ready k area at → a ≡ k.base + at → (s : Names) (size : ℕ) (l : DirectiveLine) (us : List Emitted)
     → directive_units k.context (datum_names k.source.statements) s l ≡ Ok us → AllShown k (units_from at us) → KnownStay k.context s
-    → DirectiveZero k.view a size l → DirectiveStands (scene k) a size l
+    → DirectiveZero k.view a size l → DirectiveStands (lookup k) a size l
 directive_stands k area at a ready x s size (line.Dcd es) us h shown stay zero = words_stand k es us a at ready.here x h shown
 directive_stands k area at a ready x s size (line.Dcdu es) us h shown stay zero = words_stand k es us a at ready.here x h shown
 directive_stands k area at a ready x s size (line.Dcw es) us h shown stay zero = halves_stand k es us a at ready.here x h shown
@@ -62,7 +62,7 @@ directive_stands k area at a ready x s size l us h shown stay zero = tt
 -- in Thumb or ARM state
 pseudo_in : (k : Setting) (area at a : ℕ) → Ready k area at → a ≡ k.base + at → (word : Option ℕ) (l : PseudoLine) (us : List Emitted) (thumb : Bool)
     → pseudo_units thumb k.context word l ≡ Ok us → AllShown k (units_from at us) → PseudoHolds k word l
-    → PseudoStandsIn thumb (scene k) a (address_behind k.base word) l
+    → PseudoStandsIn thumb (lookup k) a (address_behind k.base word) l
 pseudo_in k area at a ready x word l us true h shown meets =
     let f : ThumbInstr → List Emitted = λ i. Half i ∷ [] in
     let m = mapped_ok f (thumb_pseudo k.context word l) us h in
@@ -74,7 +74,7 @@ pseudo_in k area at a ready x word l us false h shown meets =
 
 pub line_stands : (k : Setting) (area at a : ℕ) → Ready k area at → a ≡ k.base + at → (s : Names) (size : ℕ) (word : Option ℕ) (w : What) (us : List Emitted)
     → units k.context (datum_names k.source.statements) s word w ≡ Ok us → AllShown k (units_from at us) → KnownStay k.context s
-    → WhatMeets k a size word w → Stands (scene k) a size (address_behind k.base word) w
+    → WhatMeets k a size word w → Stands (lookup k) a size (address_behind k.base word) w
 line_stands k area at a ready x s size word what.Nothing us h shown stay meets = tt
 line_stands k area at a ready x s size word (what.Arm l) us h shown stay meets =
     let f : ArmInstr → List Emitted = λ i. Instruction i (branch_symbol k.context l) ∷ [] in

@@ -23,7 +23,7 @@ use Rattle.stand_laws.proofs.ArmLemmas.{Ready, own_stands, away_is}
 use Rattle.stand_laws.proofs.DataLemmas.{first_shown}
 use Rattle.stand_laws.proofs.FieldLemmas.{away, away_leads, distance_leads, immediate_gives, moved_up, moved_down, first_within, twice_up, twice_down}
 use Rattle.stand_laws.proofs.ResultLemmas.{then_ok, mapped_ok}
-use Rattle.stand_laws.proofs.ValueLemmas.{Setting, scene, AllShown, number_stands}
+use Rattle.stand_laws.proofs.ValueLemmas.{Setting, lookup, AllShown, number_stands}
 
 -- ---- ADR
 
@@ -59,7 +59,7 @@ away_of_small k o = omega arith
 
 pub address_stands : (k : Setting) (area at a : ℕ) → Ready k area at → a ≡ k.base + at
     → (condition : Condition) (rd : ℕ) (e : Expr) (o : ℕ) (i : ArmInstr) → own_offset k.context (value_of k.context e) ≡ Ok o
-    → address_instruction condition rd (away_from k.context o) ≡ Ok i → ReadsAt k.view a i → AddressStands (scene k) a condition rd e
+    → address_instruction condition rd (away_from k.context o) ≡ Ok i → ReadsAt k.view a i → AddressStands (lookup k) a condition rd e
 address_stands k area at a ready x condition rd e o i v h s =
     let d = away_from k.context o in
     let m = moves condition rd d i (away_of_small k o) (immediate d) (immediate (negated d)) refl refl h in
@@ -140,7 +140,7 @@ four_on a base at e = omega (arith, e)
 
 pub long_stands : (k : Setting) (area at a : ℕ) → Ready k area at → a ≡ k.base + at
     → (condition : Condition) (rd : ℕ) (e : Expr) (o : ℕ) (is : List ArmInstr) → own_offset k.context (value_of k.context e) ≡ Ok o
-    → long_address condition rd (away_from k.context o) ≡ Ok is → AllShown k (units_from at (instruction_units is)) → LongStands (scene k) a condition rd e
+    → long_address condition rd (away_from k.context o) ≡ Ok is → AllShown k (units_from at (instruction_units is)) → LongStands (lookup k) a condition rd e
 long_stands k area at a ready x condition rd e o is v h s =
     let d = away_from k.context o in
     let m = long_moves condition rd d is (away_of_small k o) (two_of condition Add rd d) (two_of condition Sub rd (negated d)) refl refl h in
@@ -164,7 +164,7 @@ long_stands k area at a ready x condition rd e o is v h s =
 -- the word of a literal holds its value
 abbrev pub LiteralHolds : Setting → Expr → Option ℕ → Type 0
 LiteralHolds k e None = Unit {0}
-LiteralHolds k e (Some w) = WordStands (scene k) (k.base + w) e
+LiteralHolds k e (Some w) = WordStands (lookup k) (k.base + w) e
 
 pub one_shown : (k : Setting) (at a : ℕ) (i : ArmInstr) (is : List ArmInstr) → a ≡ k.base + at → one i ≡ is → AllShown k (units_from at (instruction_units is))
     → ReadsAt k.view a i
@@ -177,14 +177,14 @@ PseudoHolds k word l = Unit {0}
 
 pub pseudo_stands : (k : Setting) (area at a : ℕ) → Ready k area at → a ≡ k.base + at → (word : Option ℕ) (l : PseudoLine) (is : List ArmInstr)
     → pseudo_instructions k.context word l ≡ Ok is → AllShown k (units_from at (instruction_units is)) → PseudoHolds k word l
-    → PseudoStands (scene k) a (address_behind k.base word) l
+    → PseudoStands (lookup k) a (address_behind k.base word) l
 pseudo_stands k area at a ready x None (pseudo.LoadConstant condition rd e) is h s holds =
     let f : ℕ → Result (List ArmInstr) LineKind = λ n. mapped one (data_immediate condition Mov false 0 (register k.context rd) n) in
     let t = then_ok f (number_in k.context e) is h in
     let m = mapped_ok one (data_immediate condition Mov false 0 (register k.context rd) t.from) is t.gives in
     record {
       number = t.from;
-      means = number_stands (scene k) e t.from ready.here t.is;
+      means = number_stands (lookup k) e t.from ready.here t.is;
       instruction = m.from;
       says = m.is;
       reads = one_shown k at a m.from is x m.gives s;

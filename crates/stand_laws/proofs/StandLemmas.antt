@@ -47,7 +47,7 @@ use Rattle.stand_laws.proofs.ArmLemmas.{Ready, SymbolMeets}
 use Rattle.stand_laws.proofs.AreaLemmas.{area_there, found_at}
 use Rattle.stand_laws.proofs.LineLemmas.{WhatMeets, line_stands, zeros_there}
 use Rattle.stand_laws.proofs.SymbolLemmas.{symbol_placed_there}
-use Rattle.stand_laws.proofs.ValueLemmas.{Setting, scene, AllShown, ThingsShown, GapsShown, setting}
+use Rattle.stand_laws.proofs.ValueLemmas.{Setting, lookup, AllShown, ThingsShown, GapsShown, setting}
 use Rattle.stand_laws.proofs.WordLemmas.{literal_holds}
 
 near_enough : (offset size : ℕ) → offset + size ≤ 2 ^ 24 → offset + 8 ≤ 2 ^ 32
@@ -86,12 +86,12 @@ module _ (ss : List Statement) (o : Object) (fine : IsFaultless ss) (obj : IsObj
   -- ---- branches to symbols
 
   address_meets : (c : ℕ) (cs : List ℕ) → IsListed (symbols_of names (laid ss)) (c ∷ cs) → (x : Option LaidName) → named_in (c ∷ cs) names ≡ x
-      → address_at (scene k).placing (c ∷ cs) (entry_stands_at x) % 2 ^ 32 ≡ (meant_by (source_of ss) values (c ∷ cs)).number % 2 ^ 32
+      → address_at (lookup k).placing (c ∷ cs) (entry_stands_at x) % 2 ^ 32 ≡ (meant_by (source_of ss) values (c ∷ cs)).number % 2 ^ 32
   address_meets c cs there None e = refl
   address_meets c cs there (Some n) e = by_place (in_area n.area n.offset) refl
     where
       by_place : (a : Option (ℕ × ℕ)) → in_area n.area n.offset ≡ a
-          → address_at (scene k).placing (c ∷ cs) a % 2 ^ 32 ≡ (meant_by (source_of ss) values (c ∷ cs)).number % 2 ^ 32
+          → address_at (lookup k).placing (c ∷ cs) a % 2 ^ 32 ≡ (meant_by (source_of ss) values (c ∷ cs)).number % 2 ^ 32
       by_place None h = refl
       by_place (Some a) h = symbol_placed_there ss o obj own values area_at placed c cs n a there e h
 
@@ -123,7 +123,7 @@ module _ (ss : List Statement) (o : Object) (fine : IsFaultless ss) (obj : IsObj
   what_meets shown gaps w x = tt
 
   pub shown_line_stands : ThingsShown k area → GapsShown (source_of ss) area view (values.base area)
-      → Stands (scene k) (values.base area + l.offset) l.size (address_behind (values.base area) (word_among after l before)) l.statement.what
+      → Stands (lookup k) (values.base area + l.offset) l.size (address_behind (values.base area) (word_among after l before)) l.statement.what
   shown_line_stands shown gaps =
       let u = (line_valued ss fine.valued after before l parts).0 in
       let units_shown : AllShown k (units_from l.offset u.0) = λ p h.

@@ -35,7 +35,7 @@ use Rattle.stand_laws.proofs.ArmLemmas.{Ready, SymbolMeets, area_sum, displaced,
 use Rattle.stand_laws.proofs.HalfLemmas.{HoldsHalves, IsWidth, behind, behind_leads, behind_small, conditional_width, halves_held, link_field, link_width, linked_leads, short_width, words_are, words_lead}
 use Rattle.stand_laws.proofs.PseudoLemmas.{PseudoHolds}
 use Rattle.stand_laws.proofs.ResultLemmas.{both_ok, mapped_ok, then_ok}
-use Rattle.stand_laws.proofs.ValueLemmas.{Setting, scene, Shown, value_stands}
+use Rattle.stand_laws.proofs.ValueLemmas.{Setting, lookup, Shown, value_stands}
 
 -- ---- what memory shows
 
@@ -50,7 +50,7 @@ record Settled (k : Setting) (at : ℕ) (e : Expr) (d : ℕ) : Type 0 where
   offset : ℕ
   target : ℕ
   displaced : d ≡ behind at offset
-  means : IsNumber (scene k) e target
+  means : IsNumber (lookup k) e target
   leads : (k.base + offset) % 2 ^ 32 ≡ target
 
 settled_start : (k : Setting) (area at : ℕ) → Ready k area at → (e : Expr) (n d : ℕ) → value_of k.context e ≡ Ok (Place [] n) → d ≡ thumb_from k.context [] n
@@ -59,7 +59,7 @@ settled_start k area at ready e n d v h = record {
   offset = n;
   target = (k.values.base area + 0 + n) % 2 ^ 32;
   displaced = h ∙ ap (λ z. behind z n) ready.starts;
-  means = value_stands (scene k) e (Place [] n) ready.here v ∙ ap (λ z. Ok (Number ((address_at (scene k).placing [] (in_area z 0) + n) % 2 ^ 32))) ready.own;
+  means = value_stands (lookup k) e (Place [] n) ready.here v ∙ ap (λ z. Ok (Number ((address_at (lookup k).placing [] (in_area z 0) + n) % 2 ^ 32))) ready.own;
   leads = start_sum k.base n (k.values.base area) ready.based;
 }
 
@@ -74,7 +74,7 @@ settled_there k area at ready e y ys n d v t h =
       target = (k.values.base area + p.0 + n) % 2 ^ 32;
       displaced = h ∙ ap (λ (b : Bool). behind k.context.line.offset (cond b (offset_at (stands_at (sees k.context) q) + n) n)) t
           ∙ ap (λ z. behind k.context.line.offset (offset_at z + n)) p.1 ∙ ap (λ z. behind z o) ready.starts;
-      means = value_stands (scene k) e (Place q n) ready.here v ∙ ap (λ z. Ok (Number ((address_at (scene k).placing q z + n) % 2 ^ 32))) p.1;
+      means = value_stands (lookup k) e (Place q n) ready.here v ∙ ap (λ z. Ok (Number ((address_at (lookup k).placing q z + n) % 2 ^ 32))) p.1;
       leads = area_sum k.base p.0 n (k.values.base area) ready.based;
     }
 
@@ -95,7 +95,7 @@ settled_of k area at ready e (Err j) d v h = absurd (cc)
 short_stands : (k : Setting) (area at a : ℕ) → Ready k area at → a ≡ k.base + at → (limit size : ℕ) → IsWidth limit size → (make : ℕ → ThumbInstr)
     → ((f target : ℕ) → ReadsHalfAt k.view a (make f) → (a + 4 + sign_extended f size * 2) % 2 ^ 32 ≡ target % 2 ^ 32 → Reaches k.view k.region true a target true)
     → (e : Expr) (code : ThumbCode) → mapped (λ i. One i) (mapped make (branch_by k.context limit e)) ≡ Ok code → Shown k (at, code_unit None code)
-    → ShortBranchStands (scene k) a make e
+    → ShortBranchStands (lookup k) a make e
 short_stands k area at a ready x limit size width make reaches e code h s =
     let o = mapped_ok (λ i. One i) (mapped make (branch_by k.context limit e)) code h in
     let m = mapped_ok make (branch_by k.context limit e) o.from o.is in
@@ -116,10 +116,10 @@ short_stands k area at a ready x limit size width make reaches e code h s =
 
 -- the state in which BL reaches its target
 abbrev state_for : Setting → Expr → Bool
-state_for k e = target_state true (scene k) (value_of k.context e)
+state_for k e = target_state true (lookup k) (value_of k.context e)
 
 link_settled : (k : Setting) (area at a : ℕ) → Ready k area at → a ≡ k.base + at → (e : Expr) (d f : ℕ) → half_words (2 ^ 22) d ≡ Ok f → Settled k at e d
-    → CodeReadsAt k.view a (pair_fields f) → state_for k e ≡ true → LinkStands (scene k) a e
+    → CodeReadsAt k.view a (pair_fields f) → state_for k e ≡ true → LinkStands (lookup k) a e
 link_settled k area at a ready x e d f field s reads state =
     let held : HoldsHalves 22 d f = halves_held (2 ^ 22) 22 d f link_width (behind_small at s.offset d s.displaced) field in
     let leads = held.spans (a + 4) ∙ behind_leads k.base at s.offset a d s.target ready.small x s.displaced s.leads in
@@ -149,9 +149,9 @@ link_settled k area at a ready x e d f field s reads state =
 link_to : (k : Setting) (area at a : ℕ) → Ready k area at → a ≡ k.base + at → (e : Expr) (y : ℕ) (ys : List ℕ) (n d f : ℕ)
     → value_of k.context e ≡ Ok (Place (y ∷ ys) n) → d ≡ thumb_from k.context (y ∷ ys) n → half_words (2 ^ 22) d ≡ Ok f
     → Shown k (at, code_unit (linked_symbol k.context (Ok (Place (y ∷ ys) n))) (pair_fields f)) → SymbolMeets k (Ok (Place (y ∷ ys) n))
-    → LinkStands (scene k) a e
+    → LinkStands (lookup k) a e
 link_to k area at a ready x e y ys n d f v h field s meets =
-    by_test (is_settled k.context (y ∷ ys)) refl h s (meets y ys) (ap (target_state true (scene k)) v)
+    by_test (is_settled k.context (y ∷ ys)) refl h s (meets y ys) (ap (target_state true (lookup k)) v)
   where
     q : List ℕ
     q = y ∷ ys
@@ -160,11 +160,11 @@ link_to k area at a ready x e y ys n d f v h field s meets =
     m = meant_by k.source k.values q
 
     left : d ≡ behind k.context.line.offset n → Shown k (at, LinkPair (f / 2 ^ 11) (f % 2 ^ 11) (Some q))
-        → address_of (scene k).placing (sees k.context) q % 2 ^ 32 ≡ m.number % 2 ^ 32
-        → state_for k e ≡ state_of true m m.home → LinkStands (scene k) a e
+        → address_of (lookup k).placing (sees k.context) q % 2 ^ 32 ≡ m.number % 2 ^ 32
+        → state_for k e ≡ state_of true m m.home → LinkStands (lookup k) a e
     left g b meet state =
         let l : LinkedPair k.view k.region (k.base + at) at (f / 2 ^ 11) (f % 2 ^ 11) m = b in
-        let address : ℕ = address_of (scene k).placing (sees k.context) q in
+        let address : ℕ = address_of (lookup k).placing (sees k.context) q in
         let there : d ≡ behind at n = g ∙ ap (λ z. behind z n) ready.starts in
         let held : HoldsHalves 22 d f = halves_held (2 ^ 22) 22 d f link_width (behind_small at n d there) field in
         let leads = linked_leads at d (sign_extended f 22) n m.number address ready.small there (held.spans (at + 4)) meet in
@@ -174,7 +174,7 @@ link_to k area at a ready x e y ys n d f v h field s meets =
           second = l.low;
           reads = subst (λ z. CodeReadsAt k.view z (Pair l.high l.low)) (sym x) l.reads;
           target = (address + n) % 2 ^ 32;
-          means = value_stands (scene k) e (Place q n) ready.here v;
+          means = value_stands (lookup k) e (Place q n) ready.here v;
           reaches = subst (λ z. Reaches k.view k.region true z ((address + n) % 2 ^ 32) (state_for k e)) (sym x)
               (subst (λ z. Reaches k.view k.region true (k.base + at) ((address + n) % 2 ^ 32) z) (sym state)
               (subst (λ z. Reaches k.view k.region true (k.base + at) z (state_of true m m.home)) whole l.reaches));
@@ -183,18 +183,18 @@ link_to k area at a ready x e y ys n d f v h field s meets =
     by_test : (t : Bool) → is_settled k.context q ≡ t
         → d ≡ behind k.context.line.offset (cond t (offset_at (stands_at (sees k.context) q) + n) n)
         → Shown k (at, code_unit (cond t None (Some q)) (pair_fields f))
-        → (cond t None (Some q) ≡ Some q → address_of (scene k).placing (sees k.context) q % 2 ^ 32 ≡ m.number % 2 ^ 32)
-        → state_for k e ≡ cond t true (state_of true m m.home) → LinkStands (scene k) a e
+        → (cond t None (Some q) ≡ Some q → address_of (lookup k).placing (sees k.context) q % 2 ^ 32 ≡ m.number % 2 ^ 32)
+        → state_for k e ≡ cond t true (state_of true m m.home) → LinkStands (lookup k) a e
     by_test true t g b meet state =
         link_settled k area at a ready x e d f field (settled_there k area at ready e y ys n d v t h) (code_shown k at a (pair_fields f) x b) state
     by_test false t g b meet state = left g b (meet refl) state
 
 link_of : (k : Setting) (area at a : ℕ) → Ready k area at → a ≡ k.base + at → (e : Expr) (r : Result Value LineKind) (d f : ℕ)
     → value_of k.context e ≡ r → thumb_displacement true k.context r ≡ Ok d → half_words (2 ^ 22) d ≡ Ok f
-    → Shown k (at, code_unit (linked_symbol k.context r) (pair_fields f)) → SymbolMeets k r → LinkStands (scene k) a e
+    → Shown k (at, code_unit (linked_symbol k.context r) (pair_fields f)) → SymbolMeets k r → LinkStands (lookup k) a e
 link_of k area at a ready x e (Ok (Place [] n)) d f v h field s meets =
     link_settled k area at a ready x e d f field (settled_start k area at ready e n d v (displaced true (thumb_from k.context [] n) d h)) (code_shown k at a (pair_fields f) x s)
-    (ap (target_state true (scene k)) v)
+    (ap (target_state true (lookup k)) v)
 link_of k area at a ready x e (Ok (Place (y ∷ ys) n)) d f v h field s meets =
     link_to k area at a ready x e y ys n d f v (displaced (has_symbol k.context (y ∷ ys)) (thumb_from k.context (y ∷ ys) n) d h) field s meets
 link_of k area at a ready x e (Ok (Number n)) d f v h field s meets = absurd (cc)
@@ -204,7 +204,7 @@ link_of k area at a ready x e (Err j) d f v h field s meets = absurd (cc)
 
 link_stands : (k : Setting) (area at a : ℕ) → Ready k area at → a ≡ k.base + at → (e : Expr) (code : ThumbCode)
     → thumb_instruction k.context (thumb.BranchLink e) ≡ Ok code → Shown k (at, code_unit (linked_symbol k.context (value_of k.context e)) code)
-    → SymbolMeets k (value_of k.context e) → LinkStands (scene k) a e
+    → SymbolMeets k (value_of k.context e) → LinkStands (lookup k) a e
 link_stands k area at a ready x e code h s meets =
     let m = mapped_ok pair_fields (and_then (thumb_displacement true k.context (value_of k.context e)) (half_words (2 ^ 22))) code h in
     let t = then_ok (half_words (2 ^ 22)) (thumb_displacement true k.context (value_of k.context e)) m.from m.is in
@@ -243,7 +243,7 @@ counts k area at a ready x make rd to o i e h s =
 -- to a label of the statement's own area
 label_counted : (k : Setting) (area at a : ℕ) → Ready k area at → a ≡ k.base + at → (make : ℕ → ℕ → ThumbInstr) (rd : Register) (e : Expr) (i : ThumbInstr)
     → mapped (λ (p : ℕ × ℕ). make p.0 p.1) (both (low k.context rd) (words_to k.context (own_offset k.context (value_of k.context e)))) ≡ Ok i → ReadsHalfAt k.view a i
-    → LabelCounted (scene k) a (make (register k.context rd)) e
+    → LabelCounted (lookup k) a (make (register k.context rd)) e
 label_counted k area at a ready x make rd e i h s =
     let to = own_offset k.context (value_of k.context e) in
     let m = mapped_ok (λ (p : ℕ × ℕ). make p.0 p.1) (both (low k.context rd) (words_to k.context to)) i h in
@@ -262,12 +262,12 @@ LinkMeets k (thumb.BranchLink e) = SymbolMeets k (value_of k.context e)
 LinkMeets k l = Unit {0}
 
 plain_thumb : (k : Setting) (at a : ℕ) → a ≡ k.base + at → (l : ThumbLine) (i : ThumbCode) → thumb_instruction k.context l ≡ Ok i → Shown k (at, code_unit None i)
-    → ThumbInstructionStands (scene k) a l
+    → ThumbInstructionStands (lookup k) a l
 plain_thumb k at a x l i h s = record { code = i; says = h; reads = code_shown k at a i x s }
 
 literal_stands : (k : Setting) (area at a : ℕ) → Ready k area at → a ≡ k.base + at → (rd : Register) (e : Expr) (code : ThumbCode)
     → thumb_instruction k.context (thumb.LoadLiteral rd (literal.Label e)) ≡ Ok code → Shown k (at, code_unit None code)
-    → LabelCounted (scene k) a (instr.LoadLiteral (register k.context rd)) e
+    → LabelCounted (lookup k) a (instr.LoadLiteral (register k.context rd)) e
 literal_stands k area at a ready x rd e code h s =
     let made = mapped (λ (p : ℕ × ℕ). instr.LoadLiteral p.0 p.1) (both (low k.context rd) (words_to k.context (own_offset k.context (value_of k.context e)))) in
     let o = mapped_ok (λ i. One i) made code h in
@@ -275,7 +275,7 @@ literal_stands k area at a ready x rd e code h s =
     (code_shown k at a (One o.from) x (subst (λ z. Shown k (at, code_unit None z)) (sym o.gives) s))
 
 pub thumb_stands : (k : Setting) (area at a : ℕ) → Ready k area at → a ≡ k.base + at → (l : ThumbLine) (i : ThumbCode) → thumb_instruction k.context l ≡ Ok i
-    → Shown k (at, code_unit (link_symbol k.context l) i) → LinkMeets k l → ThumbStands (scene k) a l
+    → Shown k (at, code_unit (link_symbol k.context l) i) → LinkMeets k l → ThumbStands (lookup k) a l
 thumb_stands k area at a ready x (thumb.LoadLiteral rd (literal.Label e)) i h s meets = literal_stands k area at a ready x rd e i h s
 thumb_stands k area at a ready x (thumb.BranchConditional condition e) i h s meets =
     short_stands k area at a ready x (2 ^ 8) 8 conditional_width (λ f. instr.BranchConditional condition f)
@@ -290,7 +290,7 @@ thumb_stands k area at a ready x l i h s meets = plain_thumb k at a x l i h s
 -- ---- pseudo-instructions
 
 pub thumb_pseudo_stands : (k : Setting) (area at a : ℕ) → Ready k area at → a ≡ k.base + at → (word : Option ℕ) (l : PseudoLine) (i : ThumbInstr)
-    → thumb_pseudo k.context word l ≡ Ok i → ReadsHalfAt k.view a i → PseudoHolds k word l → ThumbPseudoStands (scene k) a (address_behind k.base word) l
+    → thumb_pseudo k.context word l ≡ Ok i → ReadsHalfAt k.view a i → PseudoHolds k word l → ThumbPseudoStands (lookup k) a (address_behind k.base word) l
 thumb_pseudo_stands k area at a ready x None (pseudo.LoadConstant condition rd e) i h s holds =
     let m = mapped_ok (λ (p : ℕ × ℕ). instr.LoadLiteral p.0 p.1) (both (low k.context rd) (words_to k.context (word_offset None))) i h in
     let b = both_ok (λ (y : ℕ) (z : ℕ). (y, z)) (low k.context rd) (words_to k.context (word_offset None)) m.from m.is in

@@ -22,7 +22,7 @@ use Rattle.source_model.specs.Contexts.{Context, sees, value_of, number_in}
 use Rattle.source_model.specs.Objects.{Piece, Source, source_of, symbol_number, IsAmong, StandsIn}
 use Rattle.source_laws.specs.Laws.{context_behind}
 use Rattle.stand_model.specs.Shown.{IsShown}
-use Rattle.stand_model.specs.Stands.{Scene, value_placed, IsNumber, IsGap, placing_of}
+use Rattle.stand_model.specs.Stands.{Lookup, value_placed, IsNumber, IsGap, placing_of}
 
 -- a source that is placed, with the base of an area and what a line of it sees
 pub record Setting : Type 0 where
@@ -33,8 +33,8 @@ pub record Setting : Type 0 where
   pub base : ℕ
   pub context : Context
 
-abbrev pub scene : Setting → Scene
-scene k = record {
+abbrev pub lookup : Setting → Lookup
+lookup k = record {
   view = k.view;
   region = k.region;
   placing = placing_of k.source k.values;
@@ -67,7 +67,7 @@ ThingsShown k area = (p : Piece) → StandsIn k.source area p → Shown k p
 abbrev pub GapsShown : Source → ℕ → View → ℕ → Type 0
 GapsShown s area view base = (i : ℕ) → i < area_size area (pieces_of s.lines) → IsGap s area i → view (base + i) ≡ Some 0
 
-pub value_stands : (s : Scene) (e : Expr) (v : Value) → HaveSymbols (sees s.context) → value_of s.context e ≡ Ok v
+pub value_stands : (s : Lookup) (e : Expr) (v : Value) → HaveSymbols (sees s.context) → value_of s.context e ≡ Ok v
     → value_placed s e ≡ Ok (placed_value s.placing (sees s.context) v)
 value_stands s e v here h = by_tree (tree_of e) refl
   where
@@ -82,5 +82,5 @@ number_only (Ok (Words w)) n h = absurd (cc)
 number_only (Ok (Place q m)) n h = absurd (cc)
 number_only (Err k) n h = absurd (cc)
 
-pub number_stands : (s : Scene) (e : Expr) (n : ℕ) → HaveSymbols (sees s.context) → number_in s.context e ≡ Ok n → IsNumber s e n
+pub number_stands : (s : Lookup) (e : Expr) (n : ℕ) → HaveSymbols (sees s.context) → number_in s.context e ≡ Ok n → IsNumber s e n
 number_stands s e n here h = value_stands s e (Number n) here (number_only (value_of s.context e) n h)

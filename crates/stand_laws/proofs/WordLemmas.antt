@@ -55,7 +55,7 @@ use Rattle.stand_laws.proofs.LiteralLemmas.{Same32, Plus, Later, Loads, stands_f
 use Rattle.stand_laws.proofs.SymbolLemmas.{stands_own}
 use Rattle.stand_laws.proofs.PseudoLemmas.{LiteralHolds}
 use Rattle.stand_laws.proofs.ResultLemmas.{mapped_ok}
-use Rattle.stand_laws.proofs.ValueLemmas.{Setting, scene, ThingsShown, setting}
+use Rattle.stand_laws.proofs.ValueLemmas.{Setting, lookup, ThingsShown, setting}
 use Rattle.asm_model.specs.declared.names.LaidName.{LaidName}
 use Rattle.said_model.proofs.SharedLemmas.{are_plain}
 
@@ -194,7 +194,7 @@ word_loads area (Loading n v) before rest w h = (n, v, refl, cc)
 word_loads area x before rest w h = absurd (cc)
 
 pub word_holds : (k : Setting) (a : ℕ) (e : Expr) (st : Stored) → HaveSymbols (sees k.context) → StoresSame k (value_of k.context e) st
-    → ShowsWord k.view a (total_of k st) → WordStands (scene k) a e
+    → ShowsWord k.view a (total_of k st) → WordStands (lookup k) a e
 word_holds k a e st here s h = word_stands k a e (value_of k.context e) s.0 here refl s.1 (subst (ShowsWord k.view a) (sym s.2) h)
 
 -- the word of a line's literal, where memory shows what stands in the area

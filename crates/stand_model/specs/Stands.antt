@@ -56,7 +56,7 @@ use Rattle.source_model.specs.Objects.{Piece, Source, At, StandsIn, unit_bytes, 
 use Rattle.stand_model.specs.Placed.{ShowsZeros}
 
 -- a source's symbols and areas where they are placed, and what a statement's operands mean
-pub record Scene : Type 0 where
+pub record Lookup : Type 0 where
   pub view : View
   -- the region of the statement's area
   pub region : Range32
@@ -70,54 +70,54 @@ pub record Scene : Type 0 where
 -- ---- values
 
 -- the value of an expression where each name has its address
-abbrev pub value_placed : Scene → Expr → Result Value LineKind
+abbrev pub value_placed : Lookup → Expr → Result Value LineKind
 value_placed s e = of_tree (tree_of e)
   where
     of_tree : Option Tree → Result Value LineKind
     of_tree None = Err Syntax
     of_tree (Some t) = placed_meaning s.placing (sees s.context) t
 
-abbrev pub IsNumber : Scene → Expr → ℕ → Type 0
+abbrev pub IsNumber : Lookup → Expr → ℕ → Type 0
 IsNumber s e n = value_placed s e ≡ Ok (Number n)
 
 -- ---- data
 
 -- the 1 that a label of Thumb code counts in a word
-abbrev pub mark_at : Scene → List ℕ → Option (ℕ × ℕ) → ℕ
+abbrev pub mark_at : Lookup → List ℕ → Option (ℕ × ℕ) → ℕ
 mark_at s name None = flag (is_thumb_label (s.meant name))
 mark_at s name (Some a) = thumb_bit (counts_one s.data_names (sees s.context) name)
 
-abbrev pub mark_of : Scene → Result Value LineKind → ℕ
+abbrev pub mark_of : Lookup → Result Value LineKind → ℕ
 mark_of s (Ok (Place name n)) = mark_at s name (stands_at (sees s.context) name)
 mark_of s _ = 0
 
-pub record WordStands (s : Scene) (a : ℕ) (e : Expr) : Type 0 where
+pub record WordStands (s : Lookup) (a : ℕ) (e : Expr) : Type 0 where
   pub number : ℕ
   pub means : IsNumber s e number
   pub shows : ShowsWord s.view a ((number + mark_of s (value_of s.context e)) % 2 ^ 32)
 
-abbrev pub WordsStand : Scene → ℕ → List Expr → Type 0
+abbrev pub WordsStand : Lookup → ℕ → List Expr → Type 0
 WordsStand s a [] = Unit {0}
 WordsStand s a (e ∷ es) = WordStands s a e × WordsStand s (a + 4) es
 
-pub record HalfStands (s : Scene) (a : ℕ) (e : Expr) : Type 0 where
+pub record HalfStands (s : Lookup) (a : ℕ) (e : Expr) : Type 0 where
   pub number : ℕ
   pub means : IsNumber s e number
   pub shows : Shows s.view a (bytes_of (number % 2 ^ 16) 2)
 
-abbrev pub HalvesStand : Scene → ℕ → List Expr → Type 0
+abbrev pub HalvesStand : Lookup → ℕ → List Expr → Type 0
 HalvesStand s a [] = Unit {0}
 HalvesStand s a (e ∷ es) = HalfStands s a e × HalvesStand s (a + 2) es
 
 -- an operand of DCB: a string, or the low byte of a number
-abbrev pub AreBytesOf : Scene → Expr → List ℕ → Type 0
+abbrev pub AreBytesOf : Lookup → Expr → List ℕ → Type 0
 AreBytesOf s e bytes = (value_placed s e ≡ Ok (Words bytes)) ⊎ ((n : ℕ) × IsNumber s e n × (bytes ≡ bytes_of (n % 2 ^ 8) 1))
 
-abbrev pub BytesStand : Scene → ℕ → List Expr → Type 0
+abbrev pub BytesStand : Lookup → ℕ → List Expr → Type 0
 BytesStand s a [] = Unit {0}
 BytesStand s a (e ∷ es) = (bytes : List ℕ) × AreBytesOf s e bytes × Shows s.view a bytes × BytesStand s (a + length bytes) es
 
-abbrev pub DirectiveStands : Scene → ℕ → ℕ → DirectiveLine → Type 0
+abbrev pub DirectiveStands : Lookup → ℕ → ℕ → DirectiveLine → Type 0
 DirectiveStands s a size (line.Dcd es) = WordsStand s a es
 DirectiveStands s a size (line.Dcdu es) = WordsStand s a es
 DirectiveStands s a size (line.Dcw es) = HalvesStand s a es
@@ -138,12 +138,12 @@ abbrev pub from_pc : ℕ → Bool → ℕ → ℕ
 from_pc a up offset = if up then (a + 8 + offset) % 2 ^ 32 else (a + 8 + (2 ^ 32 - offset)) % 2 ^ 32
 
 -- the state in which a branch of a state reaches its target: its own, or that of the symbol that is left to the linker
-abbrev pub target_state : Bool → Scene → Result Value LineKind → Bool
+abbrev pub target_state : Bool → Lookup → Result Value LineKind → Bool
 target_state thumb s (Ok (Place (x ∷ xs) n)) =
     if is_settled s.context (x ∷ xs) then thumb else state_of thumb (s.meant (x ∷ xs)) (s.meant (x ∷ xs)).home
 target_state thumb s _ = thumb
 
-pub record BranchStands (s : Scene) (a : ℕ) (condition : Condition) (link : Bool) (e : Expr) : Type 0 where
+pub record BranchStands (s : Lookup) (a : ℕ) (condition : Condition) (link : Bool) (e : Expr) : Type 0 where
   pub field : ℕ
   pub reads : ReadsAt s.view a (instr.Branch condition link field)
   pub target : ℕ
@@ -151,7 +151,7 @@ pub record BranchStands (s : Scene) (a : ℕ) (condition : Condition) (link : Bo
   pub reaches : Reaches s.view s.region false a target (target_state false s (value_of s.context e))
 
 -- a transfer between a register and the word or byte at a label
-pub record TransferStands (s : Scene) (a : ℕ) (condition : Condition) (load byte : Bool) (rd : ℕ) (e : Expr) : Type 0 where
+pub record TransferStands (s : Lookup) (a : ℕ) (condition : Condition) (load byte : Bool) (rd : ℕ) (e : Expr) : Type 0 where
   pub up : Bool
   pub offset : ℕ
   pub reads : ReadsAt s.view a (instr.TransferImmediate condition true up byte false load 15 rd offset)
@@ -160,12 +160,12 @@ pub record TransferStands (s : Scene) (a : ℕ) (condition : Condition) (load by
   pub leads : from_pc a up offset ≡ label
 
 -- the line's instruction, with the values of its operands
-pub record InstructionStands (s : Scene) (a : ℕ) (l : ArmLine) : Type 0 where
+pub record InstructionStands (s : Lookup) (a : ℕ) (l : ArmLine) : Type 0 where
   pub instruction : ArmInstr
   pub says : arm_instruction s.context l ≡ Ok instruction
   pub reads : ReadsAt s.view a instruction
 
-abbrev pub ArmStands : Scene → ℕ → ArmLine → Type 0
+abbrev pub ArmStands : Lookup → ℕ → ArmLine → Type 0
 ArmStands s a (arm.Branch condition link e) = BranchStands s a condition link e
 ArmStands s a (arm.TransferImmediate condition load byte rd (address.Label e)) = TransferStands s a condition load byte (register s.context rd) e
 ArmStands s a l = InstructionStands s a l
@@ -183,7 +183,7 @@ CodeReadsAt view a (One i) = ReadsHalfAt view a i
 CodeReadsAt view a (Pair first second) = ReadsHalfAt view a (half.BranchLink false first) × ReadsHalfAt view (a + 2) (half.BranchLink true second)
 
 -- B, and B with a condition
-pub record ShortBranchStands (s : Scene) (a : ℕ) (instruction : ℕ → ThumbInstr) (e : Expr) : Type 0 where
+pub record ShortBranchStands (s : Lookup) (a : ℕ) (instruction : ℕ → ThumbInstr) (e : Expr) : Type 0 where
   pub field : ℕ
   pub reads : ReadsHalfAt s.view a (instruction field)
   pub target : ℕ
@@ -191,7 +191,7 @@ pub record ShortBranchStands (s : Scene) (a : ℕ) (instruction : ℕ → ThumbI
   pub reaches : Reaches s.view s.region true a target true
 
 -- both halves of BL
-pub record LinkStands (s : Scene) (a : ℕ) (e : Expr) : Type 0 where
+pub record LinkStands (s : Lookup) (a : ℕ) (e : Expr) : Type 0 where
   pub first : ℕ
   pub second : ℕ
   pub reads : CodeReadsAt s.view a (Pair first second)
@@ -210,18 +210,18 @@ pub record CountsTo (view : View) (a : ℕ) (instruction : ℕ → ThumbInstr) (
   pub leads : (word_pc a + words * 4) % 2 ^ 32 ≡ address
 
 -- the same to a label: a load of its word, or its address
-pub record LabelCounted (s : Scene) (a : ℕ) (instruction : ℕ → ThumbInstr) (e : Expr) : Type 0 where
+pub record LabelCounted (s : Lookup) (a : ℕ) (instruction : ℕ → ThumbInstr) (e : Expr) : Type 0 where
   pub label : ℕ
   pub means : IsNumber s e label
   pub counts : CountsTo s.view a instruction label
 
 -- the line's instruction, with the values of its operands
-pub record ThumbInstructionStands (s : Scene) (a : ℕ) (l : ThumbLine) : Type 0 where
+pub record ThumbInstructionStands (s : Lookup) (a : ℕ) (l : ThumbLine) : Type 0 where
   pub code : ThumbCode
   pub says : thumb_instruction s.context l ≡ Ok code
   pub reads : CodeReadsAt s.view a code
 
-abbrev pub ThumbStands : Scene → ℕ → ThumbLine → Type 0
+abbrev pub ThumbStands : Lookup → ℕ → ThumbLine → Type 0
 ThumbStands s a (thumb.LoadLiteral rd (literal.Label e)) = LabelCounted s a (half.LoadLiteral (register s.context rd)) e
 ThumbStands s a (thumb.BranchConditional condition e) = ShortBranchStands s a (half.BranchConditional condition) e
 ThumbStands s a (thumb.Branch e) = ShortBranchStands s a half.Branch e
@@ -231,7 +231,7 @@ ThumbStands s a l = ThumbInstructionStands s a l
 -- ---- pseudo-instructions of ARM state
 
 -- MOV or MVN of the number
-pub record MoveStands (s : Scene) (a : ℕ) (condition : Condition) (rd : ℕ) (e : Expr) : Type 0 where
+pub record MoveStands (s : Lookup) (a : ℕ) (condition : Condition) (rd : ℕ) (e : Expr) : Type 0 where
   pub number : ℕ
   pub means : IsNumber s e number
   pub instruction : ArmInstr
@@ -239,14 +239,14 @@ pub record MoveStands (s : Scene) (a : ℕ) (condition : Condition) (rd : ℕ) (
   pub reads : ReadsAt s.view a instruction
 
 -- a load from the word of the literal, which holds its value
-pub record LoadStands (s : Scene) (a : ℕ) (condition : Condition) (rd : ℕ) (e : Expr) (word : ℕ) : Type 0 where
+pub record LoadStands (s : Lookup) (a : ℕ) (condition : Condition) (rd : ℕ) (e : Expr) (word : ℕ) : Type 0 where
   pub up : Bool
   pub offset : ℕ
   pub reads : ReadsAt s.view a (instr.TransferImmediate condition true up false false true 15 rd offset)
   pub leads : from_pc a up offset ≡ word % 2 ^ 32
   pub holds : WordStands s word e
 
-abbrev pub LiteralStands : Scene → ℕ → Condition → ℕ → Expr → Option ℕ → Type 0
+abbrev pub LiteralStands : Lookup → ℕ → Condition → ℕ → Expr → Option ℕ → Type 0
 LiteralStands s a condition rd e None = MoveStands s a condition rd e
 LiteralStands s a condition rd e (Some word) = LoadStands s a condition rd e word
 
@@ -264,7 +264,7 @@ abbrev pub immediate_number : ℕ × ℕ → ℕ
 immediate_number i = operand i.0 i.1
 
 -- one ADD or SUB from pc gives the address
-pub record AddressStands (s : Scene) (a : ℕ) (condition : Condition) (rd : ℕ) (e : Expr) : Type 0 where
+pub record AddressStands (s : Lookup) (a : ℕ) (condition : Condition) (rd : ℕ) (e : Expr) : Type 0 where
   pub up : Bool
   pub immediate : ℕ × ℕ
   pub reads : ReadsAt s.view a (instr.DataImmediate condition (operation_of up) false 15 rd immediate.0 immediate.1)
@@ -273,7 +273,7 @@ pub record AddressStands (s : Scene) (a : ℕ) (condition : Condition) (rd : ℕ
   pub gives : moved up (a + 8) (immediate_number immediate) ≡ label
 
 -- two of them, the second from the first's register
-pub record LongStands (s : Scene) (a : ℕ) (condition : Condition) (rd : ℕ) (e : Expr) : Type 0 where
+pub record LongStands (s : Lookup) (a : ℕ) (condition : Condition) (rd : ℕ) (e : Expr) : Type 0 where
   pub up : Bool
   pub first : ℕ × ℕ
   pub second : ℕ × ℕ
@@ -283,7 +283,7 @@ pub record LongStands (s : Scene) (a : ℕ) (condition : Condition) (rd : ℕ) (
   pub means : IsNumber s e label
   pub gives : moved up (moved up (a + 8) (immediate_number first)) (immediate_number second) ≡ label
 
-abbrev pub PseudoStands : Scene → ℕ → Option ℕ → PseudoLine → Type 0
+abbrev pub PseudoStands : Lookup → ℕ → Option ℕ → PseudoLine → Type 0
 PseudoStands s a word (pseudo.LoadConstant condition rd e) = LiteralStands s a condition (register s.context rd) e word
 PseudoStands s a word (pseudo.Address condition rd e) = AddressStands s a condition (register s.context rd) e
 PseudoStands s a word (pseudo.LongAddress condition rd e) = LongStands s a condition (register s.context rd) e
@@ -292,24 +292,24 @@ PseudoStands s a word pseudo.NoOperation = ReadsAt s.view a (instr.DataShifted A
 -- ---- pseudo-instructions of Thumb state
 
 -- a load from the word of the literal, which holds its value
-abbrev pub ThumbLiteralStands : Scene → ℕ → ℕ → Expr → Option ℕ → Type 0
+abbrev pub ThumbLiteralStands : Lookup → ℕ → ℕ → Expr → Option ℕ → Type 0
 ThumbLiteralStands s a rd e None = ⊥
 ThumbLiteralStands s a rd e (Some word) = CountsTo s.view a (half.LoadLiteral rd) (word % 2 ^ 32) × WordStands s word e
 
-abbrev pub ThumbPseudoStands : Scene → ℕ → Option ℕ → PseudoLine → Type 0
+abbrev pub ThumbPseudoStands : Lookup → ℕ → Option ℕ → PseudoLine → Type 0
 ThumbPseudoStands s a word (pseudo.LoadConstant condition rd e) = ThumbLiteralStands s a (register s.context rd) e word
 ThumbPseudoStands s a word (pseudo.Address condition rd e) = LabelCounted s a (half.LoadAddress false (register s.context rd)) e
 ThumbPseudoStands s a word (pseudo.LongAddress condition rd e) = ⊥
 ThumbPseudoStands s a word pseudo.NoOperation = ReadsHalfAt s.view a (half.HighRegister high.Mov true true 0 0)
 
-abbrev pub PseudoStandsIn : Bool → Scene → ℕ → Option ℕ → PseudoLine → Type 0
+abbrev pub PseudoStandsIn : Bool → Lookup → ℕ → Option ℕ → PseudoLine → Type 0
 PseudoStandsIn true s a word l = ThumbPseudoStands s a word l
 PseudoStandsIn false s a word l = PseudoStands s a word l
 
 -- ---- statements
 
 -- a statement of so many bytes stands at an address, with the address of its literal's word, if it has one
-abbrev pub Stands : Scene → ℕ → ℕ → Option ℕ → What → Type 0
+abbrev pub Stands : Lookup → ℕ → ℕ → Option ℕ → What → Type 0
 Stands s a size word what.Nothing = Unit {0}
 Stands s a size word (what.Arm l) = ArmStands s a l
 Stands s a size word (what.Thumb l) = ThumbStands s a l
@@ -325,8 +325,8 @@ abbrev pub address_behind : ℕ → Option ℕ → Option ℕ
 address_behind base None = None
 address_behind base (Some offset) = Some (base + offset)
 
-abbrev pub scene_at : (s : Source) (l : LaidLine) → At s l → View → Range32 → Values → Scene
-scene_at s l at view region values = record {
+abbrev pub lookup_at : (s : Source) (l : LaidLine) → At s l → View → Range32 → Values → Lookup
+lookup_at s l at view region values = record {
   view = view;
   region = region;
   placing = placing_of s values;
@@ -342,5 +342,5 @@ IsGap s area i = (p : Piece) → StandsIn s area p → (i < p.0) ⊎ (p.0 + leng
 -- each statement stands at its offset behind its area's base, and where nothing stands is zero
 pub record AllStand (s : Source) (values : Values) (view : View) (region : ℕ → Range32) : Type 0 where
   pub lines : (l : LaidLine) (at : At s l) (area : ℕ) → l.area ≡ Some area
-      → Stands (scene_at s l at view (region area) values) (values.base area + l.offset) l.size (address_behind (values.base area) (word_at s l at)) l.statement.what
+      → Stands (lookup_at s l at view (region area) values) (values.base area + l.offset) l.size (address_behind (values.base area) (word_at s l at)) l.statement.what
   pub gaps : (area i : ℕ) → i < area_size area (pieces_of s.lines) → IsGap s area i → view (values.base area + i) ≡ Some 0

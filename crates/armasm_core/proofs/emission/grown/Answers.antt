@@ -8,7 +8,7 @@ use Rattle.source_model.specs.Registers.{register_in}
 use Rattle.armasm_core.specs.Gathered.{AllLaidSaid}
 use Rattle.armasm_core.specs.Whole.{IsHere}
 use Rattle.armasm_core.proofs.SetLemmas.{said_first}
-use Rattle.armasm_core.specs.Drafting.{frame_of, frames, pieces_put}
+use Rattle.armasm_core.specs.Building.{frame_of, frames, pieces_put}
 use Rattle.armasm_core.specs.Emission.{IsEmittable, IsGrown, things_so_far}
 use Rattle.armasm_core.specs.Pools.{HoldPools, PoolsCanStand}
 use Rattle.armasm_core.proofs.EmitLemmas.{apart_there, grown_first, grown_all, grown_more, next_there, pools_first, put_there, told_here, words_apart}
@@ -95,7 +95,7 @@ lines-preserved c =
     let apart = apart_there c.sources_stand_apart.ensures statements j.sound j.states n.before n.rest n.line x.place.area
     (pieces_put x.place.offset us) n.here.parts n.here.line.place.area pieces in
     grown_more statements l w names x more known c.give.new.known gs c.put_line.new.growing.items n u us c.as_slice.ensures.value put
-    (c.in_ok-put_line-in-len1-up.ensures.more (things_so_far (source_of statements) n.before (n.line ∷ n.rest)) n.drafts apart)
+    (c.in_ok-put_line-in-len1-up.ensures.more (things_so_far (source_of statements) n.before (n.line ∷ n.rest)) n.builders apart)
     c.in_ok-give-in-len1-up.ensures in (
       (said_first left x c.lines.invariant.0 c.in-len1-up.len_at_least c.line-item.is).1,
       c.put_line.ensures.frames ∙ c.lines.invariant.1,

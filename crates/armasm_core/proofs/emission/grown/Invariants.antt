@@ -1,7 +1,7 @@
 use Rattle.std.proofs.Common.{◌≡◌, List, length, map}
 use Rattle.asm_model.specs.declared.statements.Statement.{Statement}
 use Rattle.armasm_core.specs.Gathered.{AllLaidSaid}
-use Rattle.armasm_core.specs.Drafting.{frame_of, frames}
+use Rattle.armasm_core.specs.Building.{frame_of, frames}
 use Rattle.armasm_core.specs.Emission.{GrowsOn, IsEmittable, IsGrown}
 use Rattle.armasm_core.proofs.emission.grown.Given as goal
 

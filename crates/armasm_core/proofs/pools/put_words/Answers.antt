@@ -5,7 +5,7 @@ use Rattle.armasm_core.proofs.pools.put_words.Goals as goal
 
 pub entries-init : goal.entries-init
 entries-init c =
-    words_first c.args.whole.now c.args.symbols.now c.args.area c.args.literals.now c.args.offsets.now c.args.draft.now c.requires.stand
+    words_first c.args.whole.now c.args.symbols.now c.args.area c.args.literals.now c.args.offsets.now c.args.builder.now c.requires.stand
 
 pub entries-preserved : goal.entries-preserved
 entries-preserved c =
@@ -16,7 +16,7 @@ entries-preserved c =
     let left = c.entries.left.now in
     let places = c.entries.places.now in
     let at = get_or places 0 0 in
-    let next = word_next w names area all c.args.draft.now left places c.literal-item.result at c.entries.draft c.in-len1-up.len_at_least c.literal-item.is
+    let next = word_next w names area all c.args.builder.now left places c.literal-item.result at c.entries.builder c.in-len1-up.len_at_least c.literal-item.is
     c.in-len1-up-places.len_at_least (first_of places c.in-len1-up-places.len_at_least) c.entries.invariant in
-    word_put w names area all c.args.draft.now c.literal-item.result at (take (length left - 1) (drop 1 left)) (take (length places - 1) (drop 1 places))
-    c.entries.draft c.put_word.new.draft next c.put_word.ensures.size c.in_ok-put_word-in-len1-up-places.ensures.more
+    word_put w names area all c.args.builder.now c.literal-item.result at (take (length left - 1) (drop 1 left)) (take (length places - 1) (drop 1 places))
+    c.entries.builder c.put_word.new.builder next c.put_word.ensures.size c.in_ok-put_word-in-len1-up-places.ensures.more

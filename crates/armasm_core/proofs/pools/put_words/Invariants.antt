@@ -4,7 +4,7 @@ use Rattle.armasm_core.proofs.PoolLemmas.{WordsPut}
 use Rattle.armasm_core.proofs.pools.put_words.Given as goal
 
 abbrev pub invariant-entries : goal.invariant-entries
-invariant-entries l = WordsPut l.whole l.symbols l.area (entries l.literals l.offsets) l.initial.draft l.left l.places l.draft
+invariant-entries l = WordsPut l.whole l.symbols l.area (entries l.literals l.offsets) l.initial.builder l.left l.places l.builder
 
 abbrev pub decreases-entries : goal.decreases-entries
 decreases-entries l = length l.left

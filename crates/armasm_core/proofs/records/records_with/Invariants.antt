@@ -5,5 +5,5 @@ use Rattle.armasm_core.proofs.records.records_with.Given as goal
 
 abbrev pub invariant-names : goal.invariant-names
 invariant-names l =
-    (s : Source) → Shows l.facts s
+    (s : Source) → Shows l.flags s
     → l.records.items ≡ map (symbol_named s) (take l.name-index l.names)

@@ -11,14 +11,14 @@ returns-in-Ok c = λ statements before rest l h.
     let w = c.args.whole.now in
     let known = c.args.registers.now in
     let x = c.args.laid.now in
-    let shows = c.beside_of-beside.ensures statements before rest l h in
+    let shows = c.tables_of-tables.ensures statements before rest l h in
     let laws : LinesFit = record {
       arm = c.instructions_fit.ensures;
       pseudo = c.pseudo_instructions_fit.ensures;
       thumb = c.thumb_instructions_fit.ensures;
       thumb_pseudo = c.thumb_pseudo_instructions_fit.ensures;
     } in
-    put_there statements areas w known before rest l x h laws c.beside_of-beside.result c.in_ok-passed.passed
+    put_there statements areas w known before rest l x h laws c.tables_of-tables.result c.in_ok-passed.passed
     c.in-Ok.units c.requires shows c.in-Ok.is
     (c.in_ok-passed.ensures (context_there statements before l) (datum_names statements) (λ area. area_size area (pieces_of (laid statements))) l.seen
     (word_there before rest l) (taken l.extent) shows (c.loaded_of-literal.ensures statements w known before rest l h))
@@ -31,5 +31,5 @@ returns-in-Err c = λ statements before rest l h.
     let x = c.args.laid.now in
     told_there statements areas w known before rest l x h c.in_ok-passed.passed c.in-Err.kind c.told_of.result c.in-Err.is
     (c.in_ok-passed.ensures (context_there statements before l) (datum_names statements) (λ area. area_size area (pieces_of (laid statements))) l.seen
-    (word_there before rest l) (taken l.extent) (c.beside_of-beside.ensures statements before rest l h)
+    (word_there before rest l) (taken l.extent) (c.tables_of-tables.ensures statements before rest l h)
     (c.loaded_of-literal.ensures statements w known before rest l h)) c.told_of.ensures

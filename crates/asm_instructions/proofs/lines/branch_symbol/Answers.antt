@@ -5,4 +5,4 @@ use Rattle.asm_instructions.proofs.lines.branch_symbol.Goals as goal
 
 pub returns : goal.returns
 returns c =
-    all_shown c.args.scene.now (λ x. branch_symbol x c.args.line.now) c.symbol_there.result (λ x same. branch_symbol_alike _ x same c.args.line.now) c.symbol_there.ensures
+    all_shown c.args.lookup.now (λ x. branch_symbol x c.args.line.now) c.symbol_there.result (λ x same. branch_symbol_alike _ x same c.args.line.now) c.symbol_there.ensures

@@ -5,4 +5,4 @@ use Rattle.asm_instructions.proofs.lines.link_symbol.Goals as goal
 
 pub returns : goal.returns
 returns c =
-    all_shown c.args.scene.now (λ x. link_symbol x c.args.line.now) c.link_there.result (λ x same. link_symbol_alike _ x same c.args.line.now) c.link_there.ensures
+    all_shown c.args.lookup.now (λ x. link_symbol x c.args.line.now) c.link_there.result (λ x same. link_symbol_alike _ x same c.args.line.now) c.link_there.ensures

@@ -5,5 +5,5 @@ use Rattle.asm_instructions.proofs.thumb_lines.thumb_pseudo_instruction.Goals as
 
 pub returns : goal.returns
 returns c =
-    all_shown c.args.scene.now (λ x. thumb_pseudo x c.args.word c.args.line.now) c.pseudo_there.result
+    all_shown c.args.lookup.now (λ x. thumb_pseudo x c.args.word c.args.line.now) c.pseudo_there.result
     (λ x same. thumb_pseudo_alike _ x same c.args.word c.args.line.now) c.pseudo_there.ensures

@@ -5,4 +5,4 @@ use Rattle.asm_instructions.proofs.values.number_in.Goals as goal
 
 pub returns : goal.returns
 returns c =
-    all_shown c.args.scene.now (λ x. number_in x c.args.e.now) c.number_there.result (λ x same. number_alike _ x same c.args.e.now) c.number_there.ensures
+    all_shown c.args.lookup.now (λ x. number_in x c.args.e.now) c.number_there.result (λ x same. number_alike _ x same c.args.e.now) c.number_there.ensures

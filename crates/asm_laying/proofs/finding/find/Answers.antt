@@ -13,15 +13,15 @@ equal_there-requires c =
 pub returns : goal.returns
 returns c = λ before at known owned.
     let d = c.args.declared.now in
-    let spot = c.args.spot.now in
+    let location = c.args.location.now in
     let own = option_copied c.args.own in
-    let seen = names_shown d c.args.names.now (one_entry own) spot in
-    found_shown d c.args.statement.now before c.args.names.now own spot _ at known owned
+    let seen = names_shown d c.args.names.now (one_entry own) location in
+    found_shown d c.args.statement.now before c.args.names.now own location _ at known owned
     (record {
       needed = record {
         extent_is = c.in_ok-extent.ensures.extent;
         after_is = c.in_ok-map.ensures;
-        equal_is = subst (λ (x : Defined). IsEquated d spot.area seen x c.in_ok-equal.equal) c.defined_by-defines.ensures c.in_ok-equal.ensures;
+        equal_is = subst (λ (x : Defined). IsEquated d location.area seen x c.in_ok-equal.equal) c.defined_by-defines.ensures c.in_ok-equal.ensures;
       };
       number = c.in_ok-number.ensures;
       strings = c.in_ok-extent.ensures.strings;

@@ -3,14 +3,14 @@ use Rattle.asm_model.specs.declared.exprs.Expr.{Expr}
 use Rattle.asm_model.specs.Says.{mapped}
 use Rattle.source_model.specs.Contexts.{and_then, number_in}
 use Rattle.source_model.specs.Units.{Bytes, narrow, half_units}
-use Rattle.asm_instructions.specs.Scenes.{context_of}
+use Rattle.asm_instructions.specs.Lookups.{context_of}
 use Rattle.asm_units.specs.Emitting.{all_emitted, emitted_of}
 use Rattle.asm_units.proofs.JoinLemmas.{operand_next}
 use Rattle.asm_units.proofs.bytes.halves.Goals as goal
 
 pub operands-preserved : goal.operands-preserved
 operands-preserved c =
-    let seen = context_of c.args.beside.now.scene in
+    let seen = context_of c.args.tables.now.lookup in
     operand_next (λ b. Bytes b) (λ (e : Expr). and_then (number_in seen e) (narrow 2)) (half_units seen) (half_units seen) (λ e es. refl)
     c.operands.left.now c.operand-item.result (all_emitted c.operands.so_far) (all_emitted c.in_ok-so_far-in-len1-up.so_far) (mapped emitted_of c.in_ok-next-in-len1-up.next)
     (half_units seen c.args.operands.now)

@@ -4,5 +4,5 @@ use Rattle.asm_units.proofs.lines.add_line.Goals as goal
 
 pub returns : goal.returns
 returns c =
-    line_answered c.args.scene.now (option_copied c.args.literal) c.args.scene.now.line.now.statement.now.what c.args.symbols.now c.add_statement.new.symbols
+    line_answered c.args.lookup.now (option_copied c.args.literal) c.args.lookup.now.line.now.statement.now.what c.args.symbols.now c.add_statement.new.symbols
     c.add_statement.result c.add_statement.ensures

@@ -7,8 +7,8 @@ use Rattle.asm_units.proofs.needs.add_words.Given as goal
 abbrev pub invariant-operands : goal.invariant-operands
 invariant-operands l = record {
   read : AllRead l.left;
-  same : listed_behind l.symbols (words_symbols l.scene.names.now (line_of l.scene.line.now) l.left)
-      ≡ listed_behind l.initial.symbols (words_symbols l.scene.names.now (line_of l.scene.line.now) l.operands);
+  same : listed_behind l.symbols (words_symbols l.lookup.names.now (line_of l.lookup.line.now) l.left)
+      ≡ listed_behind l.initial.symbols (words_symbols l.lookup.names.now (line_of l.lookup.line.now) l.operands);
 }
 
 abbrev pub decreases-operands : goal.decreases-operands

@@ -9,7 +9,7 @@ use Rattle.asm_units.proofs.second_pass.literal_kind.Goals as goal
 
 pub returns-in_ok-word-in-Some : goal.returns-in_ok-word-in-Some
 returns-in_ok-word-in-Some c = λ c' data_names sizes s word w e h is.
-    let stored = c.in_ok-word-in-Some.ensures c' data_names (names_shown c.args.beside.now c' data_names sizes s word w h) in
+    let stored = c.in_ok-word-in-Some.ensures c' data_names (names_shown c.args.tables.now c' data_names sizes s word w h) in
     c.fault_of.ensures
     ∙ ap told_kind
     (sym (fault_mapped stored_of c.in_ok-word-in-Some.word) ∙ ap fault_kinds stored

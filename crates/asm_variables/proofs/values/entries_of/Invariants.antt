@@ -8,4 +8,4 @@ use Rattle.asm_variables.proofs.values.entries_of.Given as goal
 abbrev pub invariant-items : goal.invariant-items
 invariant-items l =
     (s : State) → Represents l.state s
-    → l.names ++ items_entries (all_entries l.sight s) (drop l.item-index l.items) ≡ items_entries (all_entries l.sight s) l.items
+    → l.names ++ items_entries (all_entries l.visible s) (drop l.item-index l.items) ≡ items_entries (all_entries l.visible s) l.items

@@ -9,7 +9,7 @@ use Rattle.asm_variables.proofs.values.items_fault.Given as goal
 abbrev pub invariant-items : goal.invariant-items
 invariant-items l =
     (s : State) → Represents l.state s
-    → first_told l.told (told_kind (items_kinds (entries_in l.sight s) l.left)) ≡ told_kind (items_kinds (entries_in l.sight s) l.items)
+    → first_told l.told (told_kind (items_kinds (entries_in l.visible s) l.left)) ≡ told_kind (items_kinds (entries_in l.visible s) l.items)
 
 abbrev pub decreases-items : goal.decreases-items
 decreases-items l = length l.left

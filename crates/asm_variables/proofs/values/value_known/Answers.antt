@@ -10,7 +10,7 @@ returns c =
     λ s r.
     let list =
     append-nil _ ∙ append-nil _ ∙ c.in_ok-names.ensures s r
-    ∙ ap (λ (is : List ExprItem). items_entries (all_entries c.args.sight s) is) c.as_slice.ensures in
-    with_small c.args.sight s c.args.e.now.items _ c.evaluate.result
+    ∙ ap (λ (is : List ExprItem). items_entries (all_entries c.args.visible s) is) c.as_slice.ensures in
+    with_small c.args.visible s c.args.e.now.items _ c.evaluate.result
     (λ i. record { list = list i; area = None; offset = 0; map = 0; thumb = r.thumb i })
     c.evaluate.ensures

@@ -1,6 +1,0 @@
-use Rattle.std.specs.List.{AllZip}
-use Rattle.armasm_core.specs.Drafting.{IsFinished}
-use Rattle.armasm_core.proofs.drafting.all_finished.Given as goal
-
-abbrev pub invariant-areas : goal.invariant-areas
-invariant-areas l = AllZip IsFinished l.yielded l.areas.items

@@ -1,9 +1,0 @@
-use Rattle.std.proofs.Common.{◌≡◌, length, take, map}
-use Rattle.armasm_core.specs.Drafting.{frame_of, frames}
-use Rattle.armasm_core.specs.Pools.{HoldPools}
-use Rattle.armasm_core.proofs.drafting.all_started.Given as goal
-
-abbrev pub invariant-areas : goal.invariant-areas
-invariant-areas l =
-    (frames l.growing.items ≡ map frame_of (take l.area-index l.areas)) × (l.number ≡ l.area-index) × (length l.growing.items ≡ l.area-index)
-    × HoldPools l.whole l.symbols l.areas l.growing.items

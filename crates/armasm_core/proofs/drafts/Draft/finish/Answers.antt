@@ -1,6 +1,0 @@
-use Rattle.std.proofs.Common.{◌∙◌}
-use Rattle.armasm_core.proofs.DraftLemmas.{finished}
-use Rattle.armasm_core.proofs.drafts.Draft.finish.Goals as goal
-
-pub returns-clause-relocs : goal.returns-clause-relocs
-returns-clause-relocs c = λ names pieces is. finished names pieces c.args.self _ is c.in_ok-relocs.ensures.ordered (c.from_vec-2.ensures ∙ c.in_ok-relocs.ensures.all)

@@ -1,0 +1,21 @@
+-- What the operands of a line are found by, as code keeps it and as definitions have it. This project's.
+use Rattle.std.specs.Prelude.{◌≡◌, ℕ, ◌<◌, List, Some}
+use Rattle.asm_names.specs.Lines.{line_of, Sees}
+use Rattle.source_model.specs.Contexts.{Context}
+use Rattle.source_model.specs.Registers.{register_in}
+use Rattle.asm_instructions.specs.declared.lookups.Lookup.{Lookup}
+
+-- the lookup shows what a context says; RN gives numbers below 16
+pub record Shows (x : Lookup) (c : Context) : Type 0 where
+  pub names : c.names ≡ x.names.now
+  pub line : Sees x.line.now c.line
+  pub registers : (q : List ℕ) → register_in q x.registers.now ≡ register_in q c.registers
+  pub small : (q : List ℕ) (n : ℕ) → register_in q c.registers ≡ Some n → n < 16
+
+-- a context that the lookup's own lists make: each other one that it shows finds the same
+abbrev pub context_of : Lookup → Context
+context_of x = record {
+  names = x.names.now;
+  line = line_of x.line.now;
+  registers = x.registers.now;
+}
