@@ -1,5 +1,5 @@
 -- What a line puts into its area is what definitions have, and its instructions fit their rows.
-use Rattle.std.proofs.Common.{◌≡◌, ℕ, Bool, true, false, List, [], ◌∷◌, ◌++◌, map, Option, Some, Result, Ok, Err, refl, sym, ap, ◌∙◌, subst}
+use Rattle.std.proofs.Common.{◌≡◌, ℕ, Bool, true, false, List, [], ◌∷◌, Option, Some, Result, Ok, Err, refl, sym, ap, ◌∙◌, subst}
 use Rattle.sdt_fault.specs.declared.kinds.LineKind.{LineKind}
 use Rattle.arm_isa.specs.declared.instr.ArmInstr.{ArmInstr}
 use Rattle.thumb_isa.specs.declared.instr.ThumbInstr.{ThumbInstr}
@@ -24,7 +24,6 @@ use Rattle.asm_layout.specs.declared.laid.LaidArea.{LaidArea}
 use Rattle.asm_layout.specs.declared.laid.LaidStatement.{LaidStatement}
 use Rattle.asm_units.specs.declared.tables.LineTables.{LineTables}
 use Rattle.asm_units.specs.declared.emitted.LineUnits.{LineUnits}
-use Rattle.asm_units.specs.Emitting.{emitted_of}
 use Rattle.asm_units.specs.Passing.{IsPassTwo}
 use Rattle.asm_model.specs.Extents.{value_there}
 use Rattle.asm_model.specs.Laid.{LaidLine, laid, pieces_of, taken}

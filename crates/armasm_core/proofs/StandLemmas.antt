@@ -7,7 +7,7 @@ use Rattle.asm_model.specs.declared.values.Value.{Value}
 use Rattle.asm_model.specs.Labels.{declared_names}
 use Rattle.layout_laws.proofs.SoundLemmas.{statements_kept}
 use Rattle.source_model.specs.Registers.{Named}
-use Rattle.armasm_core.specs.Writing.{AllCanStand, CanStand, HasNumber, HasWord, SymbolHasNumber, TargetHasNumber}
+use Rattle.armasm_core.specs.Writing.{AllCanStand, HasNumber, HasWord, SymbolHasNumber, TargetHasNumber}
 use Rattle.asm_units.specs.declared.emitted.LineUnits.{LineUnits}
 use Rattle.armasm_core.specs.declared.whole.Whole.{Whole}
 use Rattle.armasm_core.specs.Putting.{AllUnitsFit, IsPut, UnitFits}

@@ -11,7 +11,7 @@ use Rattle.asm_model.specs.declared.lines.Line.{Line}
 use Rattle.asm_model.specs.Told.{IsBadLine}
 use Rattle.expand_model.specs.Expands.{Run, Outcome, Flats, FaultAt, MissingFile, outcome_of, outermost}
 use Rattle.expand_model.specs.States.{State, started}
-use Rattle.expand_model.specs.Steps.{Sources, Context, Stop, got, turn, visit_limit}
+use Rattle.expand_model.specs.Steps.{Sources, Context, Stop, got, visit_limit}
 use Rattle.expand_model.specs.Steps as model
 use Rattle.asm_expand.specs.declared.engine.Engine.{Engine}
 use Rattle.asm_expand.specs.declared.places.Place.{Place}

@@ -1,9 +1,9 @@
 -- What is told of sets of kinds.
-use Rattle.std.proofs.Common.{◌≡◌, ℕ, ◌≤◌, List, [], ◌∷◌, ◌++◌, Bool, true, false, true≢false, refl, sym, ◌∙◌, ap, subst, arith, inl, inr, map, Option, Some, None}
-use Rattle.std.specs.Prelude.{◌⊎◌, Result, Ok, Err, nat_lt, MatchBool, ◌||◌}
+use Rattle.std.proofs.Common.{◌≡◌, ℕ, ◌≤◌, List, [], ◌∷◌, ◌++◌, Bool, true, false, refl, sym, ◌∙◌, ap, subst, arith, inl, inr, map, Option, Some, None}
+use Rattle.std.specs.Prelude.{◌⊎◌, Result, Ok, Err, nat_lt, MatchBool}
 use Rattle.std.proofs.lemmas.Bool.{cond-true, cond-false, ltb-true, ltb-false, lt-ltb, le-ltb}
 use Rattle.sdt_fault.specs.declared.kinds.LineKind.{LineKind}
-use Rattle.sdt_fault.specs.declared.kinds.LineKind.TheVariants.{Syntax, BadOperand}
+use Rattle.sdt_fault.specs.declared.kinds.LineKind.TheVariants.{Syntax}
 use Rattle.asm_model.specs.declared.lines.Flat.{Flat}
 use Rattle.asm_model.specs.declared.tokens.Token.{Token}
 use Rattle.asm_model.specs.declared.exprs.Expr.{Expr}
@@ -12,7 +12,6 @@ use Rattle.asm_model.specs.declared.exprs.UnaryOp.{UnaryOp}
 use Rattle.asm_model.specs.declared.exprs.BinaryOp.{BinaryOp}
 use Rattle.asm_model.specs.declared.values.Value.{Value}
 use Rattle.asm_model.specs.declared.names.Names.{Names}
-use Rattle.asm_model.specs.declared.directives.Attribute.{Attribute}
 use Rattle.asm_model.specs.declared.directives.Directive.{Directive}
 use Rattle.asm_model.specs.declared.directives.DirectiveLine.{DirectiveLine}
 use Rattle.asm_model.specs.declared.directives.DirectiveLine.TheVariants as line
@@ -24,7 +23,7 @@ use Rattle.asm_model.specs.FaultSets.{IsToldOf, fault, first_told, Among, FailsB
 use Rattle.asm_model.specs.Grammar.{Tree, Leaf, Before, Between, Parses, ParsesTokens}
 use Rattle.asm_model.specs.Kinds.{rank, earlier, earliest, told_kind}
 use Rattle.asm_model.specs.Meaning as meanings
-use Rattle.asm_model.specs.Meaning.{unary_of, binary, applied, known, operand_of_item, operand_of_tree, meaning, then_of}
+use Rattle.asm_model.specs.Meaning.{unary_of, binary, applied, known, operand_of_item, meaning, then_of}
 use Rattle.asm_model.specs.Operands.{operands}
 use Rattle.asm_model.specs.Parts.{piece, part_of}
 use Rattle.asm_model.specs.Says.{Form, bare, name, imported, expression, expressions, area, register, boundary, refused, form_of_directive, on_both, mapped, bare_of, name_of, name_alone, weak_mark, import_of, register_alone, Expression, Expressions, SomeExpressions, Area, Register, Aligned, Reads, label_field, Sentence, sentence, directive_of, statement_of, SaysAs, SaysDirective}

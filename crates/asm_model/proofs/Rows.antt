@@ -1,7 +1,7 @@
 -- Worked rows of the definitions: names and labels of directives, operands, attributes, and whole lines.
 use Rattle.std.proofs.Common.{◌≡◌, ℕ, List, [], ◌∷◌, true, false, refl, Some, None, codes}
 use Rattle.std.specs.Prelude.{Ok, Err}
-use Rattle.sdt_fault.specs.declared.kinds.LineKind.TheVariants.{Syntax, BadOperand, UnknownWord}
+use Rattle.sdt_fault.specs.declared.kinds.LineKind.TheVariants.{Syntax, UnknownWord}
 use Rattle.asm_model.specs.declared.lines.Flat.{Flat}
 use Rattle.asm_model.specs.declared.tokens.Token.{Token}
 use Rattle.asm_model.specs.declared.tokens.TokenKind.{TokenKind}

@@ -1,6 +1,6 @@
 -- All kinds of faults that an expression or a line with a directive has, as sets, and the kind that is told of a set:
 -- the first in the order of the kinds. This project's.
-use Rattle.std.specs.Prelude.{◌≡◌, ℕ, ◌≤◌, List, [], ◌∷◌, ◌||◌, true, Option, Some, None, Result, Ok, Err, MatchBool, ◌⊎◌}
+use Rattle.std.specs.Prelude.{◌≡◌, ℕ, ◌≤◌, List, [], ◌∷◌, Option, Some, None, Result, Ok, Err, MatchBool, ◌⊎◌}
 use Rattle.sdt_fault.specs.declared.kinds.LineKind.{LineKind}
 use Rattle.sdt_fault.specs.declared.kinds.LineKind.TheVariants.{Syntax}
 use Rattle.asm_model.specs.declared.lines.Flat.{Flat}

@@ -22,7 +22,7 @@ use Rattle.source_model.specs.Contexts.{Context, sees}
 use Rattle.source_model.specs.ValueKinds.{lies_within, kinds_unless, exported_kinds, export_kinds, assert_kinds, directive_kinds, statement_kinds}
 use Rattle.asm_instructions.specs.Lookups.{context_of}
 use Rattle.asm_instructions.proofs.AlikeLemmas.{stands_alike}
-use Rattle.asm_instructions.proofs.ContextLemmas.{Alike, shown_alike}
+use Rattle.asm_instructions.proofs.ContextLemmas.{shown_alike}
 use Rattle.asm_units.specs.declared.tables.LineTables.{LineTables}
 use Rattle.asm_units.specs.Literals.{moved}
 use Rattle.asm_units.specs.Showing.{ShowsTables, sizes_of}

@@ -1,9 +1,8 @@
-use Rattle.std.proofs.Common.{◌≡◌, ◌+◌, [], ◌∷◌, ◌++◌, ◌∙◌, ℕ, List, length, take, suc, refl, sym, ap, subst, map, arith, length-append}
+use Rattle.std.proofs.Common.{◌≡◌, ◌+◌, [], ◌∷◌, ◌++◌, ◌∙◌, ℕ, length, take, suc, refl, sym, ap, subst, map, arith, length-append}
 use Rattle.std.proofs.lemmas.List.{take_all}
 use Rattle.std.proofs.lemmas.Option.{slice_get_read}
 use Rattle.std.proofs.Math.Seq.{take-suc}
 use Rattle.asm_layout.specs.declared.laid.LaidArea.{LaidArea}
-use Rattle.armasm_core.specs.declared.building.Growing.{Growing}
 use Rattle.armasm_core.specs.Building.{frame_of, frames, kept_size}
 use Rattle.armasm_core.specs.Pools.{BeginsWith, HoldPools, WordsCanStand}
 use Rattle.armasm_core.proofs.GrowLemmas.{frames_more, pools_more}

@@ -1,4 +1,4 @@
-use Rattle.std.proofs.Common.{◌≡◌, ◌∙◌, [], ℕ, List, length, sym, ap, subst}
+use Rattle.std.proofs.Common.{◌≡◌, ◌∙◌, [], ℕ, List, sym, subst}
 use Rattle.asm_model.specs.declared.values.Value.{Value}
 use Rattle.armasm_core.specs.Building.{kept_size}
 use Rattle.armasm_core.specs.Pools.{TakesWords, WordsCanStand, entries}
