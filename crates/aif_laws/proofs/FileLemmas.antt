@@ -13,14 +13,14 @@ use Rattle.place_model.specs.Plans.{Contents, Planned, Plan, RegionVeneer, areas
 use Rattle.place_model.specs.Things.{Thing, Header, AnArea, AVeneer, alignment_of, gap, size_of, start_of}
 use Rattle.place_model.proofs.ListLemmas.{all_indexed, all_map}
 use Rattle.image_model.specs.AifFiles as model
-use Rattle.image_model.specs.AifFiles.{aif_plan, fixed_aif, offsets_of, relocatable_aif, size_in, with_header}
+use Rattle.image_model.specs.AifFiles.{aif_plan, offsets_of, size_in, with_header}
 use Rattle.image_model.specs.Regions.{Given, Filling, filled, laid, region_bytes}
 use Rattle.image_laws.specs.AifLaws.{IsAif}
 use Rattle.image_laws.proofs.AifLemmas.{base_whole, later, others, ro, rw_, split, words, zi}
 use Rattle.link_model.specs.declared.images.Image.{Image}
 use Rattle.link_model.specs.declared.placing.Region.{Region}
 use Rattle.aif_image.specs.Files as files
-use Rattle.aif_image.specs.Files.{aif_file, first_words, header_words, loaded}
+use Rattle.aif_image.specs.Files.{first_words, header_words, loaded}
 use Rattle.aif_laws.specs.Laws.{FixedFile, IsOfPlan, RelocatableFile}
 
 -- ---- sizes

@@ -1,5 +1,5 @@
 -- A library that is read is valid: its members have names of their own and valid objects.
-use Rattle.std.proofs.Common.{◌≡◌, ℕ, List, [], ◌∷◌, ◌++◌, Option, sym, subst, append_assoc, append-nil, inl, inr}
+use Rattle.std.proofs.Common.{ℕ, List, [], ◌∷◌, ◌++◌, Option, sym, subst, append_assoc, append-nil, inl, inr}
 use Rattle.std.specs.List.{AllByRecursion}
 use Rattle.chunk_file.specs.declared.records.Span.{Span}
 use Rattle.chunk_file.specs.Reading.{EachStands}

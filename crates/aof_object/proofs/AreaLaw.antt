@@ -1,25 +1,25 @@
 -- The rows of areas and of relocations, and areas in OBJ_AREA: what is read is what stands there.
-use Rattle.std.proofs.Common.{◌≡◌, ℕ, zero, suc, ◌+◌, ◌-◌, ◌*◌, ◌<◌, ◌≤◌, Bool, true, false, List, [], ◌∷◌, ◌++◌, length, take, drop, map, Option, Some, None, Result, Ok, Err, refl, sym, ap, subst, ◌∙◌, arith, append_assoc}
+use Rattle.std.proofs.Common.{◌≡◌, ℕ, ◌+◌, ◌-◌, ◌*◌, List, [], ◌∷◌, ◌++◌, length, take, drop, map, Some, Result, Ok, refl, sym, ap, subst, ◌∙◌, arith, append_assoc}
 use Rattle.std.specs.Prelude.{◌↔◌}
 use Rattle.std.specs.List.{AllByRecursion}
-use Rattle.std.proofs.lemmas.List.{length-map, length-take, length-drop, take_at, map-append, length-append}
+use Rattle.std.proofs.lemmas.List.{length-map, length-take, length-drop, take_at, map-append}
 use Rattle.sdt_word.specs.Bytes.{word_in}
 use Rattle.sdt_fault.specs.declared.kinds.FileKind.TheVariants.{Name}
 use Rattle.sdt_fault.specs.declared.refusal.Refusal.{Refusal}
 use Rattle.sdt_fault.specs.declared.refusal.Refusal.TheVariants.{BadObject}
-use Rattle.chunk_file.specs.Reading.{◌>>=◌, each, EachStands}
+use Rattle.chunk_file.specs.Reading.{each, EachStands}
 use Rattle.chunk_file.proofs.Loops.{bind_ok, each_law, Agrees}
 use Rattle.aof_object.specs.declared.areas.AreaHead.{AreaHead}
 use Rattle.aof_object.specs.declared.records.Area.{Area}
 use Rattle.aof_object.specs.declared.records.Reloc.{Reloc}
-use Rattle.aof_object.specs.Names.{name_at, among, Lacks}
+use Rattle.aof_object.specs.Names.{name_at, among}
 use Rattle.aof_object.specs.Checks.{area_flaw, reloc_flaw}
-use Rattle.aof_object.specs.Objects.{judged, head_names, head_at, next_head, stored, extent, total, reloc_at, next_reloc, area_at, next_area}
+use Rattle.aof_object.specs.Objects.{head_names, head_at, next_head, stored, extent, total, reloc_at, next_reloc, area_at, next_area}
 use Rattle.aof_object.specs.Validity.{head_of, heads, IsArea, IsReloc}
 use Rattle.aof_object.specs.Grammar.{SaysHead, SaysReloc, SaysArea}
 use Rattle.aof_object.proofs.NameLaw.{name_law, lacks_law}
 use Rattle.aof_object.proofs.Checked.{judged_law, read_or, AreaPasses, area_law, reloc_law}
-use Rattle.aof_object.proofs.Lists.{both, weaker, all_of, with_all, AgreesOf}
+use Rattle.aof_object.proofs.Lists.{weaker, all_of, with_all, AgreesOf}
 use Rattle.aof_object.proofs.Rows.{total-append}
 
 -- ---- heads

@@ -1,11 +1,11 @@
 -- Items that stand in two relations at once, in one that looks at no item before, or over other items;
 -- and the law of items that are read one for each head.
-use Rattle.std.proofs.Common.{◌≡◌, ℕ, suc, ◌+◌, List, [], ◌∷◌, ◌++◌, length, map, Result, Ok, Err, refl, sym, ap, subst, ◌∙◌, append_assoc, append-nil}
+use Rattle.std.proofs.Common.{◌≡◌, ◌+◌, List, [], ◌∷◌, ◌++◌, map, Result, Ok, refl, sym, ap, subst, ◌∙◌, append-nil}
 use Rattle.std.specs.Prelude.{◌↔◌}
 use Rattle.std.specs.List.{AllByRecursion}
 use Rattle.std.proofs.lemmas.List.{map_push}
 use Rattle.sdt_fault.specs.declared.refusal.Refusal.{Refusal}
-use Rattle.chunk_file.specs.Reading.{◌>>=◌, EachStands}
+use Rattle.chunk_file.specs.Reading.{EachStands}
 use Rattle.chunk_file.proofs.Loops.{bind_ok}
 use Rattle.aof_object.specs.Objects.{each_of}
 use Rattle.chunk_file.proofs.Loops.{push}

@@ -1,16 +1,12 @@
 -- The law of objects: what reading gives is what the bytes say.
-use Rattle.std.proofs.Common.{◌≡◌, ℕ, zero, suc, ◌+◌, ◌*◌, ◌<◌, ◌≤◌, Bool, true, false, cond, eqb, List, [], ◌∷◌, ◌++◌, length, take, drop, map, Option, Some, None, Result, Ok, Err, refl, sym, ap, subst, ◌∙◌, arith}
+use Rattle.std.proofs.Common.{◌≡◌, ℕ, ◌+◌, ◌*◌, List, [], ◌∷◌, length, take, drop, map, Option, Result, Ok, refl, sym, ap, subst, ◌∙◌}
 use Rattle.std.specs.Prelude.{◌↔◌}
 use Rattle.std.specs.List.{AllByRecursion}
 use Rattle.std.proofs.lemmas.List.{length-map}
 use Rattle.sdt_word.specs.Bytes.{word_in}
-use Rattle.sdt_fault.specs.declared.kinds.FileKind.TheVariants as kind
 use Rattle.sdt_fault.specs.declared.refusal.Refusal.{Refusal}
-use Rattle.sdt_fault.specs.declared.refusal.Refusal.TheVariants.{BadObject}
-use Rattle.chunk_file.specs.declared.records.Span.{Span}
-use Rattle.chunk_file.specs.Reading.{◌>>=◌, each, EachStands}
+use Rattle.chunk_file.specs.Reading.{each, EachStands}
 use Rattle.chunk_file.specs.Chunks.{bytes_at, table_of}
-use Rattle.chunk_file.specs.Grammar.{ReadsTable}
 use Rattle.chunk_file.proofs.Table.{table_law}
 use Rattle.chunk_file.proofs.Loops.{bind_ok, each_law}
 use Rattle.chunk_file.proofs.Guards.{equal, past_equal}
@@ -25,7 +21,7 @@ use Rattle.aof_object.specs.Parts.{parts_of}
 use Rattle.aof_object.specs.Objects.{each_of, counted_areas, head_names, next_head, heads_of, stored, total, next_area, exported, next_symbol, symbols_of, entry_of, object_in, object_of}
 use Rattle.aof_object.specs.Spelling.{area_names}
 use Rattle.aof_object.specs.Validity.{head_of, heads, IsArea, IsReloc, Holds, IsSymbol, IsEntered, IsValid}
-use Rattle.aof_object.specs.Grammar.{HasParts, SaysHead, SaysArea, SaysSymbol, SaysEntry, SaysObject, ReadsObject}
+use Rattle.aof_object.specs.Grammar.{SaysHead, SaysArea, SaysSymbol, SaysEntry, SaysObject, ReadsObject}
 use Rattle.aof_object.proofs.Lists.{both, weaker, all_of, with_all, all_and, from_map, to_map, each_of_law}
 use Rattle.aof_object.proofs.AreaLaw.{heads_agree, AreaStands, areas_agree, bytes_long}
 use Rattle.aof_object.proofs.SymbolLaw.{SymbolStands, symbols_agree}

@@ -1,5 +1,5 @@
 -- The chunks of an object, what OBJ_HEAD says as a whole, and the entry.
-use Rattle.std.proofs.Common.{◌≡◌, ℕ, zero, suc, ◌+◌, ◌-◌, ◌*◌, ◌<◌, ◌≤◌, Bool, true, false, cond, eqb, ltb, List, [], ◌∷◌, length, Option, Some, None, Result, Ok, Err, refl, sym, ap, subst, ◌∙◌, arith, slice_get}
+use Rattle.std.proofs.Common.{◌≡◌, ℕ, zero, suc, ◌+◌, ◌-◌, ◌*◌, ◌<◌, ◌≤◌, Bool, true, false, cond, eqb, List, [], ◌∷◌, length, Option, Some, None, Result, Ok, refl, sym, ap, subst, ◌∙◌, arith, slice_get}
 use Rattle.std.specs.Prelude.{◌↔◌, IsSomeAnd, codes}
 use Rattle.std.proofs.lemmas.Bool.{eqb-true, eq-eqb, eqb-false, false_from_ne_true}
 use Rattle.sdt_word.specs.Bytes.{word_in}
@@ -7,18 +7,16 @@ use Rattle.sdt_fault.specs.declared.kinds.FileKind.TheVariants as kind
 use Rattle.sdt_fault.specs.declared.refusal.Refusal.{Refusal}
 use Rattle.sdt_fault.specs.declared.refusal.Refusal.TheVariants.{BadObject}
 use Rattle.chunk_file.specs.declared.records.Span.{Span}
-use Rattle.chunk_file.specs.Reading.{◌>>=◌}
 use Rattle.chunk_file.specs.Chunks.{bytes_at}
 use Rattle.chunk_file.proofs.Loops.{bind_ok}
 use Rattle.chunk_file.proofs.Guards.{not_less, equal, past_less, past_equal}
 use Rattle.aof_object.specs.declared.areas.AreaHead.{AreaHead}
 use Rattle.aof_object.specs.declared.records.Entry.{Entry}
 use Rattle.aof_object.specs.declared.parts.Parts.{Parts}
-use Rattle.aof_object.specs.declared.parts.Found.{Found}
-use Rattle.aof_object.specs.declared.parts.Found.TheVariants.{Absent, One, Many}
+use Rattle.aof_object.specs.declared.parts.Found.TheVariants.{Absent}
 use Rattle.aof_object.specs.Checks.{left_over, entry_flaw}
 use Rattle.aof_object.specs.Parts.{named, found_of, needed, optional, no_symbols, told_symbols, parts_of}
-use Rattle.aof_object.specs.Objects.{judged, counted_areas, entry_in, entry_of}
+use Rattle.aof_object.specs.Objects.{counted_areas, entry_in, entry_of}
 use Rattle.aof_object.specs.Validity.{IsEntered}
 use Rattle.aof_object.specs.Grammar.{IsSymbolTable, HasParts, SaysEntry}
 use Rattle.aof_object.proofs.Checked.{judged_law, entry_law}

@@ -1,16 +1,16 @@
 -- What is spelled is read: the whole object.
-use Rattle.std.proofs.Common.{◌≡◌, ℕ, zero, suc, ◌-◌, ◌+◌, ◌*◌, ◌%◌, ◌/◌, ◌^◌, ◌≤◌, ◌<◌, Bool, true, false, List, [], ◌∷◌, ◌++◌, length, take, drop, map, Option, Some, None, refl, sym, ap, subst, ◌∙◌, append_assoc, append-nil, arith, slice_get}
-use Rattle.std.specs.Prelude.{IsSomeAnd, codes}
+use Rattle.std.proofs.Common.{◌≡◌, ℕ, zero, suc, ◌-◌, ◌+◌, ◌*◌, ◌^◌, ◌≤◌, ◌<◌, true, List, [], ◌∷◌, ◌++◌, length, map, Option, Some, None, refl, sym, ap, subst, ◌∙◌, append-nil, arith, slice_get}
+use Rattle.std.specs.Prelude.{IsSomeAnd}
 use Rattle.std.specs.Option.{option_map}
 use Rattle.std.specs.List.{flat_map, AllByRecursion}
-use Rattle.std.proofs.lemmas.List.{length-append, length-map}
+use Rattle.std.proofs.lemmas.List.{length-append}
 use Rattle.std.proofs.lemmas.Option.{slice_get-map}
 use Rattle.sdt_word.specs.Bytes.{bytes_of, word_in}
 use Rattle.sdt_word.proofs.BytesLemmas.{number_of-bytes_of}
 use Rattle.chunk_file.specs.declared.records.Chunk.{Chunk}
 use Rattle.chunk_file.specs.declared.records.Span.{Span}
 use Rattle.chunk_file.specs.Reading.{EachStands}
-use Rattle.chunk_file.specs.Chunks.{bytes_at, chunk_at, spans_from}
+use Rattle.chunk_file.specs.Chunks.{bytes_at, spans_from}
 use Rattle.chunk_file.specs.Grammar.{ReadsTable, AreChunks}
 use Rattle.chunk_file.proofs.Spelling.{spelled_table, spelled_chunks}
 use Rattle.aof_object.specs.declared.areas.AreaHead.{AreaHead}
@@ -19,14 +19,14 @@ use Rattle.aof_object.specs.declared.records.Area.{Area}
 use Rattle.aof_object.specs.declared.records.Entry.{Entry}
 use Rattle.aof_object.specs.declared.records.Object.{Object}
 use Rattle.aof_object.specs.declared.records.Symbol.{Symbol}
-use Rattle.aof_object.specs.Names.{IsText, among, Lacks, number_from}
-use Rattle.aof_object.specs.Objects.{extent, total}
+use Rattle.aof_object.specs.Names.{among, Lacks, number_from}
+use Rattle.aof_object.specs.Objects.{total}
 use Rattle.aof_object.specs.Spelling.{gathered, area_names, symbol_names, names_of, ended, strings_of, place, area_row, content_of, area_place, area_word, symbol_row, head_row, head_bytes, symbol_bytes, chunks_of, spelled}
-use Rattle.aof_object.specs.Validity.{head_of, heads, IsArea, Holds, Lives, IsSymbol, IsEntered, IsValid}
-use Rattle.aof_object.specs.Grammar.{HasParts, SaysHead, SaysArea, SaysHome, SaysSymbol, SaysObject, ReadsObject, AreaFits, Fits}
+use Rattle.aof_object.specs.Validity.{head_of, heads, IsArea, Lives, IsEntered, IsValid}
+use Rattle.aof_object.specs.Grammar.{HasParts, SaysHead, SaysHome, SaysSymbol, SaysObject, ReadsObject, Fits}
 use Rattle.aof_object.proofs.Lists.{weaker, all_of, all_and, to_map}
 use Rattle.aof_object.proofs.SpelledNames.{gathered-has, all_among, among-in-front, all_mapped, Placed, placed, numbered_from, rows_stand, length-rows}
-use Rattle.aof_object.proofs.SpelledRows.{AreaReady, area_says, area_long, RelocReady, SymbolReady, symbol_says, symbol_long, BodyReady, length-contents, bodies_say, head_with, head_long, EntryReady, entry_says}
+use Rattle.aof_object.proofs.SpelledRows.{AreaReady, area_says, area_long, SymbolReady, symbol_says, symbol_long, BodyReady, length-contents, bodies_say, head_long, EntryReady, entry_says}
 
 -- ---- items by their number
 

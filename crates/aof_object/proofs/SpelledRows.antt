@@ -1,14 +1,10 @@
 -- What is spelled is read: each row, the areas behind one another, and the entry.
-use Rattle.std.proofs.Common.{◌≡◌, ℕ, zero, suc, ◌-◌, ◌+◌, ◌*◌, ◌%◌, ◌/◌, ◌^◌, ◌≤◌, ◌<◌, Bool, true, false, cond, List, [], ◌∷◌, ◌++◌, length, take, drop, map, Option, Some, None, refl, sym, ap, subst, ◌∙◌, append_assoc, append-nil, arith, slice_get}
-use Rattle.std.specs.Prelude.{IsSomeAnd, unwrap_or}
-use Rattle.std.specs.Option.{option_map}
+use Rattle.std.proofs.Common.{◌≡◌, ℕ, ◌-◌, ◌+◌, ◌*◌, ◌^◌, ◌<◌, List, [], ◌∷◌, ◌++◌, length, take, drop, map, Option, Some, None, refl, sym, ap, subst, ◌∙◌, append_assoc, arith}
 use Rattle.std.specs.List.{flat_map, AllByRecursion}
-use Rattle.std.proofs.lemmas.List.{length-append, drop_at, take_at, length-map, map-append, map_push}
-use Rattle.std.proofs.lemmas.Option.{slice_get-map}
+use Rattle.std.proofs.lemmas.List.{length-append, drop_at, take_at, length-map, map-append}
 use Rattle.sdt_word.specs.Bytes.{bytes_of, word_in}
 use Rattle.sdt_word.proofs.BytesLemmas.{number_of-bytes_of}
 use Rattle.chunk_file.specs.Reading.{EachStands}
-use Rattle.aof_object.specs.declared.areas.AreaHead.{AreaHead}
 use Rattle.aof_object.specs.declared.records.Area.{Area}
 use Rattle.aof_object.specs.declared.records.Entry.{Entry}
 use Rattle.aof_object.specs.declared.records.Reloc.{Reloc}

@@ -1,25 +1,22 @@
 -- The rows of symbols: what is read is what stands there.
-use Rattle.std.proofs.Common.{◌≡◌, ◌≢◌, ℕ, zero, suc, ◌+◌, ◌-◌, ◌*◌, ◌<◌, ◌≤◌, Bool, true, false, cond, eqb, List, [], ◌∷◌, ◌++◌, length, take, drop, map, Option, Some, None, Result, Ok, Err, refl, sym, ap, subst, ◌∙◌, arith, slice_get}
+use Rattle.std.proofs.Common.{◌≡◌, ℕ, ◌+◌, ◌-◌, ◌*◌, ◌≤◌, Bool, true, false, cond, eqb, List, [], length, drop, Option, Some, None, Ok, refl, subst, arith, slice_get}
 use Rattle.std.specs.Prelude.{◌↔◌, ◌&&◌, IsSomeAnd}
 use Rattle.std.specs.Option.{option_and_then}
 use Rattle.std.proofs.lemmas.Bool.{eqb-true, eq-eqb, false_from_ne_true}
 use Rattle.sdt_word.specs.Bytes.{word_in}
 use Rattle.sdt_fault.specs.declared.kinds.FileKind.TheVariants.{Name}
-use Rattle.sdt_fault.specs.declared.refusal.Refusal.{Refusal}
 use Rattle.sdt_fault.specs.declared.refusal.Refusal.TheVariants.{BadObject}
 use Rattle.chunk_file.proofs.Loops.{Agrees}
 use Rattle.aof_object.specs.declared.areas.AreaHead.{AreaHead}
 use Rattle.aof_object.specs.declared.records.Symbol.{Symbol}
-use Rattle.aof_object.specs.declared.symbols.Told.{Told}
-use Rattle.aof_object.specs.declared.checks.Home.{Home}
-use Rattle.aof_object.specs.declared.checks.Home.TheVariants.{Unknown, Nowhere, Within}
-use Rattle.aof_object.specs.Names.{name_at, among, Lacks, IsNameAt, number_from}
+use Rattle.aof_object.specs.declared.checks.Home.TheVariants.{Nowhere}
+use Rattle.aof_object.specs.Names.{name_at, among, Lacks, number_from}
 use Rattle.aof_object.specs.Checks.{is_exported, is_placed, symbol_flaw}
-use Rattle.aof_object.specs.Objects.{judged, head_names, within, told_number, told, exported, symbol_at, next_symbol}
+use Rattle.aof_object.specs.Objects.{head_names, within, told_number, told, exported, symbol_at, next_symbol}
 use Rattle.aof_object.specs.Validity.{Lives, IsSymbol}
 use Rattle.aof_object.specs.Grammar.{SaysHome, SaysSymbol}
 use Rattle.aof_object.proofs.NameLaw.{name_law, lacks_law}
-use Rattle.aof_object.proofs.Checked.{judged_law, read_or, HomePasses, SymbolPasses, symbol_law}
+use Rattle.aof_object.proofs.Checked.{judged_law, read_or, HomePasses, symbol_law}
 
 -- ---- the area that is told
 

@@ -1,5 +1,5 @@
 -- A string table with one more name.
-use Rattle.std.proofs.Common.{◌≡◌, ℕ, zero, suc, ◌+◌, Bool, true, false, cond, List, [], ◌∷◌, ◌++◌, length, map, take, get_or, ◌<◌, Option, Some, None, refl, sym, ap, subst, ◌∙◌, arith, append_assoc, append-nil}
+use Rattle.std.proofs.Common.{◌≡◌, ℕ, ◌+◌, Bool, true, false, cond, List, [], ◌∷◌, ◌++◌, length, map, take, get_or, ◌<◌, Option, Some, None, refl, sym, ap, subst, ◌∙◌, arith, append_assoc}
 use Rattle.std.specs.Prelude.{is_some, ◌||◌}
 use Rattle.std.specs.List.{flat_map}
 use Rattle.std.specs.Str.{bytes_eq}
@@ -7,7 +7,7 @@ use Rattle.std.proofs.lemmas.List.{length-append, flat_map_more, map_more}
 use Rattle.aof_object.specs.Names.{among}
 use Rattle.aof_object.specs.Index.{Numbers, number_in, or_number}
 use Rattle.aof_object.specs.Spelling.{gathered, ended, spot_from}
-use Rattle.aof_object.specs.Places.{Tells, IsTable}
+use Rattle.aof_object.specs.Places.{IsTable}
 
 tested : (b : Bool) (i : ℕ) (o : Option ℕ) (rest : Bool) → is_some o ≡ rest → is_some (cond b (Some i) o) ≡ (b || rest)
 tested true i o rest h = refl

@@ -6,19 +6,17 @@ use Rattle.std.specs.Str.{bytes_eq}
 use Rattle.std.specs.Option.{option_map}
 use Rattle.std.proofs.lemmas.Option.{slice_get-map}
 use Rattle.std.proofs.lemmas.Bool.{eqb-true, eq-eqb}
-use Rattle.std.proofs.lemmas.List.{drop_more, take_more, map_push, length-map}
+use Rattle.std.proofs.lemmas.List.{drop_more, take_more, map_push}
 use Rattle.sdt_word.specs.Numbers.{bit}
 use Rattle.chunk_file.specs.Reading.{EachStands}
 use Rattle.aof_object.specs.declared.areas.AreaHead.{AreaHead}
 use Rattle.aof_object.specs.declared.checks.Flaw.{Flaw}
-use Rattle.aof_object.specs.declared.checks.Home.{Home}
-use Rattle.aof_object.specs.declared.checks.Home.TheVariants.{Unknown, Nowhere, Within}
 use Rattle.aof_object.specs.declared.records.Area.{Area}
 use Rattle.aof_object.specs.declared.records.Entry.{Entry}
 use Rattle.aof_object.specs.declared.records.Object.{Object}
 use Rattle.aof_object.specs.declared.records.Reloc.{Reloc}
 use Rattle.aof_object.specs.declared.records.Symbol.{Symbol}
-use Rattle.aof_object.specs.Names.{IsText, among, Lacks}
+use Rattle.aof_object.specs.Names.{IsText, among}
 use Rattle.aof_object.specs.Index.{Numbers, number_in, or_number}
 use Rattle.aof_object.specs.Checks.{misplaced, area_flaw, reloc_flaw, is_exported, is_placed, symbol_flaw, entry_flaw, left_over}
 use Rattle.aof_object.specs.Objects.{stored, exported}
@@ -29,7 +27,7 @@ use Rattle.aof_object.proofs.NamesLemmas.{among-push, among-exported}
 use Rattle.aof_object.proofs.NameLaw.{lacks_law}
 use Rattle.aof_object.proofs.SymbolLaw.{fresh_law}
 use Rattle.aof_object.proofs.Checked.{AreaPasses, area_law, reloc_law, HomePasses, SymbolPasses, symbol_law, entry_law}
-use Rattle.aof_object.proofs.Lists.{weaker, all_of, both, with_all}
+use Rattle.aof_object.proofs.Lists.{weaker, all_of, with_all}
 use Rattle.base_lemmas.proofs.BaseLemmas.{both_true}
 
 -- ---- a loop over items

@@ -1,6 +1,6 @@
 -- The chunks of an object file by their names: three that must stand exactly once, and the symbol table,
 -- which may be absent where there is no symbol (SDT 2.50 Reference Guide, ARM Object Format).
-use Rattle.std.specs.Prelude.{ℕ, ◌+◌, nat_lt, ◌==◌, if◌then◌else◌, List, [], ◌∷◌, length, Option, Some, None, Result, Ok, Err, codes}
+use Rattle.std.specs.Prelude.{ℕ, nat_lt, ◌==◌, if◌then◌else◌, List, [], ◌∷◌, length, Option, Some, None, Result, Ok, Err, codes}
 use Rattle.std.specs.Str.{bytes_eq}
 use Rattle.sdt_word.specs.Bytes.{word_in}
 use Rattle.sdt_fault.specs.declared.kinds.FileKind.TheVariants.{Chunks}

@@ -1,7 +1,7 @@
 -- Which objects are valid: what an object file may say (SDT 2.50 Reference Guide, ARM Object Format; the
 -- limits of the alignment and of the size, the refused bits, that no two areas share a name and that no
 -- two exported symbols do are this project's).
-use Rattle.std.specs.Prelude.{◌≡◌, ◌≢◌, ℕ, ◌+◌, ◌%◌, ◌^◌, ◌<◌, ◌≤◌, Bool, true, false, List, [], ◌∷◌, length, map, slice_get, Option, Some, None, IsSomeAnd}
+use Rattle.std.specs.Prelude.{◌≡◌, ◌≢◌, ℕ, ◌%◌, ◌^◌, ◌<◌, ◌≤◌, true, false, List, [], length, map, slice_get, Option, Some, None, IsSomeAnd}
 use Rattle.std.specs.List.{AllByRecursion}
 use Rattle.sdt_word.specs.Numbers.{bit}
 use Rattle.chunk_file.specs.Reading.{EachStands}

@@ -1,6 +1,6 @@
 -- Runs of steps that hold whatever the lines are: they join, and each is a run by `After`. A predicate
 -- on the accesses of each step goes along.
-use Rattle.std.proofs.Common.{◌≡◌, ℕ, zero, suc, ◌+◌, List, [], ◌∷◌, sym, subst, arith}
+use Rattle.std.proofs.Common.{◌≡◌, ℕ, zero, suc, List, [], ◌∷◌, sym, subst}
 use Rattle.arm7_model.specs.declared.event.Event.{Event}
 use Rattle.arm7_model.specs.declared.event.Event.TheVariants as event
 use Rattle.arm7_model.specs.Memory.{Board}

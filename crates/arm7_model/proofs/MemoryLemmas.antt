@@ -1,10 +1,10 @@
 -- Memory: what a store leaves, what is loaded after it, and copies by parts in both directions.
-use Rattle.std.proofs.Common.{◌≡◌, ◌≢◌, ℕ, zero, suc, ◌+◌, ◌-◌, ◌^◌, ◌<◌, ◌≤◌, Bool, true, false, nat_lt, ◌==◌, List, [], ◌∷◌, ◌++◌, length, get_or, refl, sym, ap, ◌∙◌, arith, ltb-true, ltb-false, eqb-true, eq-eqb, ◌⊎◌, inl, inr, length-append, cond}
+use Rattle.std.proofs.Common.{◌≡◌, ◌≢◌, ℕ, zero, suc, ◌+◌, ◌-◌, ◌<◌, ◌≤◌, Bool, true, false, nat_lt, ◌==◌, List, [], ◌∷◌, ◌++◌, length, get_or, refl, sym, ap, ◌∙◌, arith, ltb-true, ltb-false, eqb-true, eq-eqb, ◌⊎◌, inl, inr, length-append, cond}
 use Rattle.std.proofs.Math.ListN.{get_or-append}
 use Rattle.std.proofs.Math.Seq.{get_or-append_right}
 use Rattle.std.proofs.Math.Path.{fun_ext}
 use Rattle.sdt_word.specs.Bytes.{bytes_of, number_of, load, word}
-use Rattle.sdt_word.proofs.BytesLemmas.{length-load, bytes_of-number_of, number_of-bytes_of}
+use Rattle.sdt_word.proofs.BytesLemmas.{length-load, bytes_of-number_of}
 use Rattle.arm7_model.specs.Memory.{Bytes, store, all_from, any_from}
 
 -- ---- one order or the other

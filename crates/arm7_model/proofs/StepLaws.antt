@@ -11,7 +11,7 @@ use Rattle.arm7_model.specs.Registers.{State, register, is_thumb}
 use Rattle.arm7_model.specs.Accesses.{Access}
 use Rattle.arm7_model.specs.Outcomes.{Stepped}
 use Rattle.arm7_model.specs.Step.{Levels, Instruction, Arm, Thumb, Unread, Reads, stepped, stepped_by, uninterrupted, fetches, fetched, interrupt, can_fetch, fetch_width}
-use Rattle.arm7_model.specs.Runs.{Input, After, AreSteps, accesses_of, behind, stays, goes, first_of_inputs, later_inputs}
+use Rattle.arm7_model.specs.Runs.{Input, After, stays, goes, first_of_inputs, later_inputs}
 use Rattle.arm7_model.specs.Laws.{StepIsOne, RunsJoin, RunsShow, RunsSplit, RunIsOne, StepsRun}
 
 abbrev pub OneArm : Type 0

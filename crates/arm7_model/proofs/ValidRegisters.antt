@@ -1,5 +1,5 @@
 -- What keeps the registers valid: writes of words, of flags and of status registers.
-use Rattle.std.proofs.Common.{◌≡◌, ◌≢◌, ℕ, zero, suc, ◌+◌, ◌-◌, ◌*◌, ◌/◌, ◌%◌, ◌^◌, ◌<◌, ◌≤◌, Bool, true, false, ◌==◌, nat_lt, if◌then◌else◌, List, [], ◌∷◌, ◌++◌, length, take, drop, refl, sym, ap, ◌∙◌, arith, get_or-set_same, get_or-set_other, length-append, length-drop, length-take-le}
+use Rattle.std.proofs.Common.{◌≡◌, ◌≢◌, ℕ, zero, suc, ◌+◌, ◌-◌, ◌*◌, ◌/◌, ◌%◌, ◌^◌, ◌<◌, ◌≤◌, Bool, true, false, ◌==◌, if◌then◌else◌, List, [], ◌∷◌, ◌++◌, length, take, drop, refl, sym, ap, ◌∙◌, arith, get_or-set_same, get_or-set_other, length-append, length-drop, length-take-le}
 use Rattle.std.specs.Prelude.{slice_index, slice_set}
 use Rattle.std.proofs.lemmas.Bool.{eqb-false}
 use Rattle.std.proofs.lemmas.List.{length-set}
@@ -7,7 +7,7 @@ use Rattle.sdt_word.specs.Numbers.{bit, bits}
 use Rattle.arm7_model.specs.declared.state.ArmState.{ArmState}
 use Rattle.arm7_model.specs.declared.state.Mode.{Mode}
 use Rattle.arm7_model.specs.declared.state.Mode.TheVariants as mode
-use Rattle.arm7_model.specs.Registers.{bank, AreWords, IsStatus, IsValid, register, with_register, with_pc, as_pc, with_result, operand_at, stored_at, is_thumb, has_mode, bank_in, mode_in, saved, with_saved, with_cpsr, with_pair, with_high, with_other_high, user_register, bank_after, visible_after}
+use Rattle.arm7_model.specs.Registers.{bank, AreWords, IsStatus, IsValid, register, with_register, with_pc, as_pc, with_result, operand_at, is_thumb, has_mode, bank_in, mode_in, saved, with_saved, with_cpsr, with_pair, with_high, with_other_high, bank_after, visible_after}
 use Rattle.arm7_model.specs.Arithmetic.{with_flags}
 
 -- valid but for the pc in Thumb state

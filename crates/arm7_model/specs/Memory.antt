@@ -1,6 +1,6 @@
 -- Memory as the ARM7TDMI sees it: the byte at each address, and which addresses are memory, devices or
 -- read-only. The board never changes, and no step makes memory or takes it away. This project's.
-use Rattle.std.specs.Prelude.{◌≡◌, ℕ, zero, suc, ◌==◌, Bool, true, false, not, ◌&&◌, ◌||◌, if◌then◌else◌, List, [], ◌∷◌}
+use Rattle.std.specs.Prelude.{ℕ, zero, suc, ◌==◌, Bool, true, false, not, ◌&&◌, ◌||◌, if◌then◌else◌, List, [], ◌∷◌}
 
 -- the byte at each address
 abbrev pub Bytes : Type 0

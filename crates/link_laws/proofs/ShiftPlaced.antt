@@ -12,7 +12,7 @@ use Rattle.aof_object.specs.declared.records.Object.{Object}
 use Rattle.place_model.specs.declared.scatter.Kind.{Kind}
 use Rattle.place_model.specs.declared.scatter.Kind.TheVariants as kind
 use Rattle.place_model.specs.Items.{is_zero_initialised}
-use Rattle.place_model.specs.Plans.{Contents, areas_in, Planned, length_of, zero_length_of, zero_base_of, PlannedLoad, Plan, regions_of, stood_in, boot_address, is_startup}
+use Rattle.place_model.specs.Plans.{Contents, areas_in, Planned, zero_length_of, zero_base_of, Plan, regions_of, stood_in, boot_address, is_startup}
 use Rattle.place_model.specs.Plans as plan
 use Rattle.place_model.specs.Things.{Thing, Header, AnArea, AVeneer, Startup, Stood, stood, start_of, size_of}
 use Rattle.place_model.proofs.ListLemmas.{all_flat, all_indexed, all_at}

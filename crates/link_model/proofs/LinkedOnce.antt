@@ -1,5 +1,5 @@
 -- The least sets are one set, so at most one list of objects is linked, whatever the objects are called.
-use Rattle.std.proofs.Common.{◌≡◌, ℕ, suc, Bool, true, false, cond, List, [], ◌∷◌, ◌++◌, map, refl, sym, ap, ap₂, ◌∙◌, subst}
+use Rattle.std.proofs.Common.{◌≡◌, ℕ, suc, Bool, true, false, cond, List, [], ◌∷◌, ◌++◌, map, refl, sym, ap, ◌∙◌, subst}
 use Rattle.std.proofs.lemmas.List.{map-append}
 use Rattle.aof_object.specs.declared.records.Object.{Object}
 use Rattle.link_model.specs.declared.selection.Named.{Named}

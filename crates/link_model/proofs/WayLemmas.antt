@@ -1,25 +1,23 @@
 -- A branch goes by the same veneer wherever the areas stand.
-use Rattle.std.proofs.Common.{◌≡◌, ℕ, zero, suc, ◌+◌, ◌*◌, ◌%◌, ◌^◌, ◌<◌, ◌≤◌, Bool, true, false, cond, List, [], ◌∷◌, length, Option, Some, None, refl, sym, ap, ◌∙◌, subst, true≢false, arith}
-use Rattle.std.specs.Prelude.{◌&&◌, ◌==◌, nat_le, slice_get, count_by}
+use Rattle.std.proofs.Common.{◌≡◌, ℕ, zero, suc, ◌+◌, ◌*◌, ◌≤◌, Bool, true, false, cond, List, [], ◌∷◌, length, Option, Some, None, refl, sym, ap, ◌∙◌, subst, true≢false, arith}
+use Rattle.std.specs.Prelude.{◌&&◌, ◌==◌, nat_le, count_by}
 use Rattle.std.specs.List.{filter}
 use Rattle.std.specs.Option.{option_and_then}
 use Rattle.std.proofs.lemmas.Bool.{eqb-true, le-leb}
 use Rattle.std.proofs.lemmas.List.Sums.{sum_by-cons}
 use Rattle.sdt_word.specs.Numbers.{flag}
-use Rattle.aof_object.specs.declared.records.Area.{Area}
 use Rattle.aof_object.specs.declared.records.Object.{Object}
 use Rattle.aof_object.specs.declared.records.Reloc.{Reloc}
 use Rattle.aof_object.specs.declared.records.Symbol.{Symbol}
 use Rattle.patch_model.specs.Fields.{Kind, Byte, Half, Word, Branch, Field, Home, Meant, Values, field_of, kind_of, is_relative, is_by_symbol, number_named, is_thumb_label, mark_in, is_same_kind, is_field, directives, added, taken, size_of, number_in}
-use Rattle.patch_model.specs.Patched.{total, Way, Directly, ByVeneer, other_state, is_branch, IsBranch, span, middle, ahead, first_symbol, way_home, way_to, way_of}
+use Rattle.patch_model.specs.Patched.{total, Directly, ByVeneer, other_state, is_branch, span, middle, ahead, first_symbol, way_home, way_to, way_of}
 use Rattle.patch_model.proofs.BranchLemmas.{branch_test}
 use Rattle.patch_model.proofs.SumLemmas.{is_own}
 use Rattle.link_model.specs.declared.selection.Definition.{Definition}
-use Rattle.link_model.specs.declared.placing.AreaName.{AreaName}
-use Rattle.link_model.specs.Meaning.{Meaning, Defined, OfRegion, Weak, definition_of, meaning_by, meaning_of, symbol_of}
+use Rattle.link_model.specs.Meaning.{Defined, definition_of, meaning_by, meaning_of, symbol_of}
 use Rattle.link_model.specs.Members.{Link}
-use Rattle.link_model.specs.Values.{Bases, home_area, meant_at, meant_of, meant_by, meaning_at, values_of}
-use Rattle.link_model.specs.Veneers.{shares_field, is_alone, has_branch, veneer_by, values_apart, needed_as, needed_by, IsIn, WaysLaw}
+use Rattle.link_model.specs.Values.{Bases, home_area, meant_at, meant_of, meant_by, values_of}
+use Rattle.link_model.specs.Veneers.{shares_field, is_alone, has_branch, veneer_by, values_apart, needed_as, IsIn, WaysLaw}
 use Rattle.base_lemmas.proofs.BaseLemmas.{both_true}
 use Rattle.aof_object.proofs.ValidLaw.{and_true}
 

@@ -8,7 +8,7 @@ use Rattle.std.proofs.lemmas.Grind.{flat_map-append}
 use Rattle.std.proofs.lemmas.List.Sums.{sum_by-cons}
 use Rattle.sdt_word.specs.declared.ranges.Range32.{Range32}
 use Rattle.place_model.specs.Plans as plans
-use Rattle.place_model.specs.Plans.{Planned, length_of, zero_length_of, execution_size, Plan, regions_of, copy_row, zero_row, is_cleared, stood_in, address_of, is_startup}
+use Rattle.place_model.specs.Plans.{Planned, length_of, execution_size, copy_row, zero_row, is_cleared, stood_in, address_of, is_startup}
 use Rattle.place_model.specs.Faults as model
 use Rattle.place_model.specs.Items.{is_read_only}
 use Rattle.place_model.specs.Things as things

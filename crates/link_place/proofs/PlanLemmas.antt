@@ -11,7 +11,7 @@ use Rattle.place_model.specs.declared.scatter.ScatterLoad.{ScatterLoad}
 use Rattle.place_model.specs.declared.scatter.ScatterRegion.{ScatterRegion}
 use Rattle.place_model.specs.Items.{Item, is_zero_initialised}
 use Rattle.place_model.specs.Things as things
-use Rattle.place_model.specs.Things.{Thing, AnArea, AVeneer, alignment_of, size_of, gap, start_of, extent, Stood, stood}
+use Rattle.place_model.specs.Things.{Thing, AnArea, AVeneer, alignment_of, size_of, start_of, extent, Stood, stood}
 use Rattle.place_model.specs.Plans.{RegionVeneer, Contents, areas_in, veneers_in, header_in, startup_in, origin_of, Planned, length_of, zero_length_of, end_of, base_behind, planned, planned_from, loads_from, Plan, regions_of}
 use Rattle.link_place.specs.declared.layouts.Laid.{Laid}
 use Rattle.link_place.specs.declared.parts.Part.{Part}

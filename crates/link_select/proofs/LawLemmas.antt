@@ -1,8 +1,8 @@
 -- What the refusals of names say, and that where there is none, no name is exported twice.
 use Rattle.std.proofs.Common.{◌≡◌, ℕ, zero, suc, ◌<◌, Bool, true, false, cond, ◌||◌, true≢false, List, [], ◌∷◌, Option, Some, None, Result, Ok, Err, refl, sym, ap, ◌∙◌, subst, inl, inr, arith}
-use Rattle.std.specs.Prelude.{◌⊎◌, IfOk, IsSomeAnd, slice_get}
+use Rattle.std.specs.Prelude.{IfOk, IsSomeAnd, slice_get}
 use Rattle.std.specs.List.{find}
-use Rattle.std.specs.Option.{option_or, option_map, option_and_then}
+use Rattle.std.specs.Option.{option_or, option_map}
 use Rattle.std.specs.Str.{bytes_eq}
 use Rattle.std.proofs.lemmas.Slice.Eq.{bytes_eq-Decides}
 use Rattle.sdt_fault.specs.declared.answer.Fault.{Fault}

@@ -1,5 +1,5 @@
 -- One more mark, and several.
-use Rattle.std.proofs.Common.{◌≡◌, ℕ, zero, suc, ◌+◌, ◌<◌, Bool, true, false, ◌||◌, true≢false, length, List, [], ◌∷◌, ◌++◌, refl, sym, ap, ◌∙◌, subst, set, inl, inr, arith, length-append, append_assoc, append-nil}
+use Rattle.std.proofs.Common.{◌≡◌, ℕ, zero, suc, ◌+◌, ◌<◌, Bool, true, false, ◌||◌, true≢false, length, List, [], ◌∷◌, ◌++◌, refl, sym, ap, ◌∙◌, subst, set, inl, inr, arith, length-append, append_assoc}
 use Rattle.std.specs.Prelude.{◌⊎◌, ◌==◌}
 use Rattle.std.proofs.lemmas.List.{get_or-set_same, length-set}
 use Rattle.std.proofs.lemmas.Bool.{eqb-true, eq-eqb}

@@ -3,7 +3,7 @@ use Rattle.std.proofs.Common.{◌≡◌, ◌≢◌, ℕ, suc, ◌%◌, Bool, tru
 use Rattle.std.specs.Prelude.{is_some, IfOk, IsSomeAnd, ◌==◌}
 use Rattle.std.specs.List.{find}
 use Rattle.std.specs.Str.{bytes_eq}
-use Rattle.std.proofs.lemmas.Bool.{eqb-true, eqb-false, eq-eqb}
+use Rattle.std.proofs.lemmas.Bool.{eqb-false, eq-eqb}
 use Rattle.sdt_word.specs.Numbers.{bit}
 use Rattle.sdt_fault.specs.declared.answer.Fault.{Fault}
 use Rattle.chunk_file.specs.Reading.{Gives}
@@ -17,12 +17,12 @@ use Rattle.link_model.specs.declared.selection.Linked.{Linked}
 use Rattle.link_model.specs.declared.selection.Named.{Named}
 use Rattle.link_model.specs.Chosen.{exports, exporter, is_needed}
 use Rattle.link_model.specs.Definitions.{definitions_in, definitions_from}
-use Rattle.link_model.specs.Meaning.{Meaning, Defined, definition_of, meaning_by, meaning_of, symbol_of}
+use Rattle.link_model.specs.Meaning.{Defined, definition_of, meaning_by, meaning_of, symbol_of}
 use Rattle.link_model.specs.Members.{objects_in}
 use Rattle.link_model.specs.RegionNames.{names_a_region}
-use Rattle.link_select.specs.Laws.{IsLacking, HasNumbers, HaveMeanings}
+use Rattle.link_select.specs.Laws.{HasNumbers, HaveMeanings}
 use Rattle.link_select.specs.Selection.{selection_of}
-use Rattle.link_select.specs.Undefined.{is_known, undefined}
+use Rattle.link_select.specs.Undefined.{is_known}
 use Rattle.link_select.proofs.LawLemmas.{kept, none_lacks}
 use Rattle.link_select.proofs.SelectionLemmas.{selected_link}
 

@@ -1,6 +1,6 @@
 -- Pages that are used for one need after another.
-use Rattle.std.proofs.Common.{◌≡◌, ℕ, zero, suc, ◌+◌, ◌-◌, ◌*◌, ◌/◌, ◌<◌, ◌≤◌, Bool, true, false, ◌||◌, List, [], ◌∷◌, ◌++◌, length, get_or, map, take, drop, Result, Ok, Err, refl, sym, ap, ◌∙◌, subst, arith}
-use Rattle.std.specs.Prelude.{◌&&◌, nat_le, nat_lt, min, max, OnErr}
+use Rattle.std.proofs.Common.{◌≡◌, ℕ, zero, suc, ◌+◌, ◌-◌, ◌*◌, ◌/◌, ◌<◌, ◌≤◌, Bool, true, false, ◌||◌, List, [], ◌∷◌, ◌++◌, length, get_or, map, take, drop, refl, sym, ap, ◌∙◌, subst, arith}
+use Rattle.std.specs.Prelude.{◌&&◌, nat_le, nat_lt, min, max}
 use Rattle.std.specs.List.{list_any, AllByRecursion}
 use Rattle.std.proofs.lemmas.List.{get_or-set_same, get_or-set_other}
 use Rattle.std.proofs.lemmas.Bool.Decides.{nat_tests}
@@ -19,7 +19,6 @@ use Rattle.run_opening.proofs.RoomLemmas.{take_all}
 use Rattle.run_opening.specs.Fills.{EndsBelow, IsPrepared, claimed_all, with_banks, with_used}
 use Rattle.arm7_bus.proofs.MeetLemmas.{or_true}
 use Rattle.arm7_bus.proofs.TickLemmas.{or_false}
-use Rattle.base_lemmas.proofs.BaseLemmas.{on_err}
 
 -- the last page of a range is one
 pages_in : (base size : ℕ) → base + size ≤ 4294967296 → base / 4096 + pages_of base size ≤ 1048576

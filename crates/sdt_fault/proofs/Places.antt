@@ -1,6 +1,5 @@
 -- The step of the recursion over hexadecimal places.
-use Rattle.std.proofs.Common.{◌≡◌, ℕ, zero, suc, ◌<◌, ◌≢◌, ◌-◌, ◌/◌, ◌%◌, ◌++◌, ◌∷◌, [], List, true, refl, ap, arith, rules}
-use Rattle.std.proofs.Math.Numerals.{sub-one}
+use Rattle.std.proofs.Common.{◌≡◌, ℕ, zero, suc, ◌≢◌, ◌-◌, ◌/◌, ◌%◌, ◌++◌, ◌∷◌, [], true, refl, arith}
 use Rattle.std.specs.Fmt.{digit_glyph}
 use Rattle.sdt_fault.specs.Digits.{hexadecimal_places}
 

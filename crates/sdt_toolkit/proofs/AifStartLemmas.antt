@@ -9,7 +9,7 @@ use Rattle.byte_maps.specs.Maps.{bytes_of_words}
 use Rattle.place_model.specs.declared.scatter.Kind.{Kind}
 use Rattle.place_model.specs.declared.scatter.Kind.TheVariants as kind
 use Rattle.place_model.specs.Plans.{Plan}
-use Rattle.image_model.specs.AifFiles.{aif_plan, fixed_aif, header_words, offsets_of, relocatable_aif, shifted_offsets}
+use Rattle.image_model.specs.AifFiles.{aif_plan, fixed_aif, header_words, offsets_of, shifted_offsets}
 use Rattle.image_model.specs.AifFiles as plan
 use Rattle.image_model.specs.Regions.{Given, filled}
 use Rattle.image_model.specs.Views.{IsView}

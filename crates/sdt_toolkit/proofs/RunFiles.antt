@@ -21,7 +21,7 @@ use Rattle.run_opening.specs.declared.image.Need.{Need}
 use Rattle.tool_answers.specs.Inputs.{and_others, before_others, found_or, inputs_of}
 use Rattle.tool_run.specs.Images as run
 use Rattle.tool_run.specs.Ends.{named_by}
-use Rattle.tool_run.specs.Images.{all_named, files_in, front_of, has_zero, length_judged, lengths_judged, loaded_image, loads_of, map_image, mapped_image, unnamed}
+use Rattle.tool_run.specs.Images.{all_named, files_in, front_of, has_zero, lengths_judged, loaded_image, loads_of, map_image, mapped_image, unnamed}
 use Rattle.sdt_toolkit.specs.RunImages.{HasFiles, load_need, load_of, region_need, run_image}
 use Rattle.sdt_toolkit.specs.Runs.{FilesAreRead}
 

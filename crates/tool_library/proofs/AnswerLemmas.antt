@@ -1,6 +1,5 @@
 -- Answers of commands, by their ends.
 use Rattle.std.proofs.Common.{◌≡◌, ℕ, List, [], ◌∷◌, length, Option, Some, None, Result, Ok, Err, refl, sym, ap, subst, inl, inr}
-use Rattle.std.proofs.lemmas.List.{append-nil}
 use Rattle.sdt_fault.specs.declared.answer.Answer.{Answer}
 use Rattle.sdt_fault.specs.declared.answer.Answer.TheVariants as answer
 use Rattle.sdt_fault.specs.declared.answer.Fault.{Fault}
@@ -16,7 +15,6 @@ use Rattle.tool_answers.specs.declared.inputs.InputEnd.TheVariants as end
 use Rattle.tool_answers.specs.Inputs.{found_or, inputs_of, input_of, AreInputs, InputsEnd, IsEnd, IsReached}
 use Rattle.tool_answers.specs.Outcomes.{Outcome, Outside, IsLeft, AreWritten, IsAsked, OfAll, OfOne, Answers, Writes, Prints, writes_one, prints_only}
 use Rattle.tool_library.specs.Libraries.{end_answer, fault_answer}
-use Rattle.sdt_outside.proofs.SharedLemmas.{got_none}
 
 -- ---- what is asked
 

@@ -1,10 +1,10 @@
 -- Members one after the other.
-use Rattle.std.proofs.Common.{◌≡◌, ℕ, suc, ◌+◌, ◌<◌, List, [], ◌∷◌, ◌++◌, length, drop, get_or, Result, Ok, Err, refl, sym, ap, ◌∙◌, subst, append_assoc, add-one, bytes_eq, true, cond}
+use Rattle.std.proofs.Common.{◌≡◌, ℕ, suc, ◌+◌, ◌<◌, List, ◌∷◌, ◌++◌, length, drop, get_or, Result, Ok, Err, sym, ap, ◌∙◌, subst, bytes_eq, true, cond}
 use Rattle.std.proofs.Math.Seq.{drop-cons}
 use Rattle.sdt_fault.specs.declared.refusal.Refusal.{Refusal}
 use Rattle.chunk_file.specs.Reading.{◌>>=◌}
 use Rattle.alf_archive.specs.declared.records.Member.{Member}
-use Rattle.tool_library.specs.Libraries.{member_of, members_of, member_named, extract_from}
+use Rattle.tool_library.specs.Libraries.{member_named, extract_from}
 use Rattle.chunk_file.specs.Reading.{Gives}
 use Rattle.aof_object.specs.Spelling as object
 use Rattle.sdt_fault.specs.declared.answer.Fault.{Fault}

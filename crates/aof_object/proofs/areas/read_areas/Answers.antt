@@ -1,9 +1,9 @@
-use Rattle.std.proofs.Common.{◌≡◌, ◌+◌, ◌*◌, ◌≤◌, ◌∙◌, sym, arith, [], ◌++◌, ◌∷◌, length, Ok, Err}
+use Rattle.std.proofs.Common.{◌≡◌, ◌+◌, arith, [], ◌++◌, ◌∷◌, Ok, Err}
 use Rattle.std.proofs.lemmas.Result.{err_from_is_err_and}
 use Rattle.std.proofs.lemmas.List.{length_push}
 use Rattle.chunk_file.specs.Reading.{Gives}
-use Rattle.aof_object.specs.Objects.{next_area, extent}
-use Rattle.aof_object.proofs.Rows.{of_goes_on, of_ends, of_is_done, total_more, total_room}
+use Rattle.aof_object.specs.Objects.{next_area}
+use Rattle.aof_object.proofs.Rows.{of_goes_on, of_ends, total_more, total_room}
 use Rattle.aof_object.proofs.areas.read_areas.Goals as goal
 
 pub read_area-requires : goal.read_area-requires

@@ -1,7 +1,7 @@
-use Rattle.std.proofs.Common.{◌≡◌, ◌+◌, ◌*◌, arith, [], ◌++◌, ◌∷◌, length, Ok, Err}
+use Rattle.std.proofs.Common.{◌≡◌, ◌+◌, ◌*◌, arith, [], ◌++◌, ◌∷◌, Ok, Err}
 use Rattle.std.proofs.lemmas.Result.{err_from_is_err_and}
 use Rattle.std.proofs.lemmas.List.{length_push, take_rest}
-use Rattle.chunk_file.specs.Reading.{Gives, each}
+use Rattle.chunk_file.specs.Reading.{Gives}
 use Rattle.chunk_file.proofs.Loops.{goes_on, ends}
 use Rattle.aof_object.specs.Objects.{next_reloc}
 use Rattle.aof_object.proofs.areas.read_relocs.Goals as goal

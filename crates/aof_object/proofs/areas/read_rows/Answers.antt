@@ -1,11 +1,10 @@
-use Rattle.std.proofs.Common.{◌≡◌, ◌+◌, ◌-◌, ◌*◌, ◌∙◌, sym, ap, arith, [], ◌++◌, ◌∷◌, length, Ok, Err, Bool, List, ℕ, refl}
+use Rattle.std.proofs.Common.{◌≡◌, ◌+◌, ◌-◌, ◌*◌, ◌∙◌, sym, ap, arith, [], ◌++◌, ◌∷◌, Ok, Err, List, refl}
 use Rattle.std.proofs.lemmas.Result.{err_from_is_err_and}
 use Rattle.std.proofs.lemmas.List.{length_push, take_rest}
-use Rattle.chunk_file.specs.Reading.{Gives, each}
+use Rattle.chunk_file.specs.Reading.{Gives}
 use Rattle.chunk_file.proofs.Loops.{goes_on, ends}
 use Rattle.aof_object.specs.declared.areas.AreaHead.{AreaHead}
 use Rattle.aof_object.specs.Names.{number_from}
-use Rattle.aof_object.specs.Index.{number_in}
 use Rattle.aof_object.specs.Objects.{next_head, head_names}
 use Rattle.aof_object.proofs.NamesLemmas.{taken_is, indexed_more}
 use Rattle.aof_object.proofs.areas.read_rows.Goals as goal

@@ -1,4 +1,4 @@
-use Rattle.std.proofs.Common.{◌≡◌, ◌∙◌, sym, List, Option}
+use Rattle.std.proofs.Common.{◌∙◌, sym, List, Option}
 use Rattle.std.proofs.lemmas.List.{at_drop_all}
 use Rattle.chunk_file.specs.declared.records.Span.{Span}
 use Rattle.aof_object.specs.Parts.{named, found_with}

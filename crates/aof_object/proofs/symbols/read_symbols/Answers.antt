@@ -1,8 +1,8 @@
-use Rattle.std.proofs.Common.{◌≡◌, ◌+◌, ◌*◌, ◌∙◌, sym, ap, arith, [], ◌++◌, ◌∷◌, length, Ok, Err, Bool, List, ℕ}
+use Rattle.std.proofs.Common.{◌≡◌, ◌+◌, ◌*◌, ◌∙◌, sym, ap, arith, [], ◌++◌, ◌∷◌, Ok, Err, Bool, List, ℕ}
 use Rattle.std.specs.Prelude.{is_some}
 use Rattle.std.proofs.lemmas.Result.{err_from_is_err_and}
 use Rattle.std.proofs.lemmas.List.{length_push, take_rest}
-use Rattle.chunk_file.specs.Reading.{Gives, each}
+use Rattle.chunk_file.specs.Reading.{Gives}
 use Rattle.chunk_file.proofs.Loops.{goes_on, ends}
 use Rattle.aof_object.specs.declared.records.Symbol.{Symbol}
 use Rattle.aof_object.specs.Names.{among}

@@ -1,4 +1,4 @@
-use Rattle.std.proofs.Common.{◌≡◌, ℕ, List, take}
+use Rattle.std.proofs.Common.{ℕ, List, take}
 use Rattle.aof_object.specs.Spelling.{gathered, area_names}
 use Rattle.aof_object.specs.Places.{IsTable}
 use Rattle.aof_object.proofs.table.gather_areas.Given as goal

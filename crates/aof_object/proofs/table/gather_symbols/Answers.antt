@@ -1,4 +1,4 @@
-use Rattle.std.proofs.Common.{◌+◌, ◌++◌, ◌∷◌, [], ℕ, List, take}
+use Rattle.std.proofs.Common.{take}
 use Rattle.aof_object.specs.Spelling.{gathered, symbol_names}
 use Rattle.aof_object.specs.declared.records.Symbol.{Symbol}
 use Rattle.aof_object.proofs.TableLemmas.{gathered_more}

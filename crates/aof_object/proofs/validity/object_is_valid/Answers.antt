@@ -1,6 +1,5 @@
-use Rattle.std.proofs.Common.{◌≡◌, ◌∙◌, sym, true}
+use Rattle.std.proofs.Common.{◌∙◌, sym}
 use Rattle.std.proofs.lemmas.Result.{IfOk-weaker}
-use Rattle.aof_object.specs.Tests.{is_valid}
 use Rattle.aof_object.proofs.ValidLaw.{valid_law}
 use Rattle.aof_object.proofs.validity.object_is_valid.Goals as goal
 

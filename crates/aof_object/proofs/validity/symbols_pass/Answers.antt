@@ -1,4 +1,4 @@
-use Rattle.std.proofs.Common.{◌≡◌, ◌∙◌, sym, ap, length, take, ℕ, List, true, subst, Bool}
+use Rattle.std.proofs.Common.{◌≡◌, ◌∙◌, sym, ap, take, ℕ, List, true, subst, Bool}
 use Rattle.std.specs.Prelude.{is_some, ◌&&◌, ◌||◌}
 use Rattle.std.specs.Str.{bytes_eq}
 use Rattle.aof_object.specs.Index.{number_in}

@@ -7,7 +7,7 @@ use Rattle.aof_object.specs.declared.records.Object.{Object}
 use Rattle.aof_object.specs.declared.records.Symbol.{Symbol}
 use Rattle.aof_object.specs.Index.{Numbers, number_in}
 use Rattle.aof_object.specs.Spelling.{gathered, area_names, symbol_names, names_of, strings_of, ended, content_of, head_bytes, symbol_row, symbol_bytes, chunks_from, chunks_of}
-use Rattle.aof_object.specs.Places.{Tells, IsTable}
+use Rattle.aof_object.specs.Places.{IsTable}
 use Rattle.aof_object.proofs.TableLemmas.{gathered-append}
 use Rattle.aof_object.proofs.writing.chunks_of_object.Goals as goal
 

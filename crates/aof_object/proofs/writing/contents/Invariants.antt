@@ -1,4 +1,4 @@
-use Rattle.std.proofs.Common.{◌≡◌, ◌++◌, take}
+use Rattle.std.proofs.Common.{◌≡◌, take}
 use Rattle.std.specs.List.{flat_map}
 use Rattle.aof_object.specs.Spelling.{content_of}
 use Rattle.aof_object.proofs.writing.contents.Given as goal

@@ -1,4 +1,4 @@
-use Rattle.std.proofs.Common.{◌≡◌, ◌++◌, ◌∙◌, ap, ℕ, List, length, append_assoc}
+use Rattle.std.proofs.Common.{◌++◌, ◌∙◌, ap, ℕ, List, length, append_assoc}
 use Rattle.std.proofs.lemmas.Result.{on_ok_weaker}
 use Rattle.sdt_word.specs.Bytes.{bytes_of}
 use Rattle.aof_object.proofs.writing.push_area_at.Goals as goal

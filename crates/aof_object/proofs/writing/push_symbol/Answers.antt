@@ -1,6 +1,6 @@
 use Rattle.std.proofs.Common.{◌∙◌, ap, ◌++◌, ℕ}
 use Rattle.std.proofs.lemmas.Result.{on_ok_weaker}
-use Rattle.aof_object.specs.Spelling.{area_word, place, symbol_row_at}
+use Rattle.aof_object.specs.Spelling.{place, symbol_row_at}
 use Rattle.aof_object.proofs.writing.push_symbol.Goals as goal
 
 pub returns : goal.returns

@@ -1,6 +1,5 @@
-use Rattle.std.proofs.Common.{rules, ◌++◌, ap, sym, ◌∙◌, append_assoc}
+use Rattle.std.proofs.Common.{rules, append_assoc}
 use Rattle.sdt_fault.proofs.Places.{places_step}
-use Rattle.sdt_fault.specs.Digits.{hexadecimal_places}
 use Rattle.sdt_fault.proofs.digits.+push_hexadecimal_places.Goals as goal
 
 pub returns : goal.returns
