@@ -14,8 +14,8 @@ use Rattle.asm_model.specs.declared.operands.Indexing.{Indexing}
 use Rattle.asm_model.specs.declared.statements.What.{What}
 use Rattle.asm_model.specs.Grammar.{OneParse, ParsesTokens}
 use Rattle.asm_model.specs.Operands.{operands}
-use Rattle.asm_model.specs.Parts.{part_of, piece}
-use Rattle.asm_model.specs.Says.{mapped, Expression, unnamed}
+use Rattle.asm_model.specs.Parts.{part_of}
+use Rattle.asm_model.specs.Says.{mapped, Expression}
 use Rattle.asm_arm.specs.declared.words.Mnemonic.{Mnemonic}
 use Rattle.asm_arm.specs.declared.words.Mnemonic.TheVariants as mnemonic
 use Rattle.asm_arm.specs.declared.words.Shape.{Shape}
@@ -27,9 +27,7 @@ use Rattle.asm_arm.specs.declared.addresses.Addressed.{Addressed}
 use Rattle.asm_arm.specs.Addresses.{ReadsPlainOffset, ReadsOffset, ReadsAt, ReadsScaledAt, ReadsInside, ReadsBracketed, ReadsBefore, ReadsBehind, ReadsAfter, bracketed, base}
 use Rattle.asm_arm.specs.Lines as lines
 use Rattle.asm_arm.specs.Operands.{Cuts, none, one, two, three, four, more, cut, ReadsAmount, ReadsKind, ReadsScale, ReadsPlain, ReadsSecond}
-use Rattle.asm_arm.specs.Says.{ReadsArm}
-use Rattle.asm_arm.proofs.SayingLemmas.{OneOperation}
-use Rattle.asm_arm.specs.Words.{operation_named, shape_of}
+use Rattle.asm_arm.specs.Words.{shape_of}
 
 pub one_value : OneParse → (text : List ℕ) (ts : List Token) (a b : Result Expr LineKind) → ParsesTokens text ts a → ParsesTokens text ts b → a ≡ b
 one_value law text ts a b p q = law (map (part_of text) ts) a b p q
@@ -212,9 +210,6 @@ one_word law text mnemonic.LongAddress c ts a b p q = one_address law text c tru
 one_word law text mnemonic.NoOperation c ts a b p q = p ∙ sym q
 one_word law text mnemonic.FloatingPoint c ts a b p q = p ∙ sym q
 
-one_reading : OneParse → (text : List ℕ) (k : LineKind) (m : Option (Mnemonic × Condition)) (ts : List Token) (a b : Result What LineKind) → lines.Reads text k m ts a → lines.Reads text k m ts b → a ≡ b
+pub one_reading : OneParse → (text : List ℕ) (k : LineKind) (m : Option (Mnemonic × Condition)) (ts : List Token) (a b : Result What LineKind) → lines.Reads text k m ts a → lines.Reads text k m ts b → a ≡ b
 one_reading law text k None ts a b p q = p ∙ sym q
 one_reading law text k (Some m) ts a b p q = one_word law text m.0 m.1 ts a b p q
-
-pub one_operation : OneParse → OneOperation ReadsArm
-one_operation law text t ts a b p q = one_reading law text (unnamed t.kind) (operation_named (piece text t)) ts a b p q

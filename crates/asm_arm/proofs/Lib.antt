@@ -1,5 +1,4 @@
 pub mod CutLemmas
 pub mod LawLemmas
 pub mod ListLemmas
-pub mod SayingLemmas
 pub mod StemLemmas

@@ -3,7 +3,6 @@ pub mod Addresses
 pub mod Lines
 pub mod Lists
 pub mod Operands
-pub mod Says
 pub mod Stems
 pub mod Steps
 pub mod Words

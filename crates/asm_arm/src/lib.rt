@@ -1,13 +1,10 @@
-//! Statements of ARM state: what a line of a source says.
+//! Instructions and pseudo-instructions of ARM state: what an operation and the tokens behind it say.
 #![tactic(auto)]
 
 pub mod addresses;
 pub mod lines;
 pub mod lists;
 pub mod operands;
-pub mod says;
 pub mod stems;
 pub mod transfers;
 pub mod words;
-
-pub use crate::says::parse_arm;

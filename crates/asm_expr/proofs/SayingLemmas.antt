@@ -1,6 +1,8 @@
 -- What a line says as a directive, from its readings, and that it says one thing.
-use Rattle.std.proofs.Common.{◌≡◌, ℕ, List, [], ◌∷◌, Bool, true, false, refl, sym, ◌∙◌, ap, Option, Some, None, map}
-use Rattle.std.specs.Prelude.{Result, Ok, Err, MatchBool}
+use Rattle.std.proofs.Common.{◌≡◌, ℕ, List, [], ◌∷◌, Bool, true, false, refl, sym, ◌∙◌, ap, subst, Option, Some, None, map}
+use Rattle.std.specs.Prelude.{Result, Ok, Err, IfOk, MatchBool}
+use Rattle.sdt_fault.specs.declared.answer.Fault.{Fault}
+use Rattle.sdt_fault.specs.declared.answer.Fault.TheVariants.{Refused, ReadFault, NoMemory}
 use Rattle.sdt_fault.specs.declared.kinds.LineKind.{LineKind}
 use Rattle.asm_model.specs.declared.lines.Flat.{Flat}
 use Rattle.asm_model.specs.declared.tokens.Token.{Token}
@@ -8,12 +10,12 @@ use Rattle.asm_model.specs.declared.exprs.Expr.{Expr}
 use Rattle.asm_model.specs.declared.directives.Directive.{Directive}
 use Rattle.asm_model.specs.declared.directives.DirectiveLine.{DirectiveLine}
 use Rattle.asm_model.specs.declared.statements.Statement.{Statement}
-use Rattle.asm_model.specs.declared.statements.What.TheVariants as what
 use Rattle.asm_model.specs.Areas.{ReadsAttribute, ReadsAttributes, begins_alignment, alignment, either}
 use Rattle.asm_model.specs.Grammar.{ParsesTokens}
 use Rattle.asm_model.specs.Operands.{operands}
 use Rattle.asm_model.specs.Parts.{part_of}
-use Rattle.asm_model.specs.Says.{Form, bare, name, imported, expression, expressions, area, register, boundary, refused, on_both, mapped, Sentence, sentence, directive_of, statement_of, SaysAs, SaysDirective, Expression, Expressions, SomeExpressions, Area, Register, Aligned, Reads, register_alone}
+use Rattle.asm_model.specs.Says.{Form, bare, name, imported, expression, expressions, area, register, boundary, refused, on_both, mapped, Sentence, sentence, directive_of, Said, statement_of, SaysAs, SaysDirective, Expression, Expressions, SomeExpressions, Area, Register, Aligned, Reads, register_alone}
+use Rattle.asm_model.specs.Told.{Told, ToldFault}
 use Rattle.asm_expr.specs.SentenceSteps.{IsReadAs}
 use Rattle.asm_expr.proofs.ParseLaws.{one_reading}
 
@@ -38,14 +40,29 @@ pub said_fault : (flat : Flat) (ts : List Token) (text : List ℕ) (s : Sentence
     → SaysDirective flat ts (Err k)
 said_fault flat ts text s o d r k et es eo ed h e = let all = said flat ts text s o d r et es eo ed h in rw e at all
 
-pub said_statement : (flat : Flat) (ts : List Token) (text : List ℕ) (s : Sentence) (o : Option Directive) (d : Directive) (r : Result (Option (List ℕ) × DirectiveLine) LineKind)
-    (source : List ℕ) (label : Option (List ℕ)) (l : DirectiveLine)
-    → text ≡ flat.text → s ≡ sentence ts → o ≡ directive_of text s.operation → o ≡ Some d → IsReadAs text s d r → r ≡ Ok (label, l) → source ≡ flat.source
-    → SaysDirective flat ts (Ok (Some (record { source = source; number = flat.number; label = label; what = what.Directive l; is_long = false })))
-said_statement flat ts text s o d r source label l et es eo ed h e same =
+pub said_statement : {E : Type 0} (flat : Flat) (ts : List Token) (text : List ℕ) (s : Sentence) (o : Option Directive) (d : Directive) (r : Result (Option (List ℕ) × DirectiveLine) LineKind)
+    (label : Option (List ℕ)) (l : DirectiveLine) (q : Result Said E)
+    → text ≡ flat.text → s ≡ sentence ts → o ≡ directive_of text s.operation → o ≡ Some d → IsReadAs text s d r → r ≡ Ok (label, l)
+    → IfOk q (λ x. x ≡ Ok (statement_of flat label l)) → IfOk q (λ x. SaysDirective flat ts x)
+said_statement flat ts text s o d r label l (Err f) et es eo ed h e same = tt
+said_statement flat ts text s o d r label l (Ok x) et es eo ed h e same =
     let all = said flat ts text s o d r et es eo ed h in
     let found : SaysDirective flat ts (Ok (statement_of flat label l)) = rw e at all in
-    rw same found
+    subst (SaysDirective flat ts) (sym same) found
+
+-- an answer for what was read
+
+told_fault : {E : Type 0} (source : List ℕ) (number : ℕ) (P : Said → Type 0) (s : Result Said E) (f : Fault) → IfOk s P → ToldFault source number (λ x. s ≡ Ok x) f → ToldFault source number P f
+told_fault source number P (Ok s) (Refused r) h k = let x : s ≡ Err k.0 = cc (k.2) in (k.0, k.1, subst P x h)
+told_fault source number P (Err e) (Refused r) h k = absurd (let x = k.2 in cc)
+told_fault source number P s (ReadFault n) h k = k
+told_fault source number P s NoMemory h k = tt
+
+pub told_said : {E : Type 0} (source : List ℕ) (number : ℕ) (P : Said → Type 0) (s : Result Said E) (r : Result (Option Statement) Fault) → IfOk s P → Told source number (λ x. s ≡ Ok x) r
+    → Told source number P r
+told_said source number P (Ok s) (Ok x) h k = let e : s ≡ Ok x = cc in subst P e h
+told_said source number P (Err e) (Ok x) h k = absurd (cc)
+told_said source number P s (Err f) h k = told_fault source number P s f h k
 
 -- one outcome
 one_expression : {A : Type 0} (text : List ℕ) (make : Expr → A) (ts : List Token) (a b : Result A LineKind) → Expression text make ts a → Expression text make ts b → a ≡ b

@@ -1,11 +1,10 @@
-//! What a line says as a directive.
+//! The directive of a line and its operands, as they read.
 
 ghost use Rattle.std.specs.Prelude.{◌≡◌, ◌∷◌, IfOk};
 ghost use Rattle.asm_model.specs.declared.tokens.TokenKind.TheVariants as kind;
 ghost use Rattle.asm_model.specs.Directives as directives;
 ghost use Rattle.asm_model.specs.Forms as forms;
 ghost use Rattle.asm_model.specs.Says as says;
-ghost use Rattle.asm_model.specs.Told.{Told};
 ghost use Rattle.asm_expr.specs.SentenceSteps.{sentence_of, IsReadAs};
 
 use crate::directive_names::directive_named;
@@ -14,10 +13,7 @@ use crate::operands::piece_of;
 use crate::parts::inside;
 use crate::read::expression;
 use crate::readings::{area, bare, boundary, expressions, import, name_alone, register};
-use asm_model::{
-    Directive, DirectiveLine, Flat, LabelNeed, Statement, Token, TokenKind, What, bad_line,
-};
-use sdt_fault::answer::Fault;
+use asm_model::{Directive, DirectiveLine, LabelNeed, Token, TokenKind};
 use sdt_fault::kinds::LineKind;
 use sdt_fault::{NoMemory, Text};
 use std::alloc::Global;
@@ -247,7 +243,7 @@ fn labelled(
 }
 
 /// The label and the directive of a line.
-fn read_directive(
+pub fn read_directive(
     alloc: Global,
     text: &[u8],
     sentence: Sentence<'_>,
@@ -261,43 +257,12 @@ fn read_directive(
 }
 
 /// The directive that an operation names.
-fn directive_of(text: &[u8], operation: Option<Token>) -> Option<Directive>
+pub fn directive_of(text: &[u8], operation: Option<Token>) -> Option<Directive>
     ensures { result ≡ says.directive_of text.now operation }
 {
     match operation {
         None => None,
         Some(token) => directive_named(piece_of(text, token)),
-    }
-}
-
-/// What a line says as a directive, from its tokens; None where it has no operation, or its operation is no
-/// directive. A line with faults is refused, and of several kinds the first in the order of the kinds is told:
-/// Syntax where the tokens have no form, UnknownWord for a word that expansion takes away, and FloatingPoint for
-/// DCFS, DCFD and FN.
-pub fn parse_directive(
-    alloc: Global,
-    line: &Flat,
-    tokens: &[Token],
-) -> Result<Option<Statement>, Fault>
-    ensures { Told line.now.source line.now.number (says.SaysDirective line.now tokens.now) result }
-{
-    let text = line.text.as_slice();
-    let sentence = parts_of(tokens);
-    let Some(directive) = directive_of(text, sentence.operation) else {
-        return Ok(None);
-    };
-    match read_directive(alloc, text, sentence, directive)? {
-        Err(kind) => Err(bad_line(alloc, &line.source, line.number, kind)),
-        Ok((label, said)) => {
-            let source = line.source.try_clone(alloc)?;
-            Ok(Some(Statement {
-                source,
-                number: line.number,
-                label,
-                what: What::Directive(said),
-                is_long: false,
-            }))
-        }
     }
 }
 

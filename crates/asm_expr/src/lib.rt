@@ -1,4 +1,4 @@
-//! Expressions: reading them from tokens, and their values.
+//! Expressions and directives, read from tokens, and the values of expressions.
 #![tactic(auto)]
 
 pub mod areas;
@@ -14,13 +14,14 @@ pub mod parts;
 pub mod read;
 pub mod readings;
 pub mod registers;
+pub mod says;
 pub mod slots;
 pub mod told;
 pub mod value;
 
-pub use crate::directives::parse_directive;
 pub use crate::known::KnownNames;
 pub use crate::names::Seen;
 pub use crate::read::parse_expr;
 pub use crate::registers::register_named;
+pub use crate::says::parse_directive;
 pub use crate::value::evaluate;

@@ -21,6 +21,7 @@ use Rattle.asm_model.specs.declared.directives.DirectiveLine.TheVariants as line
 use Rattle.asm_model.specs.declared.directives.RnOperand.TheVariants as rn
 use Rattle.asm_model.specs.declared.directives.Boundary.TheVariants as limit
 use Rattle.asm_model.specs.declared.statements.Statement.{Statement}
+use Rattle.asm_model.specs.declared.statements.What.{What}
 use Rattle.asm_model.specs.declared.statements.What.TheVariants as what
 use Rattle.asm_model.specs.Areas.{ReadsAttributes, attributes_written}
 use Rattle.asm_model.specs.Directives.{directive_named, label_need}
@@ -227,10 +228,17 @@ unnamed kind.Name = UnknownWord
 unnamed kind.Barred = UnknownWord
 unnamed _ = Syntax
 
+-- what a line says, or the kind that is told of it
+abbrev pub Said : Type 0
+Said = Result (Option Statement) LineKind
+
 -- a statement of the line
+abbrev pub statement : Flat → Option (List ℕ) → What → Option Statement
+statement flat label w = Some (record { source = flat.source; number = flat.number; label = label; what = w; is_long = false })
+
+-- a directive of the line
 abbrev pub statement_of : Flat → Option (List ℕ) → DirectiveLine → Option Statement
-statement_of flat label l =
-    Some (record { source = flat.source; number = flat.number; label = label; what = what.Directive l; is_long = false })
+statement_of flat label l = statement flat label (what.Directive l)
 
 abbrev pub SaysAs : Flat → Sentence → Option Directive → Result (Option Statement) LineKind → Type 0
 SaysAs flat s None r = r ≡ Ok None

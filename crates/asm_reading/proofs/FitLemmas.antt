@@ -18,7 +18,7 @@ use Rattle.source_laws.specs.Laws.{IsOfState, KeepStates}
 use Rattle.asm_locals.specs.Labels.{target}
 use Rattle.asm_locals.specs.Naming.{Targets, named_what, named_behind}
 use Rattle.asm_reading.specs.Laws.{ReadingsAreFit}
-use Rattle.asm_arm.specs.Says.{Said}
+use Rattle.asm_model.specs.Says.{Said}
 use Rattle.asm_reading.specs.Reading.{Say, statements_in}
 use Rattle.asm_reading.proofs.LineLemmas.{lines_are_fine}
 use Rattle.asm_reading.proofs.ReadLemmas.{named_fine, each_gives, all_said}

@@ -1,16 +1,26 @@
 -- What lines say is one thing.
 use Rattle.std.proofs.Common.{◌≡◌, ◌∙◌, List, [], ◌∷◌, length, Bool, true, false, refl, sym, ap, subst}
-use Rattle.asm_arm.specs.Says.{OneArm}
-use Rattle.asm_thumb.specs.Says.{OneThumb}
 use Rattle.asm_model.specs.declared.lines.Flat.{Flat}
+use Rattle.asm_model.specs.Grammar.{OneParse}
+use Rattle.asm_model.specs.Parts.{piece}
+use Rattle.asm_model.specs.Says.{Said, unnamed, OneDirective}
+use Rattle.asm_model.specs.Tokens.{OneScan}
+use Rattle.asm_arm.specs.Words as arm_words
+use Rattle.asm_arm.proofs.LawLemmas as arm_law
+use Rattle.asm_thumb.specs.Words as thumb_words
+use Rattle.asm_thumb.proofs.LawLemmas as thumb_law
 use Rattle.asm_locals.specs.Naming.{in_names}
 use Rattle.asm_reading.specs.Laws.{OneLine, OneReading}
-use Rattle.asm_arm.specs.Says.{Said}
+use Rattle.asm_reading.specs.Says.{ReadsBy}
+use Rattle.asm_reading.proofs.SayingLemmas.{OneOperation, one_saying}
 use Rattle.asm_reading.specs.Reading.{state_after, Say, statements_in, first_unread, read_first}
 
-pub one_line : OneArm → OneThumb → OneLine
-one_line arm thumb true f a b h k = thumb f a b h k
-one_line arm thumb false f a b h k = arm f a b h k
+one_operation : OneParse → (thumb : Bool) → OneOperation (ReadsBy thumb)
+one_operation law true text t ts a b p q = thumb_law.one_reading law text (unnamed t.kind) (thumb_words.operation_named (piece text t)) ts a b p q
+one_operation law false text t ts a b p q = arm_law.one_reading law text (unnamed t.kind) (arm_words.operation_named (piece text t)) ts a b p q
+
+pub one_line : OneParse → OneDirective → OneScan → OneLine
+one_line law directive scan thumb flat a b p q = one_saying (ReadsBy thumb) (one_operation law thumb) directive scan flat a b p q
 
 same_pair : (p q : Flat × Said) → p.0 ≡ q.0 → p.1 ≡ q.1 → p ≡ q
 same_pair p q e f = ap (λ (x : Flat). (x, p.1)) e ∙ ap (λ (y : Said). (q.0, y)) f

@@ -12,6 +12,7 @@ mod ListLemmas
 mod NameLemmas
 mod OperandLemmas
 pub mod ReadLemmas
+pub mod SayingLemmas
 mod ThumbLemmas
 mod ThumbWordLemmas
 mod TokenLemmas

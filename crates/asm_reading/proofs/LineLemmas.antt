@@ -14,16 +14,14 @@ use Rattle.asm_model.specs.declared.statements.What.{What}
 use Rattle.asm_model.specs.declared.statements.What.TheVariants as what
 use Rattle.asm_model.specs.Directives.{label_need}
 use Rattle.asm_model.specs.Parts.{piece}
-use Rattle.asm_model.specs.Says.{on_both, label_field, Sentence, sentence, directive_of, unnamed, statement_of, SaysAs}
+use Rattle.asm_model.specs.Says.{on_both, label_field, Sentence, sentence, directive_of, unnamed, Said, statement, statement_of, SaysAs}
 use Rattle.asm_model.specs.Tokens.{is_long, first_due, Tokens}
-use Rattle.asm_arm.specs.Says.{Said, statement, alone, SaysWords, SaysOr, SaysTokens, measured, SaysLine, ReadsArm}
 use Rattle.asm_arm.specs.Words as arm_words
-use Rattle.asm_thumb.specs.Says.{ReadsThumb}
 use Rattle.asm_thumb.specs.Words as thumb_words
 use Rattle.said_model.specs.Said.{label_names, directive_names}
 use Rattle.said_model.proofs.SharedLemmas.{IsText, IsFine}
 use Rattle.source_laws.specs.Laws.{IsOfState}
-use Rattle.asm_reading.specs.Reading.{SaysBy}
+use Rattle.asm_reading.specs.Says.{alone, SaysWords, SaysOr, SaysTokens, with_long, SaysLine, ReadsArm, ReadsThumb, SaysBy}
 use Rattle.asm_reading.proofs.ArmLemmas.{instruction_said}
 use Rattle.asm_reading.proofs.DirectiveLemmas.{field_text, DirectiveFine, directive_fine}
 use Rattle.asm_reading.proofs.GivesLemmas.{Gives, OptionGives, equal_gives, mapped_gives, both_give}
@@ -119,17 +117,17 @@ tokens_fine state Operation law flat ts r tokens h =
     or_fine state Operation law flat ts h.0 r forms.0 forms.1
     (directive_said state flat (sentence ts) (directive_of flat.text (sentence ts).operation) h.0 forms.0 forms.1 h.1) h.2
 
-measured_fine : (state b : Bool) (s : Said) → SaidFine state s → SaidFine state (measured b s)
-measured_fine state b (Ok (Some s)) h = (record { read = h.0.read; texts = h.0.texts; marks = h.0.marks }, h.1)
-measured_fine state b (Ok None) h = h
-measured_fine state b (Err k) h = h
+with_long_fine : (state b : Bool) (s : Said) → SaidFine state s → SaidFine state (with_long b s)
+with_long_fine state b (Ok (Some s)) h = (record { read = h.0.read; texts = h.0.texts; marks = h.0.marks }, h.1)
+with_long_fine state b (Ok None) h = h
+with_long_fine state b (Err k) h = h
 
 line_fine : (state : Bool) (Operation : List ℕ → Token → List Token → Result What LineKind → Type 0) → OperationIn state Operation
     → (flat : Flat) (r : Said) → SaysLine Operation flat r → SaidFine state r
 line_fine state Operation law flat r (None, tokens, h) = equal_gives (OptionGives (LineFine state)) r (Err Syntax) h tt
 line_fine state Operation law flat r (Some ts, tokens, h) =
-    equal_gives (OptionGives (LineFine state)) r (measured (list_any is_long ts) h.0) h.2
-    (measured_fine state (list_any is_long ts) h.0 (tokens_fine state Operation law flat ts h.0 tokens h.1))
+    equal_gives (OptionGives (LineFine state)) r (with_long (list_any is_long ts) h.0) h.2
+    (with_long_fine state (list_any is_long ts) h.0 (tokens_fine state Operation law flat ts h.0 tokens h.1))
 
 pub lines_are_fine : (state : Bool) (flat : Flat) (s : Statement) → SaysBy state flat (Ok (Some s)) → LineFine state s
 lines_are_fine true flat s h = line_fine true ReadsThumb thumb_in flat (Ok (Some s)) h

@@ -9,8 +9,9 @@ use Rattle.said_model.proofs.SharedLemmas.{IsFine, fine_said}
 use Rattle.asm_reading.proofs.LineLemmas.{lines_are_fine}
 use Rattle.asm_reading.specs.declared.reading.Reading.{Reading}
 use Rattle.asm_reading.specs.declared.reading.Unread.{Unread}
-use Rattle.asm_arm.specs.Says.{Said}
-use Rattle.asm_reading.specs.Reading.{SaysBy, state_after, Say, statement_in, statements_in, unread_in, first_unread, is_unread, read_first, before_behind, Keeps, IsWritten, IsReading}
+use Rattle.asm_model.specs.Says.{Said}
+use Rattle.asm_reading.specs.Says.{SaysBy}
+use Rattle.asm_reading.specs.Reading.{state_after, Say, statement_in, statements_in, unread_in, first_unread, is_unread, read_first, before_behind, Keeps, IsWritten, IsReading}
 use Rattle.asm_locals.specs.Naming.{in_names}
 use Rattle.asm_locals.proofs.KeptLemmas.{statement_fine, all_in_names, as_many}
 use Rattle.std.specs.List.{AllByRecursion}

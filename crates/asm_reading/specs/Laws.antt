@@ -6,13 +6,14 @@ use Rattle.asm_model.specs.declared.lines.Flat.{Flat}
 use Rattle.asm_model.specs.declared.statements.Statement.{Statement}
 use Rattle.asm_model.specs.Laid.{reversed}
 use Rattle.asm_model.specs.PlacedLines.{AllNamed}
+use Rattle.asm_model.specs.Says.{Said}
 use Rattle.said_model.specs.Fit.{AllFit}
 use Rattle.said_model.specs.Named.{AllLoadsNamed}
 use Rattle.said_model.specs.Said.{AllSaid, AllHaveTexts}
 use Rattle.source_laws.specs.Laws.{KeepStates}
 use Rattle.asm_reading.specs.declared.reading.Reading.{Reading}
-use Rattle.asm_arm.specs.Says.{Said}
-use Rattle.asm_reading.specs.Reading.{SaysBy, IsReading}
+use Rattle.asm_reading.specs.Reading.{IsReading}
+use Rattle.asm_reading.specs.Says.{SaysBy}
 
 -- a line, of Thumb or ARM state, says one statement, or has one fault
 abbrev pub OneLine : Type 0

@@ -3,22 +3,17 @@
 -- Guide, chapter on the assembler. This project's: a line that can't be read changes no state.
 use Rattle.std.specs.Prelude.{◌≡◌, ℕ, List, [], ◌∷◌, ◌++◌, length, Bool, true, false, if◌then◌else◌, Option, Some, None, Ok, Err}
 use Rattle.sdt_fault.specs.declared.kinds.LineKind.{LineKind}
-use Rattle.asm_arm.specs.Says.{Said, SaysArm}
-use Rattle.asm_thumb.specs.Says.{SaysThumb}
 use Rattle.asm_locals.specs.Naming.{in_names}
 use Rattle.asm_model.specs.declared.lines.Flat.{Flat}
 use Rattle.asm_model.specs.declared.statements.Statement.{Statement}
 use Rattle.asm_model.specs.Before.{state_behind}
 use Rattle.asm_model.specs.Directives.{or_else}
+use Rattle.asm_model.specs.Says.{Said}
 use Rattle.asm_reading.specs.declared.reading.Reading.{Reading}
 use Rattle.asm_reading.specs.declared.reading.Unread.{Unread}
+use Rattle.asm_reading.specs.Says.{SaysBy}
 
 -- ---- what lines say
-
--- what a line of Thumb state says, or one of ARM state
-abbrev pub SaysBy : Bool → Flat → Said → Type 0
-SaysBy true f r = SaysThumb f r
-SaysBy false f r = SaysArm f r
 
 -- the state of the next line
 abbrev pub state_after : Bool → Said → Bool

@@ -3,5 +3,7 @@
 
 pub mod laws;
 pub mod reading;
+pub mod says;
 
 pub use crate::reading::{Reading, Unread, read_lines};
+pub use crate::says::{parse_arm, parse_thumb};

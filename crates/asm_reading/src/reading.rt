@@ -4,12 +4,13 @@ ghost use Rattle.std.specs.Prelude.{◌≡◌, ◌≤◌, length, IfOk, OnOk};
 ghost use Rattle.asm_locals.specs.Naming.{in_names};
 ghost use Rattle.asm_model.specs.Before as states;
 ghost use Rattle.asm_reading.specs.Reading as reading_of;
+ghost use Rattle.asm_reading.specs.Says.{SaysBy};
 ghost use Rattle.said_model.specs.Said.{AllSaid};
 
-use asm_arm::says::{Said, said_in_arm};
+use crate::says::said_in;
+use asm_expr::says::Said;
 use asm_locals::name_locals;
 use asm_model::{DirectiveLine, Flat, Statement, What};
-use asm_thumb::says::said_in_thumb;
 use sdt_fault::kinds::LineKind;
 use sdt_fault::{NoMemory, Text};
 use std::alloc::Global;
@@ -57,15 +58,12 @@ fn state_after(thumb: bool, said: &Said) -> bool
 
 /// What a line of a state says, or the kind that is told of it. A line of 2^32 bytes counts as want of memory.
 fn read_line(alloc: Global, line: &Flat, thumb: bool) -> Result<Said, NoMemory>
-    ensures { IfOk result (λ said. reading_of.SaysBy thumb line.now said) }
+    ensures { IfOk result (λ said. SaysBy thumb line.now said) }
 {
     if line.text.as_slice().len() > 0xFFFF_FFFF {
         return Err(NoMemory);
     }
-    if thumb {
-        return said_in_thumb(alloc, line);
-    }
-    said_in_arm(alloc, line)
+    said_in(alloc, thumb, line)
 }
 
 fn unread_line(alloc: Global, line: &Flat, kind: LineKind) -> Result<Unread, NoMemory>

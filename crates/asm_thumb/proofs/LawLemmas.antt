@@ -9,8 +9,6 @@ use Rattle.asm_model.specs.declared.tokens.Token.{Token}
 use Rattle.asm_model.specs.declared.statements.What.{What}
 use Rattle.asm_model.specs.Grammar.{OneParse, ParsesTokens}
 use Rattle.asm_model.specs.Operands.{operands}
-use Rattle.asm_model.specs.Parts.{piece}
-use Rattle.asm_model.specs.Says.{unnamed}
 use Rattle.asm_arm.specs.Lines.{hash, equals, bracket, numbered}
 use Rattle.asm_arm.specs.Operands.{Cuts, none, one, two, three, four, more, cut, without_first}
 use Rattle.asm_arm.proofs.LawLemmas.{one_value, one_made}
@@ -21,10 +19,7 @@ use Rattle.asm_thumb.specs.declared.words.Mnemonic.TheVariants as mnemonic
 use Rattle.asm_thumb.specs.Data as forms
 use Rattle.asm_thumb.specs.Lines as lines
 use Rattle.asm_thumb.specs.Frames.{ReadsWith}
-use Rattle.asm_thumb.specs.Says.{ReadsThumb}
-use Rattle.asm_arm.proofs.SayingLemmas.{OneOperation}
 use Rattle.asm_thumb.specs.Transfers as transfers
-use Rattle.asm_thumb.specs.Words.{operation_named}
 
 one_with : OneParse → (text : List ℕ) (f : Result Frame LineKind) (e : List Token) (a b : Result What LineKind) → ReadsWith text f e a → ReadsWith text f e b → a ≡ b
 one_with law text f e a b p q = one_made (ParsesTokens text e) _ (one_value law text e) a b p q
@@ -128,9 +123,6 @@ one_word law text mnemonic.Address ts a b p q = one_address law text (cut (opera
 one_word law text mnemonic.NoOperation ts a b p q = p ∙ sym q
 one_word law text mnemonic.FloatingPoint ts a b p q = p ∙ sym q
 
-one_reading : OneParse → (text : List ℕ) (k : LineKind) (m : Option Mnemonic) (ts : List Token) (a b : Result What LineKind) → lines.Reads text k m ts a → lines.Reads text k m ts b → a ≡ b
+pub one_reading : OneParse → (text : List ℕ) (k : LineKind) (m : Option Mnemonic) (ts : List Token) (a b : Result What LineKind) → lines.Reads text k m ts a → lines.Reads text k m ts b → a ≡ b
 one_reading law text k None ts a b p q = p ∙ sym q
 one_reading law text k (Some m) ts a b p q = one_word law text m ts a b p q
-
-pub one_operation : OneParse → OneOperation ReadsThumb
-one_operation law text t ts a b p q = one_reading law text (unnamed t.kind) (operation_named (piece text t)) ts a b p q

@@ -3,7 +3,6 @@ pub mod Data
 pub mod Frames
 pub mod Lines
 pub mod Operands
-pub mod Says
 pub mod Steps
 pub mod Transfers
 pub mod Words

@@ -1,7 +1,7 @@
--- What a line says, as its tokens and its text have it: nothing for a blank line, a label alone, a directive, or else an
--- instruction or a pseudo-instruction of its state; or the kind of its faults that is told. All faults of a line count,
--- and of several kinds the first in the order of the kinds is told; a statement tells whether a name on its line is beyond the limit.
--- The operands of an operation that nothing names are not read. ARM SDT 2.50 Reference Guide, chapter on the assembler.
+-- What a line of either state says, as its tokens and its text have it: nothing for a blank line, a label alone, a directive, or
+-- else an instruction or a pseudo-instruction of its state; or the kind of its faults that is told. All faults of a line count,
+-- and of several kinds the first in the order of the kinds is told; a statement tells whether a name on its line is beyond the
+-- limit. The operands of an operation that nothing names are not read. ARM SDT 2.50 Reference Guide, chapter on the assembler.
 use Rattle.std.specs.Prelude.{◌≡◌, ℕ, List, Bool, true, false, Option, Some, None, Result, Ok, Err}
 use Rattle.std.specs.List.{list_any}
 use Rattle.sdt_fault.specs.declared.kinds.LineKind.{LineKind}
@@ -9,22 +9,15 @@ use Rattle.sdt_fault.specs.declared.kinds.LineKind.TheVariants.{Syntax}
 use Rattle.asm_model.specs.declared.lines.Flat.{Flat}
 use Rattle.asm_model.specs.declared.tokens.Token.{Token}
 use Rattle.asm_model.specs.declared.directives.LabelNeed.TheVariants as need
-use Rattle.asm_model.specs.declared.statements.Statement.{Statement}
 use Rattle.asm_model.specs.declared.statements.What.{What}
 use Rattle.asm_model.specs.declared.statements.What.TheVariants as what
 use Rattle.asm_model.specs.Parts.{piece}
-use Rattle.asm_model.specs.Says.{on_both, mapped, label_field, Sentence, sentence, unnamed, SaysDirective}
+use Rattle.asm_model.specs.Says.{Said, statement, on_both, mapped, label_field, Sentence, sentence, unnamed, SaysDirective}
 use Rattle.asm_model.specs.Tokens.{is_long, AreTokens}
-use Rattle.asm_arm.specs.Lines.{Reads}
-use Rattle.asm_arm.specs.Words.{operation_named}
-
--- what a line says, or the kind that is told of it
-abbrev pub Said : Type 0
-Said = Result (Option Statement) LineKind
-
--- a statement of the line
-abbrev pub statement : Flat → Option (List ℕ) → What → Option Statement
-statement flat label w = Some (record { source = flat.source; number = flat.number; label = label; what = w; is_long = false })
+use Rattle.asm_arm.specs.Lines as arm_lines
+use Rattle.asm_arm.specs.Words as arm_words
+use Rattle.asm_thumb.specs.Lines as thumb_lines
+use Rattle.asm_thumb.specs.Words as thumb_words
 
 -- a line without an operation: a label alone, or nothing
 abbrev pub alone : Flat → Option Token → Said
@@ -56,13 +49,13 @@ abbrev pub SaysTokens : (List ℕ → Token → List Token → Result What LineK
 SaysTokens Operation flat ts r = (d : Said) × SaysDirective flat ts d × SaysOr Operation flat ts d r
 
 -- the same, where a name among them may be beyond the limit
-abbrev pub measured : Bool → Said → Said
-measured long (Ok (Some s)) = Ok (Some (record s { is_long = long }))
-measured long r = r
+abbrev pub with_long : Bool → Said → Said
+with_long long (Ok (Some s)) = Ok (Some (record s { is_long = long }))
+with_long long r = r
 
 abbrev pub SaysAll : (List ℕ → Token → List Token → Result What LineKind → Type 0) → Flat → Option (List Token) → Said → Type 0
 SaysAll Operation flat None r = r ≡ Err Syntax
-SaysAll Operation flat (Some ts) r = (s : Said) × SaysTokens Operation flat ts s × (r ≡ measured (list_any is_long ts) s)
+SaysAll Operation flat (Some ts) r = (s : Said) × SaysTokens Operation flat ts s × (r ≡ with_long (list_any is_long ts) s)
 
 -- what a line says
 abbrev pub SaysLine : (List ℕ → Token → List Token → Result What LineKind → Type 0) → Flat → Said → Type 0
@@ -72,12 +65,27 @@ SaysLine Operation flat r = (o : Option (List Token)) × AreTokens flat.text o �
 
 -- what an operation and the tokens behind it say
 abbrev pub ReadsArm : List ℕ → Token → List Token → Result What LineKind → Type 0
-ReadsArm text t ts w = Reads text (unnamed t.kind) (operation_named (piece text t)) ts w
+ReadsArm text t ts w = arm_lines.Reads text (unnamed t.kind) (arm_words.operation_named (piece text t)) ts w
 
 -- what a line of ARM state says
 abbrev pub SaysArm : Flat → Said → Type 0
 SaysArm flat r = SaysLine ReadsArm flat r
 
--- a line says one statement, or has one fault
-abbrev pub OneArm : Type 0
-OneArm = (flat : Flat) (a b : Said) → SaysArm flat a → SaysArm flat b → a ≡ b
+-- ---- Thumb state
+
+-- what an operation and the tokens behind it say
+abbrev pub ReadsThumb : List ℕ → Token → List Token → Result What LineKind → Type 0
+ReadsThumb text t ts w = thumb_lines.Reads text (unnamed t.kind) (thumb_words.operation_named (piece text t)) ts w
+
+-- what a line of Thumb state says
+abbrev pub SaysThumb : Flat → Said → Type 0
+SaysThumb flat r = SaysLine ReadsThumb flat r
+
+-- ---- Thumb or ARM state
+
+abbrev pub ReadsBy : Bool → List ℕ → Token → List Token → Result What LineKind → Type 0
+ReadsBy true text t ts w = ReadsThumb text t ts w
+ReadsBy false text t ts w = ReadsArm text t ts w
+
+abbrev pub SaysBy : Bool → Flat → Said → Type 0
+SaysBy thumb flat r = SaysLine (ReadsBy thumb) flat r

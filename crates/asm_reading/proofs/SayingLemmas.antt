@@ -1,49 +1,32 @@
--- What a line says, for both states.
+-- What a line says, in either state.
 use Rattle.std.proofs.Common.{◌≡◌, ℕ, List, sym, ◌∙◌, ap, subst, Option, Some, None}
 use Rattle.std.specs.Prelude.{Result, Ok, Err, IfOk}
 use Rattle.std.specs.List.{list_any}
-use Rattle.sdt_fault.specs.declared.answer.Fault.{Fault}
-use Rattle.sdt_fault.specs.declared.answer.Fault.TheVariants.{Refused, ReadFault, NoMemory}
 use Rattle.sdt_fault.specs.declared.kinds.LineKind.{LineKind}
 use Rattle.asm_model.specs.declared.lines.Flat.{Flat}
 use Rattle.asm_model.specs.declared.tokens.Token.{Token}
-use Rattle.asm_model.specs.declared.statements.Statement.{Statement}
 use Rattle.asm_model.specs.declared.statements.What.{What}
 use Rattle.asm_model.specs.declared.directives.LabelNeed.TheVariants as need
-use Rattle.asm_model.specs.Says.{on_both, mapped, label_field, sentence, OneDirective}
+use Rattle.asm_model.specs.Says.{Said, statement, on_both, mapped, label_field, sentence, OneDirective}
 use Rattle.asm_model.specs.Tokens.{is_long, Tokens, OneScan}
-use Rattle.asm_model.specs.Told.{Told, ToldFault}
-use Rattle.asm_arm.specs.Says.{Said, statement, measured, SaysOperation, SaysWords, SaysOr, SaysTokens, SaysAll, SaysLine}
-use Rattle.asm_arm.specs.Steps.{IsOperationRead}
+use Rattle.asm_arm.specs.Operands.{both}
+use Rattle.asm_reading.specs.Says.{with_long, SaysOperation, SaysWords, SaysOr, SaysTokens, SaysAll, SaysLine}
 use Rattle.asm_expr.proofs.SayingLemmas.{made_of_both}
-
--- ---- an answer for what was read
-
-told_fault : {E : Type 0} (source : List ℕ) (number : ℕ) (P : Said → Type 0) (s : Result Said E) (f : Fault) → IfOk s P → ToldFault source number (λ x. s ≡ Ok x) f → ToldFault source number P f
-told_fault source number P (Ok s) (Refused r) h k = let x : s ≡ Err k.0 = cc (k.2) in (k.0, k.1, subst P x h)
-told_fault source number P (Err e) (Refused r) h k = absurd (let x = k.2 in cc)
-told_fault source number P s (ReadFault n) h k = k
-told_fault source number P s NoMemory h k = tt
-
-pub told_said : {E : Type 0} (source : List ℕ) (number : ℕ) (P : Said → Type 0) (s : Result Said E) (r : Result (Option Statement) Fault) → IfOk s P → Told source number (λ x. s ≡ Ok x) r
-    → Told source number P r
-told_said source number P (Ok s) (Ok x) h k = let e : s ≡ Ok x = cc in subst P e h
-told_said source number P (Err e) (Ok x) h k = absurd (cc)
-told_said source number P s (Err f) h k = told_fault source number P s f h k
 
 -- ---- a line with an operation
 
 pub operation_said : {E : Type 0} (Operation : List ℕ → Token → List Token → Result What LineKind → Type 0) (flat : Flat) (label : Option Token) (t : Token) (ts : List Token)
-    (text : List ℕ) (x : Result (Option (List ℕ) × What) LineKind) (q : Result Said E) → text ≡ flat.text → IsOperationRead Operation text label t ts x
+    (text : List ℕ) (l : Result (Option (List ℕ)) LineKind) (w : Result What LineKind) (x : Result (Option (List ℕ) × What) LineKind) (q : Result Said E)
+    → text ≡ flat.text → l ≡ label_field need.Optional text label → Operation text t ts w → x ≡ both l w
     → IfOk q (λ r. r ≡ mapped (λ p. statement flat p.0 p.1) x) → IfOk q (λ r. SaysOperation Operation flat label t ts r)
-operation_said Operation flat label t ts text x (Err f) e h k = tt
-operation_said Operation flat label t ts text x (Ok r) e h k =
-    let read : IsOperationRead Operation flat.text label t ts x = subst (λ z. IsOperationRead Operation z label t ts x) e h in (
-      read.0,
-      read.1,
-      k ∙ ap (mapped (λ p. statement flat p.0 p.1)) read.2
-          ∙ made_of_both (λ p. statement flat p.0 p.1) (λ x y. (x, y)) (label_field need.Optional flat.text label) read.0,
-    )
+operation_said Operation flat label t ts text l w x (Err f) e le h b k = tt
+operation_said Operation flat label t ts text l w x (Ok r) e le h b k = (
+  w,
+  subst (λ z. Operation z t ts w) e h,
+  k ∙ ap (mapped (λ p. statement flat p.0 p.1)) b
+      ∙ made_of_both (λ p. statement flat p.0 p.1) (λ x y. (x, y)) l w
+      ∙ ap (λ z. on_both (statement flat) z w) (le ∙ ap (λ z. label_field need.Optional z label) e),
+)
 
 -- ---- a line says one thing
 
@@ -70,20 +53,20 @@ one_of_tokens Operation law directive flat ts a b p q =
 one_all : (Operation : List ℕ → Token → List Token → Result What LineKind → Type 0) → OneOperation Operation → OneDirective → (flat : Flat) (o : Option (List Token)) (a b : Said)
     → SaysAll Operation flat o a → SaysAll Operation flat o b → a ≡ b
 one_all Operation law directive flat None a b p q = p ∙ sym q
-one_all Operation law directive flat (Some ts) a b p q = p.2 ∙ ap (measured _) (one_of_tokens Operation law directive flat ts p.0 q.0 p.1 q.1) ∙ sym q.2
+one_all Operation law directive flat (Some ts) a b p q = p.2 ∙ ap (with_long _) (one_of_tokens Operation law directive flat ts p.0 q.0 p.1 q.1) ∙ sym q.2
 
-pub one_line : (Operation : List ℕ → Token → List Token → Result What LineKind → Type 0) → OneOperation Operation → OneDirective → OneScan → (flat : Flat) (a b : Said)
+pub one_saying : (Operation : List ℕ → Token → List Token → Result What LineKind → Type 0) → OneOperation Operation → OneDirective → OneScan → (flat : Flat) (a b : Said)
     → SaysLine Operation flat a → SaysLine Operation flat b → a ≡ b
-one_line Operation law directive scan flat a b p q =
+one_saying Operation law directive scan flat a b p q =
     one_all Operation law directive flat p.0 a b p.2 (subst (λ o. SaysAll Operation flat o b) (sym (scan flat.text p.0 q.0 p.1 q.1)) q.2)
 
 -- ---- a line
 
 pub line_said : (Operation : List ℕ → Token → List Token → Result What LineKind → Type 0) (flat : Flat) (text : List ℕ) (ts us vs : List Token) (s r : Said)
-    → text ≡ flat.text → Tokens text ts → us ≡ ts → vs ≡ ts → SaysTokens Operation flat us s → r ≡ measured (list_any is_long vs) s
+    → text ≡ flat.text → Tokens text ts → us ≡ ts → vs ≡ ts → SaysTokens Operation flat us s → r ≡ with_long (list_any is_long vs) s
     → SaysLine Operation flat r
 line_said Operation flat text ts us vs s r e t u v h k = (
   Some ts,
   subst (λ x. Tokens x ts) e t,
-  (s, subst (λ x. SaysTokens Operation flat x s) u h, k ∙ ap (λ x. measured (list_any is_long x) s) v),
+  (s, subst (λ x. SaysTokens Operation flat x s) u h, k ∙ ap (λ x. with_long (list_any is_long x) s) v),
 )

@@ -1,0 +1,8 @@
+use Rattle.asm_expr.proofs.SayingLemmas.{told_said}
+use Rattle.asm_reading.specs.Says.{SaysArm}
+use Rattle.asm_reading.proofs.says.parse_arm.Goals as goal
+
+pub returns : goal.returns
+returns c =
+    let line = c.args.line.now in
+    told_said line.source line.number (SaysArm line) c.said_in-said.result c.told.result c.said_in-said.ensures c.told.ensures

@@ -1,0 +1,154 @@
+//! What a line says in its state: nothing, a label alone, a directive, or an instruction or a pseudo-instruction.
+
+ghost use Rattle.std.specs.Prelude.{◌≡◌, ◌<◌, ◌^◌, IfOk, length};
+ghost use Rattle.std.specs.List.{list_any};
+ghost use Rattle.asm_expr.specs.SentenceSteps.{sentence_of};
+ghost use Rattle.asm_model.specs.Told.{Told};
+ghost use Rattle.asm_model.specs.Tokens.{is_long};
+ghost use Rattle.asm_reading.specs.Says as says;
+
+use asm_arm::operands::both;
+use asm_arm::{lines as arm_lines, words as arm_words};
+use asm_expr::directives::{Sentence, label_field, parts_of};
+use asm_expr::operands::piece_of;
+use asm_expr::says::{Said, said_directive, statement, told};
+use asm_lines::scan::{has_long, scan};
+use asm_model::{Flat, LabelNeed, Statement, Token, What};
+use asm_thumb::{lines as thumb_lines, words as thumb_words};
+use sdt_fault::NoMemory;
+use sdt_fault::answer::Fault;
+use sdt_fault::kinds::LineKind;
+use std::alloc::Global;
+
+/// A line without an operation.
+fn alone(alloc: Global, line: &Flat, label: Option<Token>) -> Result<Said, NoMemory>
+    ensures { IfOk result (λ said. said ≡ says.alone line.now label) }
+{
+    let Some(label) = label else {
+        return Ok(Ok(None));
+    };
+    match label_field(
+        alloc,
+        LabelNeed::Optional,
+        line.text.as_slice(),
+        Some(label),
+    )? {
+        Ok(label) => statement(alloc, line, Ok((label, What::Nothing))),
+        Err(kind) => Ok(Err(kind)),
+    }
+}
+
+/// What an operation and the tokens behind it say in a state.
+fn read_operation(
+    alloc: Global,
+    thumb: bool,
+    text: &[u8],
+    operation: Token,
+    tokens: &[Token],
+) -> Result<Result<What, LineKind>, NoMemory>
+    ensures { IfOk result (λ said. says.ReadsBy thumb text.now operation tokens.now said) }
+{
+    let fault = arm_lines::unnamed(operation.kind);
+    let piece = piece_of(text, operation);
+    if thumb {
+        let word = thumb_words::operation_named(piece);
+        return thumb_lines::instruction(alloc, text, fault, word, tokens);
+    }
+    let word = arm_words::operation_named(piece);
+    arm_lines::instruction(alloc, text, fault, word, tokens)
+}
+
+/// A line with an operation.
+fn with_operation(
+    alloc: Global,
+    thumb: bool,
+    line: &Flat,
+    label: Option<Token>,
+    operation: Token,
+    tokens: &[Token],
+) -> Result<Said, NoMemory>
+    ensures { IfOk result (λ said.
+        says.SaysOperation (says.ReadsBy thumb) line.now label operation tokens.now said) }
+{
+    let text = line.text.as_slice();
+    let label = label_field(alloc, LabelNeed::Optional, text, label)?;
+    let what = read_operation(alloc, thumb, text, operation, tokens)?;
+    statement(alloc, line, both(label, what))
+}
+
+/// What a line without a directive says.
+fn words(alloc: Global, thumb: bool, line: &Flat, sentence: Sentence<'_>) -> Result<Said, NoMemory>
+    ensures { IfOk result (λ said.
+        says.SaysInstruction (says.ReadsBy thumb) line.now (sentence_of sentence.entry) said) }
+{
+    match sentence.operation {
+        Some(operation) => {
+            let behind = sentence.behind;
+            with_operation(alloc, thumb, line, sentence.label, operation, behind)
+        }
+        None => alone(alloc, line, sentence.label),
+    }
+}
+
+/// What the tokens of a line say.
+fn said_by(alloc: Global, thumb: bool, line: &Flat, tokens: &[Token]) -> Result<Said, NoMemory>
+    ensures { IfOk result
+        (λ said. says.SaysTokens (says.ReadsBy thumb) line.now tokens.now said) }
+{
+    match said_directive(alloc, line, tokens)? {
+        Ok(None) => words(alloc, thumb, line, parts_of(tokens)),
+        said => Ok(said),
+    }
+}
+
+/// What a line says whose tokens say so, where a name among them may be beyond the limit.
+fn with_long(tokens: &[Token], said: Said) -> Said
+    ensures { result ≡ says.with_long (list_any is_long tokens.now) said }
+{
+    match said {
+        Ok(Some(statement)) => Ok(Some(Statement {
+            is_long: has_long(tokens),
+            ..statement
+        })),
+        Ok(None) => Ok(None),
+        Err(kind) => Err(kind),
+    }
+}
+
+/// What a line of Thumb state says, or one of ARM state.
+pub fn said_in(alloc: Global, thumb: bool, line: &Flat) -> Result<Said, NoMemory>
+    requires { length line.now.text < 2 ^ 32 }
+    ensures { IfOk result (λ said. says.SaysBy thumb line.now said) }
+{
+    let Some(tokens) = scan(alloc, line.text.as_slice())? else {
+        return Ok(Err(LineKind::Syntax));
+    };
+    let said = said_by(alloc, thumb, line, tokens.as_slice())?;
+    Ok(with_long(tokens.as_slice(), said))
+}
+
+/// What a line of ARM state says; None exactly for a blank line. A line with faults is refused, and of several kinds
+/// the first in the order of the kinds is told: Syntax where the line has no tokens, its tokens have no form or its
+/// operation is no word, UnknownWord for an operation word that nothing names, FloatingPoint for a word of the FPA; and
+/// the faults of directives. Registers, the values of expressions, words that a form doesn't have and names beyond the
+/// limit are judged elsewhere.
+pub fn parse_arm(alloc: Global, line: &Flat) -> Result<Option<Statement>, Fault>
+    requires { length line.now.text < 2 ^ 32 }
+    ensures { Told line.now.source line.now.number (says.SaysArm line.now) result }
+{
+    let said = said_in(alloc, false, line);
+    told(alloc, line, said)
+}
+
+/// What a line of Thumb state says; None exactly for a blank line. A line with faults is refused, and of several kinds
+/// the first in the order of the kinds is told: Syntax where the line has no tokens, its tokens have no form or its
+/// operation is no word, UnknownWord for an operation word that nothing names in this state, FloatingPoint for a word
+/// of the FPA; and the faults of directives. Registers, the values of expressions, words that a form doesn't have and names
+/// beyond the limit are judged elsewhere.
+pub fn parse_thumb(alloc: Global, line: &Flat) -> Result<Option<Statement>, Fault>
+    requires { length line.now.text < 2 ^ 32 }
+    ensures { Told line.now.source line.now.number (says.SaysThumb line.now) result }
+{
+    let said = said_in(alloc, true, line);
+    told(alloc, line, said)
+}

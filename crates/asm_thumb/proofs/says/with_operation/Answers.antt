@@ -1,8 +1,0 @@
-use Rattle.asm_arm.proofs.SayingLemmas.{operation_said}
-use Rattle.asm_thumb.specs.Says.{ReadsThumb}
-use Rattle.asm_thumb.proofs.says.with_operation.Goals as goal
-
-pub returns : goal.returns
-returns c =
-    operation_said ReadsThumb c.args.line.now c.args.label c.args.operation c.args.tokens.now c.as_slice.result.now c.in_ok-read.read c.statement.result
-    c.as_slice.ensures c.in_ok-read.ensures c.statement.ensures
