@@ -14,7 +14,7 @@ use Rattle.asm_layout.specs.declared.walking.Walk.{Walk}
 use Rattle.asm_layout.specs.Front.{front_laid, front_lines}
 use Rattle.asm_layout.specs.Layout.{IsTold}
 use Rattle.asm_layout.specs.Outline.{IsOutline}
-use Rattle.asm_layout.specs.Walking.{IsOutlined, IsWalking, IsAlong, IsWalked, IsFrontWalked, StepsOn, told_by}
+use Rattle.asm_layout.specs.Walking.{IsWalking, IsAlong, IsWalked, IsFrontWalked, StepsOn, told_by}
 use Rattle.asm_layout.proofs.WalkLemmas.{reversed_joined, reversed_long, is_outlined, first_stays, told_moves}
 
 -- ---- lines that are left out

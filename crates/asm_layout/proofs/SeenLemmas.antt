@@ -1,24 +1,15 @@
 -- The names that a line knows are among those that its source declares.
-use Rattle.std.proofs.Common.{◌≡◌, ℕ, List, [], ◌∷◌, ◌++◌, Bool, false, cond, Option, Some, None, refl, ap, ◌∙◌}
+use Rattle.std.proofs.Common.{◌≡◌, ℕ, List, [], ◌∷◌, ◌++◌, false, Option, Some, None, refl, ap, ◌∙◌}
 use Rattle.std.specs.Option.{is_some}
-use Rattle.std.specs.Prelude.{Result, Err}
-use Rattle.sdt_fault.specs.declared.kinds.LineKind.{LineKind}
-use Rattle.sdt_fault.specs.declared.kinds.LineKind.TheVariants.{Forward}
 use Rattle.asm_model.specs.declared.names.LaidName.{LaidName}
-use Rattle.asm_model.specs.declared.names.Names.{Names}
 use Rattle.asm_model.specs.declared.statements.Statement.{Statement}
-use Rattle.asm_model.specs.declared.values.Value.{Value}
 use Rattle.asm_model.specs.AtLine.{SourceLine, Definition, Nameless, Named, Equated, own_names, with_names, names_at, added_names, seen_behind}
-use Rattle.asm_model.specs.Before.{is_thumb_label}
 use Rattle.asm_model.specs.Directives.{or_else}
-use Rattle.asm_model.specs.Entries.{equal_entry, label_entry, imported_entry, field_entry, register_entry, later_entry}
+use Rattle.asm_model.specs.Entries.{imported_entry, later_entry}
 use Rattle.asm_model.specs.Forms.{same}
-use Rattle.asm_model.specs.Grammar.{Tree}
-use Rattle.asm_model.specs.Labels.{Defined, Unnamed, Label, Equal, MapField, RegisterName, defined_by, imported_in, declared_entries, declared_imports, declared_names}
-use Rattle.asm_model.specs.Laid.{LaidLine, lines_of, tree_equated, definition_of, definition_behind, line_behind, imported_lines, names_behind, laid_behind, laid_of, entries_with, reversed}
-use Rattle.asm_model.specs.Meaning.{named_in, meaning}
-use Rattle.asm_model.specs.Trees.{tree_of}
-use Rattle.layout_laws.proofs.EqualLemmas.{equal_made}
+use Rattle.asm_model.specs.Labels.{defined_by, imported_in, declared_entries, declared_imports, declared_names}
+use Rattle.asm_model.specs.Laid.{LaidLine, lines_of, definition_behind, line_behind, imported_lines, names_behind, laid_behind, laid_of, entries_with, reversed}
+use Rattle.asm_model.specs.Meaning.{named_in}
 use Rattle.layout_laws.proofs.NamedLemmas.{cond_none, none_joined, none_parts, own_undeclared}
 use Rattle.layout_laws.proofs.RoundLemmas.{named_joined}
 

@@ -18,7 +18,6 @@ use Rattle.asm_model.specs.declared.statements.What.{What}
 use Rattle.asm_model.specs.declared.statements.What.TheVariants as what
 use Rattle.asm_model.specs.FaultSets.{first_told}
 use Rattle.asm_model.specs.Kinds.{told_kind, kind_if}
-use Rattle.asm_model.proofs.FaultLemmas.{told_by_parts}
 use Rattle.asm_model.specs.Labels.{Defined, Unnamed, Label, Equal, MapField, RegisterName, defined_by}
 use Rattle.asm_model.specs.Laid.{LaidLine, laid_behind, statements_of}
 use Rattle.asm_model.specs.LayoutKinds.{exponent, exponent_kinds, area_kinds, no_area_kinds, contents_kinds, contents_behind, name_kinds, settled_kinds, state_kinds, in_thumb_area, is_named_otherwise, names_behind, first_equal, told_at}
@@ -41,8 +40,9 @@ use Rattle.asm_layout.specs.declared.walking.Judged.{Judged}
 use Rattle.asm_layout.specs.declared.walking.Walk.{Walk}
 use Rattle.asm_layout.specs.Layout.{IsTold}
 use Rattle.asm_layout.specs.Outline.{circle_of}
-use Rattle.asm_layout.specs.Walking.{IsMark, HasMark, IsCounted, one_more, or_false, IsWalking, IsJudged, Keeps, laid_as, told_by}
-use Rattle.asm_layout.proofs.ToldLemmas.{none_first, none_second, none_parts, told_parts}
+use Rattle.asm_layout.specs.declared.outline.Outline.{Outline}
+use Rattle.asm_layout.specs.Walking.{IsMark, HasMark, IsCounted, one_more, or_false, IsWalking, IsJudged, Judges, Keeps, KeepsOrTells, StepsOn, laid_as, told_by}
+use Rattle.asm_layout.proofs.ToldLemmas.{none_first, none_parts, told_parts}
 
 -- ---- the number that checks ask for
 
@@ -177,3 +177,10 @@ keep_line d names settled all s before old mid new j p w h none laid k =
       counted = k.equals ∙ h.counted;
       none = rw w.none (ap (told_at s) untold);
     }
+
+-- ---- a line is judged, and kept or told
+
+pub steps_on : (o : Outline) (s t : Statement) (old mid new : Walk) (j : Judged) (r : Result (Unit {0}) Fault) → t ≡ s → Judges o s old mid j → KeepsOrTells t j mid new r
+    → StepsOn o s old new r
+steps_on o s t old mid new j r e h k = λ names settled all before states w m.
+    subst (λ (x : Statement). KeepsOrTells x j mid new r) e k o.names names settled all old before w (h names settled all before states w m)

@@ -11,7 +11,7 @@ use Rattle.layout_laws.proofs.SoundLemmas.{statements_kept}
 use Rattle.asm_model.specs.Labels.{defined_by, declared_names}
 use Rattle.asm_model.specs.Meaning.{named_in}
 use Rattle.asm_model.specs.declared.names.LaidName.{LaidName}
-use Rattle.asm_model.specs.Laid.{LaidLine, names_behind, laid_behind, laid_of, reversed}
+use Rattle.asm_model.specs.Laid.{names_behind, laid_behind, laid_of, reversed}
 use Rattle.asm_model.specs.LayoutKinds.{equals_in, settled}
 use Rattle.said_model.specs.Said.{IsSaid, AllSaid}
 use Rattle.source_model.specs.Registers.{register_names}

@@ -1,6 +1,6 @@
 //! The lines of a source, laid and judged one behind the other.
 
-ghost use Rattle.std.specs.Prelude.{◌≡◌, ◌+◌, ◌<◌, [], length, IfOk, OnOk};
+ghost use Rattle.std.specs.Prelude.{◌≡◌, ◌+◌, ◌<◌, [], length, Ok, IfOk, OnOk};
 ghost use Rattle.asm_model.specs.Labels as labels;
 ghost use Rattle.asm_model.specs.Laid.{reversed};
 ghost use Rattle.said_model.specs.Said.{AllSaid, IsSaid};
@@ -91,6 +91,18 @@ fn laid_statement(statement: Statement, placed: Placed) -> LaidStatement
     }
 }
 
+/// A value beside what was done, if that was. It is generic, so that the proof of the exit where memory runs out does
+/// not go through every form of a statement.
+fn held<W: Drop, T>(value: W, done: Result<T, NoMemory>) -> Result<(W, T), NoMemory>
+    ensures value { IfOk result (λ p. p.0 ≡ value) }
+    ensures done { IfOk result (λ p. done ≡ Ok p.1) }
+{
+    match done {
+        Err(none) => Err(none),
+        Ok(made) => Ok((value, made)),
+    }
+}
+
 impl Walk {
     /// Before the first line.
     fn new(alloc: Global, statements: &[Statement]) -> Result<Walk, NoMemory>
@@ -144,8 +156,10 @@ impl Walk {
     ) -> Result<(), NoMemory>
         ensures { OnOk result (walking.Keeps statement number thumb_area placed self.old self.new) }
     {
-        self.starts
-            .note(&statement.what, placed.place.area, thumb_area, number)?;
+        let noted = self
+            .starts
+            .note(&statement.what, placed.place.area, thumb_area, number);
+        let (statement, _) = held(statement, noted)?;
         self.lines.push(laid_statement(statement, placed))?;
         Ok(())
     }
@@ -177,7 +191,8 @@ impl Walk {
         requires said { IsSaid statement }
         ensures { walking.StepsOn outline.now statement self.old self.new result }
     {
-        let judged = self.judge(outline, &statement)?;
+        let judged = self.judge(outline, &statement);
+        let (statement, judged) = held(statement, judged)?;
         self.keep_or_tell(statement, judged)
     }
 }
