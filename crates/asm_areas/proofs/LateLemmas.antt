@@ -17,8 +17,8 @@ use Rattle.asm_offsets.specs.Finished.{IsLaidOut, IsLaid}
 use Rattle.asm_offsets.specs.Laws.{AllExtents, LiteralsArePlaced}
 use Rattle.asm_offsets.specs.Running.{entry_behind, entry_in, pools_behind, HasNone}
 use Rattle.asm_pool.specs.Pooled.{noted, flushed, place_of}
-use Rattle.asm_areas.specs.declared.late.Stand.{Stand}
-use Rattle.asm_areas.specs.Late.{AreWhole, IsStand, size_in, ends_before, is_wrong_entry, is_far}
+use Rattle.asm_areas.specs.declared.late.Position.{Position}
+use Rattle.asm_areas.specs.Late.{AreWhole, IsPosition, size_in, ends_before, is_wrong_entry, is_far}
 use Rattle.asm_areas.proofs.StartLemmas.{self}
 use Rattle.asm_model.proofs.SharedLemmas.{told_of_two}
 
@@ -49,8 +49,8 @@ has_laid all before rest l area None parts at h =
 
 -- ---- an ENTRY
 
-pub entry_is : (all before rest : List LaidLine) (l : LaidLine) (w : What) (x : Stand) (pools : List LaidPools) (area : ℕ)
-    → AreWhole all pools → IsStand all before rest l w x → x.area ≡ Some area
+pub entry_is : (all before rest : List LaidLine) (l : LaidLine) (w : What) (x : Position) (pools : List LaidPools) (area : ℕ)
+    → AreWhole all pools → IsPosition all before rest l w x → x.area ≡ Some area
     → entry_kinds l.area l all ≡ kind_if (is_wrong_entry w area x.offset pools) BadOperand
 entry_is all before rest l w x pools area h i at =
     let here : l.area ≡ Some area = sym i.stands ∙ at in
@@ -60,8 +60,8 @@ entry_is all before rest l w x pools area h i at =
 
 -- ---- a literal
 
-pub literal_is : LiteralsArePlaced → (all before rest : List LaidLine) (l : LaidLine) (w : What) (x : Stand) (pools : List LaidPools) (area : ℕ)
-    → AreWhole all pools → IsStand all before rest l w x → x.area ≡ Some area
+pub literal_is : LiteralsArePlaced → (all before rest : List LaidLine) (l : LaidLine) (w : What) (x : Position) (pools : List LaidPools) (area : ℕ)
+    → AreWhole all pools → IsPosition all before rest l w x → x.area ≡ Some area
     → literal_kinds l.area (taken l.extent) (pieces_of (l ∷ before)) (pieces_of rest) ≡ kind_if (is_far pools area x.literal) TooMany
 literal_is law all before rest l w x pools area h i at =
     let here : l.area ≡ Some area = sym i.stands ∙ at in
@@ -89,9 +89,9 @@ literal_is law all before rest l w x pools area h i at =
 
 -- ---- both
 
-pub late_is : LiteralsArePlaced → (all before rest : List LaidLine) (l : LaidLine) (w : What) (x : Stand) (pools : List LaidPools) (area : ℕ) (a b : Option LineKind)
+pub late_is : LiteralsArePlaced → (all before rest : List LaidLine) (l : LaidLine) (w : What) (x : Position) (pools : List LaidPools) (area : ℕ) (a b : Option LineKind)
     → a ≡ told_kind (kind_if (is_wrong_entry w area x.offset pools) BadOperand) → b ≡ told_kind (kind_if (is_far pools area x.literal) TooMany)
-    → AreWhole all pools → IsStand all before rest l w x → x.area ≡ Some area
+    → AreWhole all pools → IsPosition all before rest l w x → x.area ≡ Some area
     → first_told a b ≡ told_kind (entry_kinds l.area l all ++ literal_kinds l.area (taken l.extent) (pieces_of (l ∷ before)) (pieces_of rest))
 late_is law all before rest l w x pools area a b e f h i at =
     rw (entry_is all before rest l w x pools area h i at, literal_is law all before rest l w x pools area h i at)

@@ -10,7 +10,7 @@ use Rattle.asm_offsets.specs.Finished.{AreLaid}
 use Rattle.asm_offsets.specs.Laws.{AllExtents}
 use Rattle.asm_offsets.specs.Running.{entry_behind}
 use Rattle.asm_pool.specs.Pooled.{place_of}
-use Rattle.asm_areas.specs.declared.late.Stand.{Stand}
+use Rattle.asm_areas.specs.declared.late.Position.{Position}
 
 -- ---- a source and its lines
 
@@ -20,7 +20,7 @@ pub record AreWhole (all : List LaidLine) (pools : List LaidPools) : Type 0 wher
   pub extents : AllExtents (pieces_of all)
 
 -- a line among all, behind those before it
-pub record IsStand (all before rest : List LaidLine) (l : LaidLine) (w : What) (x : Stand) : Type 0 where
+pub record IsPosition (all before rest : List LaidLine) (l : LaidLine) (w : What) (x : Position) : Type 0 where
   pub parts : all ≡ reversed rest (l ∷ before)
   pub said : l.statement.what ≡ w
   pub stands : x.area ≡ l.area

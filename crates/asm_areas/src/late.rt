@@ -16,7 +16,7 @@ const LIMIT: u32 = 0x100_0000;
 
 /// Where a statement stands.
 #[derive(Clone, Copy, Debug)]
-pub struct Stand {
+pub struct Position {
     /// Its area, counted from 0; None before the first.
     pub area: Option<u32>,
     pub offset: u32,
@@ -90,18 +90,18 @@ fn ends_far(word: Option<u32>) -> bool
 }
 
 /// The fault of a line that needs the whole layout, where the areas of the source were laid out so.
-pub fn late_kind(what: &What, stand: Stand, pools: &[LaidPools]) -> Option<LineKind>
+pub fn late_kind(what: &What, position: Position, pools: &[LaidPools]) -> Option<LineKind>
     ensures { (all before rest : List LaidLine) (l : LaidLine) → late.AreWhole all pools.now
-        → late.IsStand all before rest l what.now stand → result
+        → late.IsPosition all before rest l what.now position → result
         ≡ told_kind (layout.entry_kinds l.area l all ++ layout.literal_kinds l.area
         (taken l.extent) (pieces_of (l ∷ before)) (pieces_of rest)) }
 {
     literals_are_placed();
-    match stand.area {
+    match position.area {
         None => None,
         Some(area) => {
-            let entry = is_wrong_entry(what, area, stand.offset, pools);
-            let far = is_far(pools, area, stand.literal);
+            let entry = is_wrong_entry(what, area, position.offset, pools);
+            let far = is_far(pools, area, position.literal);
             first_told(
                 kind_if(entry, LineKind::BadOperand),
                 kind_if(far, LineKind::TooMany),

@@ -5,6 +5,6 @@ mod late;
 mod starts;
 mod states;
 
-pub use crate::late::{Stand, late_kind};
+pub use crate::late::{Position, late_kind};
 pub use crate::starts::{AreaStart, Starts};
 pub use crate::states::States;

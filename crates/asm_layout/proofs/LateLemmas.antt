@@ -1,9 +1,9 @@
--- Lines that are judged once more when the whole layout is known.
+-- Lines that are checked once more when the whole layout is known.
 use Rattle.std.proofs.Common.{◌≡◌, List, [], ◌∷◌, ◌++◌, Option, Some, None, refl, sym, ap, ◌∙◌, subst}
 use Rattle.std.specs.List.{AllZip}
 use Rattle.sdt_fault.specs.declared.answer.Fault.{Fault}
 use Rattle.sdt_fault.specs.declared.kinds.LineKind.{LineKind}
-use Rattle.asm_areas.specs.Late.{IsStand}
+use Rattle.asm_areas.specs.Late.{IsPosition}
 use Rattle.asm_names.specs.Lines.{IsPlace}
 use Rattle.asm_names.specs.declared.lines.Place.{Place}
 use Rattle.asm_names.specs.declared.lines.PlacedLine.{PlacedLine}
@@ -15,7 +15,7 @@ use Rattle.asm_layout.specs.declared.laid.LaidStatement.{LaidStatement}
 use Rattle.asm_model.specs.Laid.{LaidLine, pieces_of, taken, reversed}
 use Rattle.asm_model.specs.LayoutKinds.{entry_kinds, literal_kinds, first_late, told_at}
 use Rattle.asm_layout.specs.Layout.{IsStatement, AreStatements, IsTold}
-use Rattle.asm_layout.specs.Late.{stand_of, AreOn, IsLeft}
+use Rattle.asm_layout.specs.Late.{position_of, AreOn, IsLeft}
 use Rattle.asm_layout.specs.Lines.{IsLineOf}
 
 -- ---- from the first line on
@@ -78,7 +78,7 @@ next_of all x more h = by_rest h.rest h.parts h.lines h.none
           none = none;
         }
 
-pub stands : (all : List LaidLine) (x : LaidStatement) (more : List LaidStatement) (n : Next all x more) → IsStand all n.before n.rest n.l x.statement.what (stand_of x)
+pub stands : (all : List LaidLine) (x : LaidStatement) (more : List LaidStatement) (n : Next all x more) → IsPosition all n.before n.rest n.l x.statement.what (position_of x)
 stands all x more n = record {
   parts = n.parts;
   said = ap (λ (s : Statement). s.what) (sym n.line.statement);

@@ -36,12 +36,12 @@ use Rattle.asm_registers.specs.declared.registers.Registers.{Registers}
 use Rattle.asm_registers.specs.Kept.{AreRegisters}
 use Rattle.asm_model.specs.Forms.{same}
 use Rattle.source_model.specs.Registers.{register_kinds}
-use Rattle.asm_layout.specs.declared.walking.Judged.{Judged}
+use Rattle.asm_layout.specs.declared.walking.CheckedLine.{CheckedLine}
 use Rattle.asm_layout.specs.declared.walking.Walk.{Walk}
 use Rattle.asm_layout.specs.Layout.{IsTold}
 use Rattle.asm_layout.specs.Outline.{circle_of}
 use Rattle.asm_layout.specs.declared.outline.Outline.{Outline}
-use Rattle.asm_layout.specs.Walking.{IsMark, HasMark, IsCounted, one_more, or_false, IsWalking, IsJudged, Judges, Keeps, KeepsOrTells, StepsOn, laid_as, told_by}
+use Rattle.asm_layout.specs.Walking.{IsMark, HasMark, IsCounted, one_more, or_false, IsWalking, IsChecked, ChecksLine, Keeps, KeepsOrTells, StepsOn, laid_as, told_by}
 use Rattle.asm_layout.proofs.ToldLemmas.{none_first, none_parts, told_parts}
 
 -- ---- the number that checks ask for
@@ -122,11 +122,11 @@ count_is settled marks n m (Label name) before h k = h ∙ omega arith
 count_is settled marks n m (MapField name) before h k = h ∙ omega arith
 count_is settled marks n m (RegisterName name r) before h k = h ∙ omega arith
 
--- ---- what is told of a judged line
+-- ---- what is told of a checked line
 
-pub judged_told : (d : List LaidName) (names settled : List (List ℕ)) (all : List Statement) (l : LaidLine) (before : List LaidLine) (old new : Walk) (j : Judged)
-    → IsJudged d names settled all l before old new j → told_by names settled all l before ≡ first_told (told_of l) j.found
-judged_told d names settled all l before old new j h = told_parts names settled all l before ∙ ap (first_told (told_of l)) (sym h.told)
+pub checked_told : (d : List LaidName) (names settled : List (List ℕ)) (all : List Statement) (l : LaidLine) (before : List LaidLine) (old new : Walk) (j : CheckedLine)
+    → IsChecked d names settled all l before old new j → told_by names settled all l before ≡ first_told (told_of l) j.found
+checked_told d names settled all l before old new j h = told_parts names settled all l before ∙ ap (first_told (told_of l)) (sym h.told)
 
 pub err_told : (d : List LaidName) (l : LaidLine) (before : List LaidLine) (state : Laying) (r : Result Placed LineKind) (k : LineKind) → r ≡ Err k → IsPlaced d l before state r
     → told_of l ≡ Some k
@@ -141,8 +141,8 @@ tells s o k f e h = subst (λ (x : Option LineKind). IsTold (told_at s x) f) (sy
 
 -- ---- a line is kept
 
-pub keep_line : (d : List LaidName) (names settled : List (List ℕ)) (all : List Statement) (s : Statement) (before : List LaidLine) (old mid new : Walk) (j : Judged) (p : Placed)
-    → IsWalking d names settled all before old → IsJudged d names settled all (laid_behind d s before) before old mid j → j.found ≡ None
+pub keep_line : (d : List LaidName) (names settled : List (List ℕ)) (all : List Statement) (s : Statement) (before : List LaidLine) (old mid new : Walk) (j : CheckedLine) (p : Placed)
+    → IsWalking d names settled all before old → IsChecked d names settled all (laid_behind d s before) before old mid j → j.found ≡ None
     → IsLaid d (laid_behind d s before) before mid.laying p → Keeps s j.laid.number j.thumb_area p mid new
     → IsWalking d names settled all (laid_behind d s before ∷ before) new
 keep_line d names settled all s before old mid new j p w h none laid k =
@@ -156,7 +156,7 @@ keep_line d names settled all s before old mid new j p w h none laid k =
       state = h.within ∙ ap (λ (o : Option ℕ). in_thumb_area o all) (sym laid.place.area);
       aligned = aligned s.what l before settled all j.laid.number refl (numbers s.what l j.laid.number h.tells.number).exponent_is unchecked;
     } in
-    let untold : told_by names settled all l before ≡ None = judged_told d names settled all l before old mid j h ∙ rw (laid.told, none) refl in
+    let untold : told_by names settled all l before ≡ None = checked_told d names settled all l before old mid j h ∙ rw (laid.told, none) refl in
     record {
       lays = subst (λ (x : Laying). IsLaying d (l ∷ before) x) (sym k.laying) laid.laying;
       checked = subst (λ (x : Checks). IsChecked (l ∷ before) x) (sym k.checks) (h.checked none);
@@ -178,9 +178,9 @@ keep_line d names settled all s before old mid new j p w h none laid k =
       none = rw w.none (ap (told_at s) untold);
     }
 
--- ---- a line is judged, and kept or told
+-- ---- a line is checked, and kept or told
 
-pub steps_on : (o : Outline) (s t : Statement) (old mid new : Walk) (j : Judged) (r : Result (Unit {0}) Fault) → t ≡ s → Judges o s old mid j → KeepsOrTells t j mid new r
+pub steps_on : (o : Outline) (s t : Statement) (old mid new : Walk) (j : CheckedLine) (r : Result (Unit {0}) Fault) → t ≡ s → ChecksLine o s old mid j → KeepsOrTells t j mid new r
     → StepsOn o s old new r
 steps_on o s t old mid new j r e h k = λ names settled all before states w m.
     subst (λ (x : Statement). KeepsOrTells x j mid new r) e k o.names names settled all old before w (h names settled all before states w m)

@@ -2,7 +2,7 @@
 use Rattle.std.specs.Prelude.{◌≡◌, List, [], ◌∷◌, Option, None, Result, Ok, Err}
 use Rattle.sdt_fault.specs.declared.answer.Fault.{Fault}
 use Rattle.sdt_fault.specs.declared.kinds.LineKind.{LineKind}
-use Rattle.asm_areas.specs.declared.late.Stand.{Stand}
+use Rattle.asm_areas.specs.declared.late.Position.{Position}
 use Rattle.asm_model.specs.declared.statements.Statement.{Statement}
 use Rattle.asm_layout.specs.declared.laid.LaidStatement.{LaidStatement}
 use Rattle.asm_model.specs.Laid.{LaidLine, reversed}
@@ -11,8 +11,8 @@ use Rattle.asm_areas.specs.Late.{AreWhole}
 use Rattle.asm_offsets.specs.declared.extents.LaidPools.{LaidPools}
 use Rattle.asm_layout.specs.Layout.{IsStatement, AreStatements, IsTold}
 
-abbrev pub stand_of : LaidStatement → Stand
-stand_of x = record { area = x.place.area; offset = x.place.offset; literal = x.literal }
+abbrev pub position_of : LaidStatement → Position
+position_of x = record { area = x.place.area; offset = x.place.offset; literal = x.literal }
 
 -- no line is told, or the refusal of the one that is
 abbrev pub IsCleared : Option (Statement × LineKind) → Result (Unit {0}) Fault → Type 0

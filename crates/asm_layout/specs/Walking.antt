@@ -1,4 +1,4 @@
--- The lines of a source so far, laid and judged. This project's. Lines are listed with the nearest first.
+-- The lines of a source so far, laid and checked. This project's. Lines are listed with the nearest first.
 use Rattle.std.specs.Prelude.{◌≡◌, ℕ, ◌+◌, List, [], ◌∷◌, ◌++◌, length, slice_get, Bool, false, Option, Some, None, Result, Ok, Err}
 use Rattle.std.specs.Option.{is_some}
 use Rattle.sdt_fault.specs.declared.answer.Fault.{Fault}
@@ -21,7 +21,7 @@ use Rattle.asm_model.specs.LayoutKinds.{layout_kinds, equals_in, settled, in_thu
 use Rattle.source_model.specs.Registers.{register_names, register_kinds}
 use Rattle.source_model.specs.SourceFaults.{first_laid}
 use Rattle.asm_layout.specs.declared.outline.Outline.{Outline}
-use Rattle.asm_layout.specs.declared.walking.Judged.{Judged}
+use Rattle.asm_layout.specs.declared.walking.CheckedLine.{CheckedLine}
 use Rattle.asm_layout.specs.declared.walking.Walk.{Walk}
 use Rattle.asm_layout.specs.Front.{front_lines, front_laid}
 use Rattle.asm_layout.specs.Layout.{AreStatements, IsTold}
@@ -80,7 +80,7 @@ Begins statements w =
 -- ---- a line more
 
 -- what is known of a line before it is kept
-pub record IsJudged (d : List LaidName) (names settled : List (List ℕ)) (all : List Statement) (l : LaidLine) (before : List LaidLine) (old new : Walk) (j : Judged) : Type 0 where
+pub record IsChecked (d : List LaidName) (names settled : List (List ℕ)) (all : List Statement) (l : LaidLine) (before : List LaidLine) (old new : Walk) (j : CheckedLine) : Type 0 where
   pub tells : Tells d l before new.laying j.laid
   pub told : j.found ≡ first_told (told_kind (checked_kinds settled all l before)) (told_kind (register_kinds names l before))
   pub checked : j.found ≡ None → IsChecked (l ∷ before) new.checks
@@ -90,12 +90,12 @@ pub record IsJudged (d : List LaidName) (names settled : List (List ℕ)) (all :
   pub kept : new.lines ≡ old.lines
   pub counted : new.equals ≡ length (circles_in settled (statements_of (l ∷ before)))
 
--- a statement is judged behind lines
-abbrev pub Judges : Outline → Statement → Walk → Walk → Judged → Type 0
-Judges o s old new j =
+-- a statement is checked behind lines
+abbrev pub ChecksLine : Outline → Statement → Walk → Walk → CheckedLine → Type 0
+ChecksLine o s old new j =
     (names settled : List (List ℕ)) (all : List Statement) (before : List LaidLine) → AreStates all o.states
     → IsWalking o.names names settled all before old → IsOutlined o.names settled o.circular.items s before
-    → IsJudged o.names names settled all (laid_behind o.names s before) before old new j
+    → IsChecked o.names names settled all (laid_behind o.names s before) before old new j
 
 abbrev pub laid_as : Statement → Placed → LaidStatement
 laid_as s p = record {
@@ -123,14 +123,14 @@ abbrev pub Steps : List LaidName → List (List ℕ) → List (List ℕ) → Lis
 Steps d names settled all l before new (Ok u) = IsWalking d names settled all (l ∷ before) new
 Steps d names settled all l before new (Err f) = IsTold (told_at l.statement (told_by names settled all l before)) f
 
--- a judged statement is kept, or its fault is told
-abbrev pub KeepsOrTells : Statement → Judged → Walk → Walk → Result (Unit {0}) Fault → Type 0
+-- a checked statement is kept, or its fault is told
+abbrev pub KeepsOrTells : Statement → CheckedLine → Walk → Walk → Result (Unit {0}) Fault → Type 0
 KeepsOrTells s j old new r =
     (d : List LaidName) (names settled : List (List ℕ)) (all : List Statement) (first : Walk) (before : List LaidLine)
-    → IsWalking d names settled all before first → IsJudged d names settled all (laid_behind d s before) before first old j
+    → IsWalking d names settled all before first → IsChecked d names settled all (laid_behind d s before) before first old j
     → Steps d names settled all (laid_behind d s before) before new r
 
--- a statement is judged behind lines, and kept or told
+-- a statement is checked behind lines, and kept or told
 abbrev pub StepsOn : Outline → Statement → Walk → Walk → Result (Unit {0}) Fault → Type 0
 StepsOn o s old new r =
     (names settled : List (List ℕ)) (all : List Statement) (before : List LaidLine) → AreStates all o.states

@@ -5,15 +5,15 @@ ghost use Rattle.asm_layout.specs.Late as late;
 
 use crate::laid::LaidStatement;
 use crate::telling::told_of;
-use asm_areas::{Stand, late_kind};
+use asm_areas::{Position, late_kind};
 use asm_offsets::LaidPools;
 use sdt_fault::answer::Fault;
 use std::alloc::Global;
 
-fn stand_of(laid: &LaidStatement) -> Stand
-    ensures { result ≡ late.stand_of laid.now }
+fn position_of(laid: &LaidStatement) -> Position
+    ensures { result ≡ late.position_of laid.now }
 {
-    Stand {
+    Position {
         area: laid.place.area,
         offset: laid.place.offset,
         literal: laid.literal,
@@ -29,7 +29,7 @@ pub fn cleared(alloc: Global, laid: &[LaidStatement], pools: &[LaidPools]) -> Re
         match left {
             [] => return Ok(()),
             [line, rest @ ..] => {
-                if let Some(kind) = late_kind(&line.statement.what, stand_of(line), pools) {
+                if let Some(kind) = late_kind(&line.statement.what, position_of(line), pools) {
                     return Err(told_of(alloc, &line.statement, kind));
                 }
                 left = rest;

@@ -15,7 +15,7 @@ use sdt_fault::answer::Fault;
 use std::alloc::Global;
 
 /// Lays out statements in the order of their source. A refusal is BadLine at the first line with a fault, of those that need
-/// no values. That a source has no AREA is judged elsewhere; statements without one, each of which may stand before the
+/// no values. That a source has no AREA is checked elsewhere; statements without one, each of which may stand before the
 /// first, give a layout without areas.
 pub fn lay_out(alloc: Global, statements: Vec<Statement>) -> Result<Layout, Fault>
     requires few { length statements.items < most_statements + 1 }

@@ -1,4 +1,4 @@
-//! The lines of a source, laid and judged one behind the other.
+//! The lines of a source, laid and checked one behind the other.
 
 ghost use Rattle.std.specs.Prelude.{◌≡◌, ◌+◌, ◌<◌, [], length, Ok, IfOk, OnOk};
 ghost use Rattle.asm_model.specs.Labels as labels;
@@ -43,7 +43,7 @@ pub struct Walk {
 
 /// What is known of a line before it is kept.
 #[derive(Debug, Drop)]
-struct Judged {
+struct CheckedLine {
     laid: Laid,
     /// Whether its area is one of Thumb code.
     thumb_area: bool,
@@ -120,10 +120,14 @@ impl Walk {
     }
 
     /// What is told of a line more.
-    fn judge(&mut self, outline: &Outline, statement: &Statement) -> Result<Judged, NoMemory>
+    fn check_line(
+        &mut self,
+        outline: &Outline,
+        statement: &Statement,
+    ) -> Result<CheckedLine, NoMemory>
         requires may { laying.MayLay outline.now.names self.old.laying }
         requires said { IsSaid statement.now }
-        ensures { IfOk result (λ j. walking.Judges outline.now statement.now self.old self.new j) }
+        ensures { IfOk result (λ j. walking.ChecksLine outline.now statement.now self.old self.new j) }
     {
         let laid = self.laying.lay(self.alloc, &outline.names, statement)?;
         let circular = take_mark(&mut self.equals, outline.circular.as_slice(), statement);
@@ -139,7 +143,7 @@ impl Walk {
         let named = self
             .registers
             .check(statement, laid.thumb, laid.number, &outline.names)?;
-        Ok(Judged {
+        Ok(CheckedLine {
             laid,
             thumb_area,
             found: first_told(checked, named),
@@ -165,14 +169,14 @@ impl Walk {
     }
 
     /// Keeps a line, or tells its fault.
-    fn keep_or_tell(&mut self, statement: Statement, judged: Judged) -> Result<(), Fault>
-        ensures { walking.KeepsOrTells statement judged self.old self.new result }
+    fn keep_or_tell(&mut self, statement: Statement, checked: CheckedLine) -> Result<(), Fault>
+        ensures { walking.KeepsOrTells statement checked self.old self.new result }
     {
-        let Judged {
+        let CheckedLine {
             laid,
             thumb_area,
             found,
-        } = judged;
+        } = checked;
         let Laid { number, placed, .. } = laid;
         match (placed, found) {
             (Err(kind), None) => Err(told(statement, kind)),
@@ -191,9 +195,9 @@ impl Walk {
         requires said { IsSaid statement }
         ensures { walking.StepsOn outline.now statement self.old self.new result }
     {
-        let judged = self.judge(outline, &statement);
-        let (statement, judged) = held(statement, judged)?;
-        self.keep_or_tell(statement, judged)
+        let checked = self.check_line(outline, &statement);
+        let (statement, checked) = held(statement, checked)?;
+        self.keep_or_tell(statement, checked)
     }
 }
 

@@ -7,6 +7,6 @@ use Rattle.asm_areas.proofs.late.late_kind.Goals as goal
 pub returns-in-Some : goal.returns-in-Some
 returns-in-Some c = λ all before rest l h i.
     c.first_told.ensures
-    ∙ late_is c.literals_are_placed.ensures all before rest l c.args.what.now c.args.stand c.args.pools.now c.in-Some.area c.kind_if.result c.kind_if-in-Some.result
+    ∙ late_is c.literals_are_placed.ensures all before rest l c.args.what.now c.args.position c.args.pools.now c.in-Some.area c.kind_if.result c.kind_if-in-Some.result
     (c.kind_if.ensures ∙ ap (λ b. told_kind (kind_if b BadOperand)) c.is_wrong_entry-entry.ensures)
     (c.kind_if-in-Some.ensures ∙ ap (λ b. told_kind (kind_if b TooMany)) c.is_far-far.ensures) h i c.in-Some.is

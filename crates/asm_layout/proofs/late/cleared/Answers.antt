@@ -21,11 +21,11 @@ returns-in-Some c = λ all w h.
     let more = take (length c.lines.left.now - 1) (drop 1 c.lines.left.now) in
     let n = next_of all x more (subst (λ (xs : List LaidStatement). IsLeft all xs) (rest_of c.lines.left.now x c.in-len1-up.len_at_least c.line-item.is) (c.lines.invariant all w h)) in
     told_here all x more n c.in-Some.kind c.told_of.result
-    (sym c.in-Some.is ∙ c.late_kind.ensures all n.before n.rest n.l w (rw c.stand_of.ensures (stands all x more n))) c.told_of.ensures
+    (sym c.in-Some.is ∙ c.late_kind.ensures all n.before n.rest n.l w (rw c.position_of.ensures (stands all x more n))) c.told_of.ensures
 
 pub lines-preserved : goal.lines-preserved
 lines-preserved c = λ all w h.
     let x = c.line-item.result in
     let more = take (length c.lines.left.now - 1) (drop 1 c.lines.left.now) in
     let n = next_of all x more (subst (λ (xs : List LaidStatement). IsLeft all xs) (rest_of c.lines.left.now x c.in-len1-up.len_at_least c.line-item.is) (c.lines.invariant all w h)) in
-    none_here all x more n (sym c.in_default.is ∙ c.late_kind.ensures all n.before n.rest n.l w (rw c.stand_of.ensures (stands all x more n)))
+    none_here all x more n (sym c.in_default.is ∙ c.late_kind.ensures all n.before n.rest n.l w (rw c.position_of.ensures (stands all x more n)))

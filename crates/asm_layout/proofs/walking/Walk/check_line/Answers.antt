@@ -9,7 +9,7 @@ use Rattle.asm_layout.specs.Outline.{circle_of, circles_in}
 use Rattle.asm_layout.specs.Walking.{HasMark}
 use Rattle.asm_layout.proofs.StepLemmas.{numbers, mark_is, count_is}
 use Rattle.asm_layout.proofs.ToldLemmas.{none_first, none_second}
-use Rattle.asm_layout.proofs.walking.Walk.judge.Goals as goal
+use Rattle.asm_layout.proofs.walking.Walk.check_line.Goals as goal
 
 pub returns : goal.returns
 returns c = λ names settled all before states h m.
