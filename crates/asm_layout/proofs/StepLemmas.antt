@@ -41,7 +41,7 @@ use Rattle.asm_layout.specs.declared.walking.Walk.{Walk}
 use Rattle.asm_layout.specs.Layout.{IsTold}
 use Rattle.asm_layout.specs.Outline.{circle_of}
 use Rattle.asm_layout.specs.declared.outline.Outline.{Outline}
-use Rattle.asm_layout.specs.Walking.{IsMark, HasMark, IsCounted, one_more, or_false, IsWalking, IsChecked, ChecksLine, Keeps, KeepsOrTells, StepsOn, laid_as, told_by}
+use Rattle.asm_layout.specs.Walking.{IsMark, HasMark, IsCounted, one_more, or_false, IsWalking, IsCheckedLine, ChecksLine, Keeps, KeepsOrTells, StepsOn, laid_as, told_by}
 use Rattle.asm_layout.proofs.ToldLemmas.{none_first, none_parts, told_parts}
 
 -- ---- the number that checks ask for
@@ -125,7 +125,7 @@ count_is settled marks n m (RegisterName name r) before h k = h ∙ omega arith
 -- ---- what is told of a checked line
 
 pub checked_told : (d : List LaidName) (names settled : List (List ℕ)) (all : List Statement) (l : LaidLine) (before : List LaidLine) (old new : Walk) (j : CheckedLine)
-    → IsChecked d names settled all l before old new j → told_by names settled all l before ≡ first_told (told_of l) j.found
+    → IsCheckedLine d names settled all l before old new j → told_by names settled all l before ≡ first_told (told_of l) j.found
 checked_told d names settled all l before old new j h = told_parts names settled all l before ∙ ap (first_told (told_of l)) (sym h.told)
 
 pub err_told : (d : List LaidName) (l : LaidLine) (before : List LaidLine) (state : Laying) (r : Result Placed LineKind) (k : LineKind) → r ≡ Err k → IsPlaced d l before state r
@@ -142,7 +142,7 @@ tells s o k f e h = subst (λ (x : Option LineKind). IsTold (told_at s x) f) (sy
 -- ---- a line is kept
 
 pub keep_line : (d : List LaidName) (names settled : List (List ℕ)) (all : List Statement) (s : Statement) (before : List LaidLine) (old mid new : Walk) (j : CheckedLine) (p : Placed)
-    → IsWalking d names settled all before old → IsChecked d names settled all (laid_behind d s before) before old mid j → j.found ≡ None
+    → IsWalking d names settled all before old → IsCheckedLine d names settled all (laid_behind d s before) before old mid j → j.found ≡ None
     → IsLaid d (laid_behind d s before) before mid.laying p → Keeps s j.laid.number j.thumb_area p mid new
     → IsWalking d names settled all (laid_behind d s before ∷ before) new
 keep_line d names settled all s before old mid new j p w h none laid k =

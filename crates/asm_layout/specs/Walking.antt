@@ -80,7 +80,7 @@ Begins statements w =
 -- ---- a line more
 
 -- what is known of a line before it is kept
-pub record IsChecked (d : List LaidName) (names settled : List (List ℕ)) (all : List Statement) (l : LaidLine) (before : List LaidLine) (old new : Walk) (j : CheckedLine) : Type 0 where
+pub record IsCheckedLine (d : List LaidName) (names settled : List (List ℕ)) (all : List Statement) (l : LaidLine) (before : List LaidLine) (old new : Walk) (j : CheckedLine) : Type 0 where
   pub tells : Tells d l before new.laying j.laid
   pub told : j.found ≡ first_told (told_kind (checked_kinds settled all l before)) (told_kind (register_kinds names l before))
   pub checked : j.found ≡ None → IsChecked (l ∷ before) new.checks
@@ -95,7 +95,7 @@ abbrev pub ChecksLine : Outline → Statement → Walk → Walk → CheckedLine 
 ChecksLine o s old new j =
     (names settled : List (List ℕ)) (all : List Statement) (before : List LaidLine) → AreStates all o.states
     → IsWalking o.names names settled all before old → IsOutlined o.names settled o.circular.items s before
-    → IsChecked o.names names settled all (laid_behind o.names s before) before old new j
+    → IsCheckedLine o.names names settled all (laid_behind o.names s before) before old new j
 
 abbrev pub laid_as : Statement → Placed → LaidStatement
 laid_as s p = record {
@@ -127,7 +127,7 @@ Steps d names settled all l before new (Err f) = IsTold (told_at l.statement (to
 abbrev pub KeepsOrTells : Statement → CheckedLine → Walk → Walk → Result (Unit {0}) Fault → Type 0
 KeepsOrTells s j old new r =
     (d : List LaidName) (names settled : List (List ℕ)) (all : List Statement) (first : Walk) (before : List LaidLine)
-    → IsWalking d names settled all before first → IsChecked d names settled all (laid_behind d s before) before first old j
+    → IsWalking d names settled all before first → IsCheckedLine d names settled all (laid_behind d s before) before first old j
     → Steps d names settled all (laid_behind d s before) before new r
 
 -- a statement is checked behind lines, and kept or told

@@ -127,7 +127,8 @@ impl Walk {
     ) -> Result<CheckedLine, NoMemory>
         requires may { laying.MayLay outline.now.names self.old.laying }
         requires said { IsSaid statement.now }
-        ensures { IfOk result (λ j. walking.ChecksLine outline.now statement.now self.old self.new j) }
+        ensures { IfOk result
+            (λ j. walking.ChecksLine outline.now statement.now self.old self.new j) }
     {
         let laid = self.laying.lay(self.alloc, &outline.names, statement)?;
         let circular = take_mark(&mut self.equals, outline.circular.as_slice(), statement);
