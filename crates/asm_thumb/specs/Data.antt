@@ -15,7 +15,6 @@ use Rattle.thumb_isa.specs.declared.instr.ThumbShift.{ThumbShift}
 use Rattle.thumb_isa.specs.declared.instr.ThumbShift.TheVariants as shift
 use Rattle.asm_model.specs.declared.tokens.Token.{Token}
 use Rattle.asm_model.specs.declared.operands.Register.{Register}
-use Rattle.asm_model.specs.declared.operands.Register.TheVariants as register_is
 use Rattle.asm_model.specs.declared.operands.ThumbOperand.TheVariants as operand
 use Rattle.asm_model.specs.declared.statements.What.{What}
 use Rattle.asm_model.specs.declared.statements.What.TheVariants as what

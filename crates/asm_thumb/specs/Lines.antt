@@ -1,7 +1,7 @@
 -- What the tokens behind an operation word say, in each form of a Thumb line. The forms are those of the ARM SDT 2.50
 -- Reference Guide, chapter on the assembler. A form that the tokens don't have is Syntax. Registers are judged by the row
 -- and not here, and so are values.
-use Rattle.std.specs.Prelude.{◌≡◌, ℕ, List, Bool, true, false, Option, Some, None, Result, Ok, Err}
+use Rattle.std.specs.Prelude.{◌≡◌, ℕ, List, Bool, Option, Some, None, Result, Ok, Err}
 use Rattle.sdt_fault.specs.declared.kinds.LineKind.{LineKind}
 use Rattle.sdt_fault.specs.declared.kinds.LineKind.TheVariants.{Syntax, FloatingPoint}
 use Rattle.thumb_isa.specs.declared.instr.HighOperation.TheVariants as high

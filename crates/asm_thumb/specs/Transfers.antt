@@ -1,7 +1,7 @@
 -- What the operands of transfers say: an address in brackets, a number behind an equals sign, or a label. ARM SDT 2.50
 -- Reference Guide, chapter on the assembler. A base alone is the offset 0. Words that are moved by sp, or loaded by pc, have
 -- rows of their own; signed bytes and half-words have no number as their offset.
-use Rattle.std.specs.Prelude.{◌≡◌, ℕ, List, ◌&&◌, codes, Bool, true, false, if◌then◌else◌, Option, Some, None, Result, Ok, Err}
+use Rattle.std.specs.Prelude.{◌≡◌, ℕ, List, ◌&&◌, codes, Bool, true, false, if◌then◌else◌, Option, Some, None, Result, Err}
 use Rattle.sdt_fault.specs.declared.kinds.LineKind.{LineKind}
 use Rattle.sdt_fault.specs.declared.kinds.LineKind.TheVariants.{Syntax}
 use Rattle.sdt_word.specs.declared.codes.Width.{Width}
