@@ -1,6 +1,6 @@
 -- A line says one thing.
 use Rattle.std.proofs.Common.{◌≡◌, ℕ, List, Bool, true, false, sym, ◌∙◌, Option, Some, None, ◌&&◌}
-use Rattle.std.specs.Prelude.{Result, Ok, Err}
+use Rattle.std.specs.Prelude.{Result, Ok}
 use Rattle.sdt_fault.specs.declared.kinds.LineKind.{LineKind}
 use Rattle.sdt_word.specs.declared.codes.Width.{Width}
 use Rattle.thumb_isa.specs.declared.instr.ImmediateOperation.{ImmediateOperation}
