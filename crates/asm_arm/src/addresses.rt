@@ -1,7 +1,8 @@
 //! The addresses of ARM transfers.
 
-ghost use Rattle.std.specs.Prelude.{◌≡◌, IfOk, Some, None};
+ghost use Rattle.std.specs.Prelude.{◌≡◌, IfOk, Some, None, Result};
 ghost use Rattle.std.specs.Option.{option_copied};
+ghost use Rattle.sdt_fault.specs.declared.kinds.LineKind.{LineKind};
 ghost use Rattle.asm_model.specs.Operands as model;
 ghost use Rattle.asm_model.specs.Says as says;
 ghost use Rattle.asm_model.specs.declared.operands.Indexing.TheVariants as indexing_is;
@@ -9,9 +10,10 @@ ghost use Rattle.asm_arm.specs.Addresses as addresses;
 ghost use Rattle.asm_arm.specs.Operands as operands;
 ghost use Rattle.asm_arm.specs.Steps.{cut_of};
 ghost use Rattle.asm_arm.specs.declared.addresses.Offset.TheVariants as offset_is;
+ghost use Rattle.asm_arm.specs.declared.operands.Scale.{Scale};
 
 use crate::operands::{
-    Cut, Scale, between, both, cut_operands, marked, register, shift_of, without_first,
+    Cut, Scale, between, both, cut_operands, marked, register, shift_of, with_second, without_first,
 };
 use asm_expr::read::expression;
 use asm_model::{Expr, ExprItem, HalfOffset, Indexing, Register, Shift, Token, Value};
@@ -131,6 +133,20 @@ fn plain_offset(
     }
 }
 
+/// A shift of an offset.
+fn offset_shift(
+    alloc: Global,
+    text: &[u8],
+    tokens: &[Token],
+) -> Result<Result<Shift, LineKind>, NoMemory>
+    ensures { IfOk result (λ read. (scale : Result Scale LineKind)
+        × operands.ReadsScale text.now tokens.now scale
+        × (read ≡ operands.followed scale addresses.number_shift)) }
+{
+    let scale = shift_of(alloc, text, tokens)?;
+    Ok(number_shift(scale))
+}
+
 /// An offset.
 fn any_offset(
     alloc: Global,
@@ -144,9 +160,8 @@ fn any_offset(
     let Some(shift) = shift else {
         return plain_offset(alloc, text, tokens);
     };
-    let shift = number_shift(shift_of(alloc, text, shift)?);
     let signed = signed_register(alloc, text, tokens)?;
-    match both(signed, shift) {
+    match with_second(signed, offset_shift(alloc, text, shift))? {
         Ok(((subtract, rm), shift)) => Ok(Ok(Offset::Register {
             subtract,
             rm,

@@ -18,7 +18,7 @@ use crate::addresses::base;
 use crate::lists;
 use crate::operands::{
     Cut, Second, both, cut_operands, register, second_operand, three_registers, two_registers,
-    without_first,
+    with_second, without_first,
 };
 use crate::transfers::{HalfTransfer, Transfer, block, transfer_half, word_transfer};
 use crate::words::{Mnemonic, Shape, shape_of};
@@ -270,8 +270,8 @@ fn multiply_accumulate(
     match cut {
         Cut::Four(rd, rm, rs, rn) => {
             let first = two_registers(alloc, text, rd, rm)?;
-            let second = two_registers(alloc, text, rs, rn)?;
-            match both(first, second) {
+            let second = two_registers(alloc, text, rs, rn);
+            match with_second(first, second)? {
                 Ok(((rd, rm), (rs, rn))) => Ok(Ok(What::Arm(ArmLine::Multiply {
                     condition,
                     accumulate: true,
@@ -322,8 +322,8 @@ fn multiply_long(alloc: Global, text: &[u8], word: LongProduct, cut: Cut<'_>) ->
     match cut {
         Cut::Four(low, high, rm, rs) => {
             let first = two_registers(alloc, text, low, high)?;
-            let second = two_registers(alloc, text, rm, rs)?;
-            match both(first, second) {
+            let second = two_registers(alloc, text, rm, rs);
+            match with_second(first, second)? {
                 Ok(((low, high), (rm, rs))) => Ok(Ok(What::Arm(ArmLine::MultiplyLong {
                     condition: word.condition,
                     signed: word.signed,
@@ -361,8 +361,8 @@ fn swap(alloc: Global, text: &[u8], condition: Condition, byte: bool, cut: Cut<'
     match cut {
         Cut::Three(rd, rm, address) => {
             let first = two_registers(alloc, text, rd, rm)?;
-            let rn = based(alloc, text, address)?;
-            match both(first, rn) {
+            let rn = based(alloc, text, address);
+            match with_second(first, rn)? {
                 Ok(((rd, rm), rn)) => Ok(Ok(What::Arm(ArmLine::Swap {
                     condition,
                     byte,

@@ -6,7 +6,7 @@ ghost use Rattle.asm_model.specs.Operands as model;
 ghost use Rattle.asm_model.specs.Says as says;
 ghost use Rattle.asm_arm.specs.Lists as lists;
 
-use crate::operands::{between, both, marked, register, register_of};
+use crate::operands::{between, marked, register, register_of, with_second};
 use crate::words::{begin, behind, row_of};
 use asm_expr::kinds::earlier;
 use asm_expr::operands::{first_operand, is, piece_of};
@@ -64,8 +64,8 @@ fn register_range(
         return Ok(Err(LineKind::Syntax));
     }
     let first = register_of(alloc, first.kind, piece_of(text, first))?;
-    let last = register_of(alloc, last.kind, piece_of(text, last))?;
-    match both(first, last) {
+    let last = register_of(alloc, last.kind, piece_of(text, last));
+    match with_second(first, last)? {
         Ok((first, last)) => Ok(Ok(ListItem::Range { first, last })),
         Err(kind) => Ok(Err(kind)),
     }

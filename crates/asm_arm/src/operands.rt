@@ -1,7 +1,8 @@
 //! The operands of ARM instructions.
 
-ghost use Rattle.std.specs.Prelude.{◌≡◌, ◌∷◌, [], IfOk, length, take, ◌-◌, Some, None};
+ghost use Rattle.std.specs.Prelude.{◌≡◌, ◌∷◌, [], IfOk, length, take, ◌-◌, Some, None, Result, Ok};
 ghost use Rattle.std.specs.Option.{option_copied};
+ghost use Rattle.sdt_fault.specs.declared.kinds.LineKind.{LineKind};
 ghost use Rattle.asm_model.specs.Operands as model;
 ghost use Rattle.asm_model.specs.Registers as registers;
 ghost use Rattle.asm_model.specs.Says as says;
@@ -146,6 +147,19 @@ pub fn both<A: Drop, B: Drop>(
     }
 }
 
+/// A reading, and a second one of the same line. It is generic, so that the proof of the exit where memory runs out does
+/// not go through every form of the first.
+pub fn with_second<A: Drop, B: Drop>(
+    a: Result<A, LineKind>,
+    b: Result<Result<B, LineKind>, NoMemory>,
+) -> Result<Result<(A, B), LineKind>, NoMemory>
+    ensures { IfOk result
+        (λ read. (other : Result B LineKind) × (b ≡ Ok other) × (read ≡ operands.both a other)) }
+{
+    let b = b?;
+    Ok(both(a, b))
+}
+
 /// The tokens behind a sign that stands in front.
 pub fn without_first<'a>(text: &[u8], sign: &[u8], tokens: &'a [Token]) -> Option<&'a [Token]>
     ensures { option_copied result ≡ operands.without_first text.now sign.now tokens.now }
@@ -267,8 +281,7 @@ pub fn two_registers(
     ensures { IfOk result (λ two. two ≡ operands.two_registers text.now first.now second.now) }
 {
     let first = register(alloc, text, first)?;
-    let second = register(alloc, text, second)?;
-    Ok(both(first, second))
+    with_second(first, register(alloc, text, second))
 }
 
 /// Three registers.
@@ -283,8 +296,7 @@ pub fn three_registers(
         ≡ operands.three_registers text.now first.now second.now third.now) }
 {
     let two = two_registers(alloc, text, first, second)?;
-    let third = register(alloc, text, third)?;
-    Ok(both(two, third))
+    with_second(two, register(alloc, text, third))
 }
 
 /// RRX, which stands alone.

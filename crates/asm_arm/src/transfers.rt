@@ -13,7 +13,7 @@ ghost use Rattle.asm_arm.specs.Steps.{cut_of};
 
 use crate::addresses::{Addressed, Offset, after, after_as, before, before_as, half_offset, zero};
 use crate::lists;
-use crate::operands::{Cut, both, register, without_first};
+use crate::operands::{Cut, both, register, with_second, without_first};
 use arm_isa::HalfKind;
 use asm_expr::read::expression;
 use asm_model::{
@@ -363,8 +363,8 @@ pub fn block(
     match cut {
         Cut::Two(base, list) => {
             let base = lists::base(alloc, text, base)?;
-            let list = lists::register_list(alloc, text, list)?;
-            match both(base, list) {
+            let list = lists::register_list(alloc, text, list);
+            match with_second(base, list)? {
                 Ok(((rn, write_back), (items, user))) => Ok(Ok(What::Arm(
                     ArmLine::TransferBlock {
                         condition,

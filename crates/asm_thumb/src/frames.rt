@@ -1,6 +1,12 @@
 //! Lines but for their expression.
 
-ghost use Rattle.std.specs.Prelude.{◌≡◌, IfOk};
+ghost use Rattle.std.specs.Prelude.{◌≡◌, Result, IfOk};
+ghost use Rattle.sdt_fault.specs.declared.kinds.LineKind.{LineKind};
+ghost use Rattle.asm_model.specs.declared.exprs.Expr.{Expr};
+ghost use Rattle.asm_model.specs.Grammar.{ParsesTokens};
+ghost use Rattle.asm_model.specs.Says as says;
+ghost use Rattle.asm_arm.specs.Addresses as addresses;
+ghost use Rattle.asm_arm.specs.Operands as operands;
 ghost use Rattle.asm_thumb.specs.Frames as frames;
 
 use asm_arm::addresses::zero;
@@ -173,6 +179,35 @@ pub fn filled(frame: Frame, value: Expr) -> What
     })
 }
 
+/// What was read of registers, with the value that tokens are. It is generic, so that the proof of the exit where memory
+/// runs out does not go through every form of a line; so is the next.
+fn with_expression<F: Drop>(
+    alloc: Global,
+    text: &[u8],
+    frame: Result<F, LineKind>,
+    tokens: &[Token],
+) -> Result<Result<(F, Expr), LineKind>, NoMemory>
+    ensures { IfOk result (λ read. (value : Result Expr LineKind)
+        × ParsesTokens text.now tokens.now value × (read ≡ operands.both frame value)) }
+{
+    let value = expression(alloc, text, tokens)?;
+    Ok(both(frame, value))
+}
+
+/// What was read of registers, with the value 0.
+fn zeroed<F: Drop>(
+    alloc: Global,
+    frame: Result<F, LineKind>,
+) -> Result<Result<(F, Expr), LineKind>, NoMemory>
+    ensures { IfOk result
+        (λ read. read ≡ says.mapped (λ frame. (frame, addresses.zero)) frame) }
+{
+    match frame {
+        Ok(frame) => Ok(Ok((frame, zero(alloc)?))),
+        Err(kind) => Ok(Err(kind)),
+    }
+}
+
 /// A line, from what is read of its registers and the tokens of its expression.
 pub fn with_value(
     alloc: Global,
@@ -182,8 +217,7 @@ pub fn with_value(
 ) -> Said
     ensures { IfOk result (λ said. frames.ReadsWith text.now frame tokens.now said) }
 {
-    let value = expression(alloc, text, tokens)?;
-    match both(frame, value) {
+    match with_expression(alloc, text, frame, tokens)? {
         Ok((frame, value)) => Ok(Ok(filled(frame, value))),
         Err(kind) => Ok(Err(kind)),
     }
@@ -193,8 +227,8 @@ pub fn with_value(
 pub fn with_zero(alloc: Global, frame: Result<Frame, LineKind>) -> Said
     ensures { IfOk result (λ said. said ≡ frames.with_zero frame) }
 {
-    match frame {
-        Ok(frame) => Ok(Ok(filled(frame, zero(alloc)?))),
+    match zeroed(alloc, frame)? {
+        Ok((frame, value)) => Ok(Ok(filled(frame, value))),
         Err(kind) => Ok(Err(kind)),
     }
 }
