@@ -1,6 +1,6 @@
 //! The attributes of AREA.
 
-ghost use Rattle.std.specs.Prelude.{◌≡◌, ◌++◌, IfOk};
+ghost use Rattle.std.specs.Prelude.{◌≡◌, ◌++◌, [], IfOk};
 ghost use Rattle.asm_model.specs.Areas as areas;
 ghost use Rattle.asm_model.specs.Operands as operands;
 ghost use Rattle.asm_model.specs.Says as says;
@@ -301,6 +301,13 @@ impl Written {
     }
 }
 
+/// No alignment.
+fn no_alignments(alloc: Global) -> List<Expr>
+    ensures { result ≡ [] }
+{
+    List::from_vec(Vec::new(alloc))
+}
+
 /// The attributes that operands write.
 fn read_attributes(alloc: Global, text: &[u8], tokens: &[Token]) -> Result<Written, NoMemory>
     ensures { IfOk result
@@ -309,7 +316,7 @@ fn read_attributes(alloc: Global, text: &[u8], tokens: &[Token]) -> Result<Writt
     let mut written = Written {
         words: Vec::new(alloc),
         has_other: false,
-        alignments: Ok(List::from_vec(Vec::new(alloc))),
+        alignments: Ok(no_alignments(alloc)),
     };
     let mut left = tokens;
     'operands: loop {
@@ -355,7 +362,7 @@ pub fn attributes(
         (operands_behind text.now (option_copied behind.entry)) reading) }
 {
     match behind {
-        None => Ok(attributes_with(&[], false, Ok(List::from_vec(Vec::new(alloc))))),
+        None => Ok(attributes_with(&[], false, Ok(no_alignments(alloc)))),
         Some(tokens) => {
             let Written {
                 words,

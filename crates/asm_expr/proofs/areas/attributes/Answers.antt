@@ -4,7 +4,7 @@ use Rattle.asm_expr.proofs.ReadingLemmas.{attributes_behind}
 use Rattle.asm_expr.proofs.areas.attributes.Goals as goal
 
 pub returns-in-None : goal.returns-in-None
-returns-in-None c = rw c.in-None.is (Ok [], refl, search)
+returns-in-None c = rw c.in-None.is (Ok [], refl, rw c.no_alignments.ensures at c.attributes_with.ensures)
 
 pub returns-in_ok-words-in-Some : goal.returns-in_ok-words-in-Some
 returns-in_ok-words-in-Some c =
