@@ -3,7 +3,7 @@
 ghost use Rattle.std.specs.Prelude.{◌≡◌, ◌++◌, ◌<◌, ◌^◌, ℕ, List as Items, [], ◌∷◌, length, map, IfOk, OnOk};
 ghost use Rattle.source_model.specs.Objects.{Piece, units_from};
 ghost use Rattle.asm_units.specs.Emitting.{emitted_of};
-ghost use Rattle.armasm_core.specs.Builders.{AreRelocs, HoldsPieces, HasPieces, MeetsNone, TakesMore};
+ghost use Rattle.armasm_core.specs.Builders.{AreRelocs, BytesOfPieces, HasPieces, MeetsNone, TakesMore};
 ghost use Rattle.armasm_core.specs.Writing.{AllCanStand, CanStand};
 
 use crate::relocations::{listed, note, reloc_at, relocation};
@@ -85,7 +85,7 @@ impl AreaBuilder {
     pub fn finish(self, alloc: Global) -> Result<Finished, NoMemory>
         ensures bytes { IfOk result (λ area. area.bytes ≡ self.bytes.items) }
         ensures held { IfOk result (λ area. (names : Items (Items ℕ)) (pieces : Items Piece)
-            → HasPieces names pieces self → HoldsPieces pieces area.bytes) }
+            → HasPieces names pieces self → BytesOfPieces pieces area.bytes) }
         ensures relocs { IfOk result (λ area. (names : Items (Items ℕ)) (pieces : Items Piece)
             → HasPieces names pieces self → AreRelocs names pieces area.relocs) }
     {
