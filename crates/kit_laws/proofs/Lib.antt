@@ -1,0 +1,21 @@
+pub mod IrqRegisters
+pub mod Added
+pub mod ArmAdded
+pub mod ThumbAdded
+pub mod StepAdded
+pub mod OwnFetch
+pub mod BesideMemory
+pub mod BesideRegisters
+pub mod BesideBlocks
+pub mod BesideTransfers
+pub mod BesideData
+pub mod BesideArm
+pub mod BesideThumb
+pub mod BesideStep
+pub mod IrqEntry
+pub mod HandlerSteps
+pub mod Interrupt
+pub mod Events
+pub mod BesideStates
+pub mod Transparent
+mod Examples
