@@ -2,6 +2,7 @@
 use Rattle.std.proofs.Common.{◌≡◌, ◌≢◌, ℕ, ◌%◌, ◌^◌, ◌==◌, Bool, true, false, not, List, [], ◌∷◌, ◌++◌, length, refl, sym, ap, subst, ◌∙◌, if◌then◌else◌, append-nil, append_assoc, cond}
 use Rattle.std.specs.Prelude.{◌&&◌}
 use Rattle.std.specs.List.{AllByRecursion}
+use Rattle.base_lemmas.proofs.BaseLemmas.{first_of_both, second_of_both}
 use Rattle.sdt_word.specs.Numbers.{registers}
 use Rattle.sdt_word.specs.declared.codes.Width.TheVariants.{Word}
 use Rattle.arm7_model.specs.declared.state.ArmState.{ArmState}
@@ -60,14 +61,6 @@ pub all-behind : (P : Access → Type 0) (xs ys : List Access) → AllByRecursio
 all-behind P [] ys h = h
 all-behind P (x ∷ xs) ys h = all-behind P xs ys h.1
 
-and-left : (x y : Bool) → (x && y) ≡ true → x ≡ true
-and-left true y e = refl
-and-left false y e = e
-
-and-right : (x y : Bool) → (x && y) ≡ true → y ≡ true
-and-right true y e = e
-and-right false y e = absurd (cc)
-
 -- ---- all words
 
 module _ (b : Board) (work : ℕ) (k : Scratch) (answers : List ℕ) where
@@ -75,24 +68,24 @@ module _ (b : Board) (work : ℕ) (k : Scratch) (answers : List ℕ) where
       → take_all b user ks a (besides work k answers w) ≡ besides work k answers (take_all b user ks a w)
   take-beside user [] a w there own = refl
   take-beside user (r ∷ ks) a w there own =
-      let inside = plain-memory b work a Word own.0 (and-left (is_there b a 4) (all_there b ks (next_word a)) there) in
+      let inside = plain-memory b work a Word own.0 (first_of_both (is_there b a 4) (all_there b ks (next_word a)) there) in
       ap (take_all b user ks (next_word a))
       (ap (λ (v : ℕ). record (after_load b (besides work k answers w) a Word) { core = with_listed user (with_irq k w.core) r v }) (read-beside b work k answers w a Word own.0 inside)
       ∙ ap (λ (c : ArmState). record (after_load b (besides work k answers w) a Word) { core = c }) (irq-with_listed k user w.core r (read_at b w a Word))
       ∙ ap (λ (x : Working). record x { core = with_irq k (with_listed user w.core r (read_at b w a Word)) }) (load-beside b work k answers w a Word inside))
       ∙ take-beside user ks (next_word a) (record (after_load b w a Word) { core = with_listed user w.core r (read_at b w a Word) })
-      (and-right (is_there b a 4) (all_there b ks (next_word a)) there) own.1
+      (second_of_both (is_there b a 4) (all_there b ks (next_word a)) there) own.1
 
   give-beside : (user : Bool) (from : ArmState) (ks : List ℕ) (a : ℕ) (w : Working) → all_may_store b ks a ≡ true → AllByRecursion (IsOwn b work) (stores_of user from ks a)
       → give_all b user (with_irq k from) ks a (besides work k answers w) ≡ besides work k answers (give_all b user from ks a w)
   give-beside user from [] a w may own = refl
   give-beside user from (r ∷ ks) a w may own =
-      let inside = plain-store b work a Word own.0.0 (and-left (may_store b a 4) (all_may_store b ks (next_word a)) may) in
+      let inside = plain-store b work a Word own.0.0 (first_of_both (may_store b a 4) (all_may_store b ks (next_word a)) may) in
       ap (give_all b user (with_irq k from) ks (next_word a))
       (ap (after_store b (besides work k answers w) a Word) (irq-listed_at k user from r)
       ∙ store-beside b work k answers w a Word (listed_at user from r) own.0.0 inside)
       ∙ give-beside user from ks (next_word a) (after_store b w a Word (listed_at user from r))
-      (and-right (may_store b a 4) (all_may_store b ks (next_word a)) may) own.1
+      (second_of_both (may_store b a 4) (all_may_store b ks (next_word a)) may) own.1
 
 -- ---- the rows
 

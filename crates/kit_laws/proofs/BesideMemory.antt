@@ -1,6 +1,7 @@
 -- What is read, loaded and stored beside other bytes in the work area.
 use Rattle.std.proofs.Common.{◌≡◌, ℕ, zero, suc, ◌+◌, ◌-◌, ◌<◌, ◌≤◌, Bool, true, false, List, length, refl, sym, ap, ◌∙◌, arith, ◌⊎◌, inl, inr}
-use Rattle.std.specs.Prelude.{◌||◌, ◌&&◌}
+use Rattle.std.specs.Prelude.{◌||◌}
+use Rattle.base_lemmas.proofs.BaseLemmas.{first_of_both}
 use Rattle.sdt_word.specs.Bytes.{bytes_of, load}
 use Rattle.sdt_word.specs.Codes.{bytes_in}
 use Rattle.sdt_word.specs.declared.codes.Width.{Width}
@@ -58,11 +59,7 @@ plain-memory b work a width own there = go (bytes_in width) (some width) own the
 
 pub plain-store : (b : Board) (work a : ℕ) (width : Width) → EachFrom (IsPlain b work) a (bytes_in width) → may_store b a (bytes_in width) ≡ true → in_memory b a (bytes_in width) ≡ true
 unfolding may_store is_there
-plain-store b work a width own may = plain-memory b work a width own (first (all_from b.memory a (bytes_in width) || all_from b.device a (bytes_in width)) _ may)
-  where
-    first : (x y : Bool) → (x && y) ≡ true → x ≡ true
-    first true y h = refl
-    first false y h = h
+plain-store b work a width own may = plain-memory b work a width own (first_of_both (all_from b.memory a (bytes_in width) || all_from b.device a (bytes_in width)) _ may)
 
 -- ---- reads and writes under way
 

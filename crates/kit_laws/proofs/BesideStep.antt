@@ -1,13 +1,14 @@
 -- A step beside other IRQ registers and other bytes in the work area.
-use Rattle.std.proofs.Common.{◌≡◌, ◌≢◌, ℕ, ◌+◌, ◌%◌, ◌^◌, Bool, true, false, not, List, [], None, refl, ap, subst, ◌∙◌, if◌then◌else◌, arith}
-use Rattle.std.specs.Prelude.{◌&&◌}
+use Rattle.std.proofs.Common.{◌≡◌, ◌≢◌, ℕ, ◌+◌, ◌%◌, ◌^◌, Bool, true, false, not, List, [], None, refl, sym, ap, subst, ◌∙◌, if◌then◌else◌, arith}
 use Rattle.std.specs.List.{AllByRecursion}
+use Rattle.base_lemmas.proofs.BaseLemmas.{second_of_both}
 use Rattle.sdt_word.specs.Codes.{bytes_in}
 use Rattle.arm7_model.specs.declared.event.Exception.TheVariants as exception
 use Rattle.arm7_model.specs.Accesses.{Fetch, Working, after_fetch}
 use Rattle.arm7_model.specs.Memory.{Board, is_there}
 use Rattle.arm7_model.specs.Outcomes.{Stepped, Under, given_back}
 use Rattle.arm7_model.specs.Registers.{State as Whole, bank_in, is_thumb, register, with_register}
+use Rattle.arm7_model.specs.Runs.{quiet}
 use Rattle.arm7_model.specs.Step.{Arm, Instruction, Levels, Reads, Step, Thumb, Unread, advanced, beginning, can_fetch, done, executed, fetch_aborted, fetch_width, fetched, fetches, interrupt, misaligned, stepped, uninterrupted}
 use Rattle.kit_laws.specs.Beside.{Scratch, beside, beside_step, beside_under, besides, with_irq}
 use Rattle.kit_laws.specs.Rules.{IsOwn}
@@ -66,23 +67,22 @@ module _ (b : Board) (work : ℕ) (k : Scratch) (s : Whole) (answers' : List ℕ
 
   -- the step of a run without interrupts is built from what the interrupted one reads
   pub plain-step : (lines' : Levels) (t : Stepped) → interrupt lines' s.core.cpsr ≡ None → Step b (beside work k s) lines' answers' t
-      → (x : Stepped) × Step b s (record { irq = false; fiq = false }) [] x
+      → (x : Stepped) × Step b s quiet.lines quiet.answers x
       × (AllByRecursion (IsOwn b work) x.accesses → bank_in x.state.core.cpsr ≢ 2 → t ≡ beside_step work k x)
   unfolding fetches can_fetch register with_irq
   plain-step lines' t n' (i, reads, is) = (
-    stepped b s quiet [] i,
-    (i, (λ f. subst (λ (word : ℕ). Reads (is_thumb s.core.cpsr) word i) (fetched-beside [] (last _ _ _ f)) (reads (rw n' (later _ _ f)))), refl),
-    (λ own after. is ∙ step-beside quiet lines' [] i (no-lines s.core.cpsr) n' own after),
+    stepped b s quiet.lines [] i,
+    (i, (λ f. subst (λ (word : ℕ). Reads (is_thumb s.core.cpsr) word i) (fetched-beside [] (second_of_both _ _ (second_of_both _ _ f))) (reads (rw n' (second_of_both _ _ f)))), refl),
+    (λ own after. is ∙ step-beside quiet.lines lines' [] i (no-lines s.core.cpsr) n' own after),
   )
-    where
-      quiet : Levels
-      quiet = record { irq = false; fiq = false }
 
-      last : (x y z : Bool) → (x && (y && z)) ≡ true → z ≡ true
-      last true true z h = h
-      last true false z h = absurd cc
-      last false y z h = absurd cc
-
-      later : (x y : Bool) → (x && y) ≡ true → y ≡ true
-      later true y h = h
-      later false y h = absurd cc
+  -- and the other way round
+  pub made-beside : (x : Stepped) → Step b s quiet.lines quiet.answers x → AllByRecursion (IsOwn b work) x.accesses → bank_in x.state.core.cpsr ≢ 2
+      → Step b (beside work k s) quiet.lines answers' (beside_step work k x)
+  unfolding fetches can_fetch register with_irq
+  made-beside x (i, reads, is) own after = (
+    i,
+    (λ f. subst (λ (word : ℕ). Reads (is_thumb s.core.cpsr) word i) (sym (fetched-beside [] (second_of_both _ _ (second_of_both _ _ f)))) (reads f)),
+    ap (beside_step work k) is ∙ sym (step-beside quiet.lines quiet.lines [] i (no-lines s.core.cpsr) (no-lines s.core.cpsr)
+        (subst (λ (t : Stepped). AllByRecursion (IsOwn b work) t.accesses) is own) (subst (λ (t : Stepped). bank_in t.state.core.cpsr ≢ 2) is after)),
+  )

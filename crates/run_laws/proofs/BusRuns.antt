@@ -22,7 +22,7 @@ use Rattle.arm7_run.specs.Runs.{GoesOn, Leads, goes, stays}
 use Rattle.run_laws.specs.Laws.{BusRunsAreRuns, RunsAreBusRuns}
 use Rattle.run_laws.specs.Steps.{IsRunOf, IsStepOf, Print, StoresAreUsed, given_by, left_by}
 use Rattle.run_laws.proofs.ServedMemory.{board-served, frames-used, ready-served, serves, used-as}
-use Rattle.run_laws.proofs.StepAdded.{step-adds}
+use Rattle.kit_laws.proofs.StepAdded.{step-adds}
 
 -- ---- time and the board
 

@@ -1,5 +1,3 @@
-pub mod Added
-pub mod ArmAdded
 pub mod Boards
 pub mod BusRuns
 pub mod Devices
@@ -7,5 +5,3 @@ pub mod MadeSteps
 pub mod OneRun
 pub mod OneStep
 pub mod ServedMemory
-pub mod StepAdded
-pub mod ThumbAdded

@@ -28,7 +28,7 @@ use Rattle.run_laws.specs.Steps.{AreMade, IsStepOf, given_by, steps_made}
 use Rattle.run_laws.proofs.BusRuns.{board-next, board-tick, each-as, next, one-step-back, ready-next, step-used}
 use Rattle.run_laws.proofs.Devices.{each-board, off-board, one-read, touches-kept, untouched}
 use Rattle.run_laws.proofs.ServedMemory.{board-served, ready-served}
-use Rattle.run_laws.proofs.StepAdded.{step-adds}
+use Rattle.kit_laws.proofs.StepAdded.{step-adds}
 
 -- ---- a run made steps
 

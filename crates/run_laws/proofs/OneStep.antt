@@ -24,7 +24,7 @@ use Rattle.arm7_transfers.proofs.StepLemmas.{fetch_of, width_of, word_of}
 use Rattle.arm7_core.specs.Machines.{Ends, IsStepFrom, levels}
 use Rattle.arm7_core.proofs.ThumbSteps.{even_pc}
 use Rattle.run_laws.specs.Laws.{BusStepIsOne}
-use Rattle.run_laws.proofs.StepAdded.{step-adds}
+use Rattle.kit_laws.proofs.StepAdded.{step-adds}
 
 -- ---- the word that is fetched
 

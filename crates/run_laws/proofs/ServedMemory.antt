@@ -20,7 +20,7 @@ use Rattle.arm7_transfers.proofs.DoneLemmas.{fits}
 use Rattle.arm7_transfers.proofs.ReadyLemmas.{SamePlaces, board-read, board-same, changes, ready-read, ready-write, set-used, stays, written-kept}
 use Rattle.arm7_transfers.proofs.StoreLemmas.{CanStore, memory-write, notes-write, places-write}
 use Rattle.run_laws.specs.Steps.{AreUsed, StoresAreUsed}
-use Rattle.run_laws.proofs.Added.{AreSound, IsSound, moved}
+use Rattle.kit_laws.proofs.Added.{AreSound, IsSound, moved}
 
 -- ---- accesses of any kind leave the board, and the bus ready
 
