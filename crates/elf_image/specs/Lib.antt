@@ -1,0 +1,3 @@
+-- What the clauses of the crate cite.
+pub mod Checks
+pub mod Reading
