@@ -14,7 +14,7 @@ use Rattle.link_model.specs.declared.images.Image.{Image}
 use Rattle.link_model.specs.declared.images.LoadRegion.{LoadRegion}
 use Rattle.elf_image.specs.declared.records.Segment.{Segment}
 use Rattle.elf_image.specs.Checks.{Fits, Apart, Enters, checks, load_checks, Holds, IsApart, IsSegment, header_at, header_count, loaded_at, segment_at, segments_before}
-use Rattle.elf_image.specs.Files.{AreApart, IsElf, LoadLaw, WrittenLaw, bytes_in, elf_file, elf_words, file_size, first_offset, header_words, load_of, load_words, loaded, loads_bytes, loads_words, segment_of, segments_from}
+use Rattle.elf_image.specs.Files.{AreApart, IsElf, LoadLaw, WrittenLaw, bytes_in, elf_file, elf_words, file_size, first_offset, header_words, load_of, load_words, loaded, loads_bytes, loads_words, load_segment, segments_from}
 
 -- ---- words in bytes
 
@@ -56,7 +56,7 @@ words_append offset (x ∷ xs) ys =
 segments_append : (offset : ℕ) (xs ys : List LoadRegion) → segments_from offset (xs ++ ys) ≡ segments_from offset xs ++ segments_from (offset + length (loads_bytes xs)) ys
 segments_append offset [] ys = let e : offset ≡ offset + 0 = omega arith in ap (λ (o : ℕ). segments_from o ys) e
 segments_append offset (x ∷ xs) ys =
-    ap (λ ss. segment_of offset x ∷ ss) (segments_append (offset + length x.bytes) xs ys ∙ ap (λ o. segments_from (offset + length x.bytes) xs ++ segments_from o ys) (further offset x xs))
+    ap (λ ss. load_segment offset x ∷ ss) (segments_append (offset + length x.bytes) xs ys ∙ ap (λ o. segments_from (offset + length x.bytes) xs ++ segments_from o ys) (further offset x xs))
 
 headers_length : (offset : ℕ) (ls : List LoadRegion) → length (loads_words offset ls) ≡ 8 * length ls
 headers_length offset [] = refl
@@ -65,7 +65,7 @@ headers_length offset (l ∷ ls) =
     let f = length-append (load_words offset l) (loads_words (offset + length l.bytes) ls) in
     omega (arith, e, f)
 
-apart_segments : (l : LoadRegion) (o offset : ℕ) (before : List LoadRegion) → AllByRecursion (AreApart l) before → AllByRecursion (IsApart (segment_of o l)) (segments_from offset before)
+apart_segments : (l : LoadRegion) (o offset : ℕ) (before : List LoadRegion) → AllByRecursion (AreApart l) before → AllByRecursion (IsApart (load_segment o l)) (segments_from offset before)
 apart_segments l o offset [] h = tt
 apart_segments l o offset (x ∷ xs) h = (h.0, apart_segments l o (offset + length x.bytes) xs h.1)
 
@@ -169,20 +169,20 @@ module _ (i : Image) (is : IsElf i) where
         let at : header_at (elf_file i) (length before) ≡ header_at (elf_file i) (length before) + 4 * 0 = omega arith in
         ap (λ (a : ℕ). word_in (elf_file i) a) at ∙ word_at 0 (omega arith) (omega arith)
 
-    is_segment : segment_at (elf_file i) (header_at (elf_file i) (length before)) ≡ segment_of offset l
+    is_segment : segment_at (elf_file i) (header_at (elf_file i) (length before)) ≡ load_segment offset l
     is_segment =
         let w = within in
         let s = is.sized in
-        fields_are (segment_at (elf_file i) (header_at (elf_file i) (length before))) (segment_of offset l)
+        fields_are (segment_at (elf_file i) (header_at (elf_file i) (length before))) (load_segment offset l)
         (word_at 1 (omega arith) (omega (arith, w, s))) (word_at 3 (omega arith) low) (word_at 4 (omega arith) (omega (arith, w, s))) (word_at 5 (omega arith) (omega (arith, w, s))) (word_at 6 (omega arith) (omega arith))
 
-    fits : l.base + length l.bytes ≤ 2 ^ 32 → IsSegment (length (elf_file i)) (segment_of offset l)
+    fits : l.base + length l.bytes ≤ 2 ^ 32 → IsSegment (length (elf_file i)) (load_segment offset l)
     fits space =
         let w = within in
         let n = file_length in
         record { within = inr (omega (arith, w, n)); held = omega arith; in_space = space }
 
-    loads_it : loaded_at (elf_file i) (header_at (elf_file i) (length before)) ≡ segment_of offset l ∷ []
+    loads_it : loaded_at (elf_file i) (header_at (elf_file i) (length before)) ≡ load_segment offset l ∷ []
     loads_it = rw (eq-eqb (word_in (elf_file i) (header_at (elf_file i) (length before))) 1 type_word) (ap (λ s. s ∷ []) is_segment)
 
     -- the segments of one more header
@@ -255,8 +255,8 @@ loads_from b front (l ∷ ls) e =
     let behind : drop (length front) b ≡ l.bytes ++ loads_bytes ls = ap (λ bs. drop (length front) bs) e ∙ drop-append_seam front (l.bytes ++ loads_bytes ls) in
     let taken : take (length l.bytes) (drop (length front) b) ≡ l.bytes = ap (λ bs. take (length l.bytes) bs) behind ∙ take-append_seam l.bytes (loads_bytes ls) in
     let none : length l.bytes - length l.bytes ≡ 0 = omega arith in
-    let held : bytes_in b (segment_of (length front) l) ≡ l.bytes = ap (λ n. take (length l.bytes) (drop (length front) b) ++ replicate n 0) none ∙ (append-nil (take (length l.bytes) (drop (length front) b)) ∙ taken) in
-    let here : loaded b (segment_of (length front) l) ≡ load_of l = ap (λ bs. as_segment l.base bs) held in
+    let held : bytes_in b (load_segment (length front) l) ≡ l.bytes = ap (λ n. take (length l.bytes) (drop (length front) b) ++ replicate n 0) none ∙ (append-nil (take (length l.bytes) (drop (length front) b)) ∙ taken) in
+    let here : loaded b (load_segment (length front) l) ≡ load_of l = ap (λ bs. as_segment l.base bs) held in
     let next = loads_from b (front ++ l.bytes) ls (e ∙ sym (append_assoc front l.bytes (loads_bytes ls))) in
     let longer = length-append front l.bytes in
     ap (λ (s : maps.Segment). s ∷ map (loaded b) (segments_from (length front + length l.bytes) ls)) here

@@ -29,7 +29,8 @@ image = record {
 pub record WorkedExample : Type 0 where
   pub header :
       take 13 (elf_words image.start image.loads)
-      ≡ 0x464C457F ∷ 0x00010101 ∷ 0 ∷ 0 ∷ 0x00280002 ∷ 1 ∷ 0x8004 ∷ 0x34 ∷ 0 ∷ 0 ∷ 0x00200034 ∷ 1 ∷ 0 ∷ []
+      ≡ 0x464C457F ∷ 0x00010101 ∷ 0 ∷ 0 ∷ 0x00280002
+      ∷ 1 ∷ 0x8004 ∷ 0x34 ∷ 0 ∷ 0 ∷ 0x00200034 ∷ 1 ∷ 0 ∷ []
   pub load :
       drop 13 (elf_words image.start image.loads)
       ≡ 1 ∷ 0x54 ∷ 0x8000 ∷ 0x8000 ∷ 0xDC ∷ 0xDC ∷ 7 ∷ 4 ∷ []

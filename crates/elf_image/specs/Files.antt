@@ -85,8 +85,8 @@ file_size loads = first_offset (length loads) + length (loads_bytes loads)
 
 -- ---- its record
 
-abbrev pub segment_of : ℕ → LoadRegion → Segment
-segment_of offset l = record {
+abbrev pub load_segment : ℕ → LoadRegion → Segment
+load_segment offset l = record {
   offset = offset;
   address = l.base;
   file_size = length l.bytes;
@@ -96,7 +96,7 @@ segment_of offset l = record {
 
 abbrev pub segments_from : ℕ → List LoadRegion → List Segment
 segments_from offset [] = []
-segments_from offset (l ∷ ls) = segment_of offset l ∷ segments_from (offset + length l.bytes) ls
+segments_from offset (l ∷ ls) = load_segment offset l ∷ segments_from (offset + length l.bytes) ls
 
 abbrev pub elf_record : Image → Elf
 elf_record i = record {

@@ -78,8 +78,8 @@ fn push_file(out: &mut Vec<u8>, start: u32, loads: &[LoadRegion]) -> Result<(), 
 }
 
 /// The ELF executable of a linked image: a header, a program header for each load region, and their bytes in order.
-/// A loader puts each where the region is, and enters the image at its start. Of an
-/// image that can be moved the list of its moves is left out.
+/// A loader puts each where the region is, and enters the image at its start. Of an image that can be moved the list of
+/// its moves is left out.
 pub fn write_elf(alloc: Global, image: &Image) -> Result<Bytes, NoMemory>
     requires counted { length image.now.loads < 2 ^ 16 }
     requires sized { files.file_size image.now.loads < 2 ^ 32 }
