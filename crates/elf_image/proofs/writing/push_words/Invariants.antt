@@ -1,0 +1,6 @@
+use Rattle.std.proofs.Common.{◌≡◌, ◌++◌, drop}
+use Rattle.byte_maps.specs.Maps.{bytes_of_words}
+use Rattle.elf_image.proofs.writing.push_words.Given as goal
+
+abbrev pub invariant-loop-word : goal.invariant-loop-word
+invariant-loop-word l = l.out.items ++ bytes_of_words (drop l.word-index l.words) ≡ l.fn.out.items ++ bytes_of_words l.words

@@ -1,0 +1,5 @@
+-- What the clauses of the crate cite.
+pub mod Checks
+pub mod Examples
+pub mod Files
+pub mod Reading
