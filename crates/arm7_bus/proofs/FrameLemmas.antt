@@ -1,6 +1,6 @@
 -- Bytes that are made, and zeros behind them that aren't yet.
 use Rattle.std.proofs.Common.{◌≡◌, ℕ, zero, suc, ◌+◌, ◌-◌, ◌%◌, ◌<◌, ◌≤◌, List, [], ◌∷◌, ◌++◌, length, take, drop, get_or, replicate, append_assoc, refl, sym, ap, ◌∙◌, arith, length-drop, length-take-le}
-use Rattle.std.proofs.lemmas.List.{take_all, take-append-le, drop-append-le, drop-replicate, get_or_append_left, replicate-append-replicate}
+use Rattle.std.proofs.lemmas.List.{take-append-le, drop-append-le, drop-replicate, get_or_append_left, replicate-append-replicate}
 use Rattle.std.proofs.Math.Seq.{drop-append-add, get_or-append_right}
 use Rattle.sdt_word.specs.declared.codes.Width.{Width}
 use Rattle.sdt_word.specs.declared.codes.Width.TheVariants.{Byte, Half, Word}
@@ -35,13 +35,12 @@ number_made xs n at k le =
     sym (ap (λ (ys : List ℕ). number_of (take k ys)) d ∙ ap number_of (take-append-le k (drop at xs) (replicate n 0) (omega arith)))
 
 -- the bytes of a frame that are made
-pub rest_made : (xs ys : List ℕ) (n at end : ℕ) → at ≤ end → end ≤ length xs → ys ≡ take (end - at) (drop at xs)
-    → ys ≡ take (length ys) (drop at (xs ++ replicate n 0))
-rest_made xs ys n at end low high e =
+pub rest_made : (xs ys : List ℕ) (n at k : ℕ) → at + k ≤ length xs → ys ≡ take k (drop at xs) → ys ≡ take (length ys) (drop at (xs ++ replicate n 0))
+rest_made xs ys n at k le e =
     let d = drop-append-le at xs (replicate n 0) (omega arith) in
     let l = length-drop at xs in
-    let size : length ys ≡ end - at = ap length e ∙ length-take-le (end - at) (drop at xs) (omega arith) in
-    e ∙ sym (ap (λ (k : ℕ). take k (drop at (xs ++ replicate n 0))) size ∙ ap (take (end - at)) d ∙ take-append-le (end - at) (drop at xs) (replicate n 0) (omega arith))
+    let size : length ys ≡ k = ap length e ∙ length-take-le k (drop at xs) (omega arith) in
+    e ∙ sym (ap (λ (m : ℕ). take m (drop at (xs ++ replicate n 0))) size ∙ ap (take k) d ∙ take-append-le k (drop at xs) (replicate n 0) (omega arith))
 
 zeros : (k m : ℕ) → number_of (take k (replicate m 0)) ≡ 0
 zeros zero m = refl
@@ -75,13 +74,17 @@ written_made xs bs n at le =
     rw (take-append-le at xs (replicate n 0) (omega arith), drop-append-le (at + length bs) xs (replicate n 0) le)
     (append_assoc (take at xs) (bs ++ drop (at + length bs) xs) (replicate n 0) ∙ ap (λ (ys : List ℕ). take at xs ++ ys) (append_assoc bs (drop (at + length bs) xs) (replicate n 0)))
 
+pub bytes_put : (old items new bs : List ℕ) (left rest at : ℕ) → new ≡ written items at bs
+    → items ++ replicate rest 0 ≡ old ++ replicate left 0 → at + length bs ≤ length items → new ++ replicate rest 0 ≡ written (old ++ replicate left 0) at bs
+bytes_put old items new bs left rest at e s le =
+    ap (λ (ys : List ℕ). ys ++ replicate rest 0) e ∙ written_made items bs rest at le ∙ ap (λ (ys : List ℕ). written ys at bs) s
+
 pub write_made : (old items new : List ℕ) (left rest at v : ℕ) (width : Width) → new ≡ written items at (bytes_of v (bytes_in width))
     → items ++ replicate rest 0 ≡ old ++ replicate left 0 → at + bytes_in width ≤ length items
     → new ++ replicate rest 0 ≡ written (old ++ replicate left 0) at (bytes_of v (bytes_in width))
 write_made old items new left rest at v width e s le =
     let l = length-bytes_of v (bytes_in width) in
-    ap (λ (ys : List ℕ). ys ++ replicate rest 0) e ∙ written_made items (bytes_of v (bytes_in width)) rest at (omega arith)
-    ∙ ap (λ (ys : List ℕ). written ys at (bytes_of v (bytes_in width))) s
+    bytes_put old items new (bytes_of v (bytes_in width)) left rest at e s (omega arith)
 
 -- ---- more zeros are made
 
@@ -89,8 +92,5 @@ pub zeros_moved : (xs : List ℕ) (more rest left : ℕ) → more + rest ≡ lef
 zeros_moved xs more rest left e =
     append_assoc xs (replicate more 0) (replicate rest 0) ∙ ap (λ (ys : List ℕ). xs ++ ys) (replicate-append-replicate more rest 0 ∙ ap (λ (k : ℕ). replicate k 0) e)
 
-pub zeros_made : (xs new : List ℕ) (end rest left : ℕ) → length xs ≤ end → new ≡ take end xs ++ replicate (end - length xs) 0 → end - length xs + rest ≡ left
-    → new ++ replicate rest 0 ≡ xs ++ replicate left 0
-zeros_made xs new end rest left le e s =
-    ap (λ (ys : List ℕ). ys ++ replicate rest 0) (e ∙ ap (λ (ys : List ℕ). ys ++ replicate (end - length xs) 0) (take_all end xs le))
-    ∙ zeros_moved xs (end - length xs) rest left s
+pub zeros_made : (xs new : List ℕ) (more rest left : ℕ) → new ≡ xs ++ replicate more 0 → more + rest ≡ left → new ++ replicate rest 0 ≡ xs ++ replicate left 0
+zeros_made xs new more rest left e s = ap (λ (ys : List ℕ). ys ++ replicate rest 0) e ∙ zeros_moved xs more rest left s

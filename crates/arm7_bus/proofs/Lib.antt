@@ -1,3 +1,5 @@
+pub mod BlockLemmas
+pub mod BlockSteps
 pub mod ClaimLemmas
 pub mod EdgeLemmas
 pub mod FrameLemmas
@@ -10,3 +12,4 @@ pub mod ProtectLemmas
 pub mod SeatLemmas
 pub mod TestLemmas
 pub mod TickLemmas
+pub mod WriteLemmas

@@ -1,3 +1,4 @@
+pub mod Blocks
 pub mod Buses
 pub mod Lookups
 pub mod Meets

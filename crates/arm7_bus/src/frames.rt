@@ -1,14 +1,15 @@
 //! The bytes of memory, frame after frame.
 
-ghost use Rattle.std.specs.Prelude.{◌≡◌, ℕ, ◌<◌, ◌≤◌, ◌+◌, ◌*◌, ◌%◌, List, [], ◌++◌, length, take, drop, replicate, slice_index, slice_set, vec_len, vec_capacity, IfOk};
-ghost use Rattle.sdt_word.specs.Bytes.{bytes_of, half_in, number_of, word_in, written};
+ghost use Rattle.std.specs.Prelude.{◌≡◌, ℕ, ◌<◌, ◌≤◌, ◌+◌, ◌*◌, ◌%◌, List, [], ◌++◌, length, take, drop, replicate, slice_index, IfOk};
+ghost use Rattle.sdt_word.specs.Bytes.{bytes_of, number_of, written};
 ghost use Rattle.sdt_word.specs.Codes.{bytes_in};
 ghost use Rattle.sdt_word.specs.Numbers.{registers};
 ghost use Rattle.arm7_bus.specs.Paging.{AreFrames};
 ghost use Rattle.arm7_bus.specs.Picks.{picked_bytes};
 
+use crate::block::Block;
 use sdt_fault::NoMemory;
-use sdt_word::{Width, half_at, put_half, put_word, word_at};
+use sdt_word::Width;
 use std::alloc::Global;
 use std::marker::Model;
 
@@ -16,21 +17,20 @@ use std::marker::Model;
 /// them, but bytes are set to 0 only when a byte of their frame, or of a later one, is first written.
 #[derive(Debug, Drop)]
 pub struct Frames {
-    bytes: Vec<u8>,
-    /// How many more bytes there are behind `bytes`, all of them 0.
+    block: Block,
+    /// How many more bytes there are behind those that are made in the block, all of them 0.
     left: usize,
 }
 
 impl Model for Frames {
-    ghost use Rattle.std.specs.Prelude.{ℕ, List, ◌++◌, replicate};
+    ghost use Rattle.std.specs.Prelude.{ℕ, List, ◌++◌, replicate, length};
     ghost use Rattle.arm7_bus.specs.Paging.{AreFrames};
-    ghost use Rattle.std.specs.Prelude.{vec_len, vec_capacity};
 
     ghost Value = { List ℕ };
 
-    ghost view = { λ frames. frames.bytes.items ++ replicate frames.left 0 };
+    ghost view = { λ frames. frames.block.cells.bytes ++ replicate frames.left 0 };
 
-    ghost invariant = { λ frames. AreFrames (vec_len frames.bytes) (vec_capacity frames.bytes) frames.left };
+    ghost invariant = { λ frames. AreFrames (length frames.block.cells.bytes) frames.block.cells.room frames.left };
 }
 
 impl Frames {
@@ -39,7 +39,7 @@ impl Frames {
         ensures { result ≡ [] }
     {
         Frames {
-            bytes: Vec::new(alloc),
+            block: Block::none(alloc),
             left: 0,
         }
     }
@@ -51,7 +51,7 @@ impl Frames {
     {
         let size = 4096 * n as usize;
         Ok(Frames {
-            bytes: Vec::with_capacity(alloc, size)?,
+            block: Block::make(alloc, size)?,
             left: size,
         })
     }
@@ -60,14 +60,14 @@ impl Frames {
     pub fn are_bytes(&self)
         ensures { (k : ℕ) → slice_index self.now k < 256 }
     {
-        each_fits(&self.bytes);
+        self.block.are_bytes();
     }
 
     pub fn read_byte(&self, at: u32) -> u8
         requires { at < length self.now }
         ensures { result ≡ slice_index self.now at }
     {
-        byte_of(&self.bytes, self.left, at as usize)
+        byte_of(&self.block, self.left, at as usize)
     }
 
     /// The bytes from a place on, up to the end of its frame; none where they aren't made yet.
@@ -77,7 +77,7 @@ impl Frames {
         ensures some { length result.now ≡ 0 → slice_index self.now at ≡ 0 }
         ensures within { at % 4096 + length result.now ≤ 4096 }
     {
-        rest_of(&self.bytes, self.left, at as usize)
+        rest_of(&self.block, self.left, at as usize)
     }
 
     /// The bytes of an access, as a number.
@@ -87,7 +87,7 @@ impl Frames {
         requires room { at + bytes_in width ≤ length self.now }
         ensures { result ≡ number_of (take (bytes_in width) (drop at self.now)) }
     {
-        number_at(&self.bytes, self.left, at as usize, width)
+        number_at(&self.block, self.left, at as usize, width)
     }
 
     /// Sets the bytes of an access to the low bytes of a value.
@@ -99,8 +99,8 @@ impl Frames {
         ensures { self.new ≡ written self.old at (bytes_of v (bytes_in width)) }
     {
         let at = at as usize;
-        self.left = zeros_to(&mut self.bytes, self.left, at);
-        put(&mut self.bytes, at, width, v);
+        self.left = zeros_to(&mut self.block, self.left, at);
+        put(&mut self.block, at, width, v);
     }
 
     /// Sets the `n` words from a place of a frame on to those of a table at the places where `list` has a 1.
@@ -113,115 +113,112 @@ impl Frames {
         ensures { self.new ≡ written self.old at (picked_bytes words.now (registers 16 list)) }
     {
         let at = at as usize;
-        self.left = zeros_to(&mut self.bytes, self.left, at);
-        put_picked(&mut self.bytes, at, words, list, n);
+        self.left = zeros_to(&mut self.block, self.left, at);
+        put_picked(&mut self.block, at, words, list, n);
     }
 }
 
 /// The byte at a place, where `_left` zeros follow the bytes.
 #[tactic(auto, using(crate::proofs::FrameLemmas::byte_made, crate::proofs::FrameLemmas::byte_left))]
-fn byte_of(bytes: &[u8], _left: usize, at: usize) -> u8
-    ensures { result ≡ slice_index (bytes.now ++ replicate _left 0) at }
+fn byte_of(block: &Block, _left: usize, at: usize) -> u8
+    ensures { result ≡ slice_index (block.now.cells.bytes ++ replicate _left 0) at }
 {
-    if at < bytes.len() {
-        return bytes[at];
+    if at < block.len() {
+        return block.read_byte(at);
     }
     0
 }
 
 /// The bytes from a place on, up to the end of its frame, where `_left` zeros follow the bytes.
 #[tactic(auto, using(crate::proofs::FrameLemmas::rest_made, crate::proofs::FrameLemmas::byte_left))]
-fn rest_of(bytes: &[u8], _left: usize, at: usize) -> &[u8]
-    requires { length bytes.now % 4096 ≡ 0 }
-    ensures bytes { result.now ≡ take (length result.now) (drop at (bytes.now ++ replicate _left 0)) }
-    ensures some { length result.now ≡ 0 → slice_index (bytes.now ++ replicate _left 0) at ≡ 0 }
+fn rest_of(block: &Block, _left: usize, at: usize) -> &[u8]
+    requires { length block.now.cells.bytes % 4096 ≡ 0 }
+    ensures bytes { result.now ≡ take (length result.now) (drop at (block.now.cells.bytes ++ replicate _left 0)) }
+    ensures some { length result.now ≡ 0 → slice_index (block.now.cells.bytes ++ replicate _left 0) at ≡ 0 }
     ensures within { at % 4096 + length result.now ≤ 4096 }
 {
-    if at >= bytes.len() {
-        return &bytes[..0];
+    if at >= block.len() {
+        return &[];
     }
-    &bytes[at..(at / 4096 + 1) * 4096]
+    block.slice(at, 4096 - at % 4096)
 }
 
 /// The bytes of an access, as a number, where `_left` zeros follow the bytes.
 #[inline(always)]
 #[tactic(auto, using(crate::proofs::FrameLemmas::number_made, crate::proofs::FrameLemmas::number_byte, crate::proofs::FrameLemmas::number_left))]
-fn number_at(bytes: &[u8], _left: usize, at: usize, width: Width) -> u32
-    requires whole { length bytes.now % 4096 ≡ 0 }
+fn number_at(block: &Block, _left: usize, at: usize, width: Width) -> u32
+    requires whole { length block.now.cells.bytes % 4096 ≡ 0 }
     requires aligned { at % bytes_in width ≡ 0 }
-    ensures { result ≡ number_of (take (bytes_in width) (drop at (bytes.now ++ replicate _left 0))) }
+    ensures { result ≡ number_of (take (bytes_in width) (drop at (block.now.cells.bytes ++ replicate _left 0))) }
 {
-    if at >= bytes.len() {
+    if at >= block.len() {
         return 0;
     }
     match width {
-        Width::Byte => u32::from(bytes[at]),
-        Width::Half => u32::from(half_at(bytes, at)),
-        Width::Word => word_at(bytes, at),
+        Width::Byte => u32::from(block.read_byte(at)),
+        Width::Half => u32::from(block.read_half(at)),
+        Width::Word => block.read_word(at),
     }
 }
 
 /// Sets the bytes of an access to the low bytes of a value.
 #[inline(always)]
-fn put(bytes: &mut [u8], at: usize, width: Width, v: u32)
-    requires { at + bytes_in width ≤ length bytes.old }
-    ensures { bytes.new ≡ written bytes.old at (bytes_of v (bytes_in width)) }
+fn put(block: &mut Block, at: usize, width: Width, v: u32)
+    requires { at + bytes_in width ≤ length block.old.cells.bytes }
+    ensures bytes { block.new.cells.bytes ≡ written block.old.cells.bytes at (bytes_of v (bytes_in width)) }
+    ensures count { length block.new.cells.bytes ≡ length block.old.cells.bytes }
+    ensures room { block.new.cells.room ≡ block.old.cells.room }
 {
     match width {
-        Width::Byte => bytes[at] = (v % 256) as u8,
-        Width::Half => put_half(bytes, at, (v % 65536) as u16),
-        Width::Word => put_word(bytes, at, v),
+        Width::Byte => block.write_byte(at, (v % 256) as u8),
+        Width::Half => block.write_half(at, (v % 65536) as u16),
+        Width::Word => block.write_word(at, v),
     }
 }
 
 /// Sets the `n` words from a place on to those of a table at the places where `list` has a 1.
-fn put_picked(bytes: &mut [u8], at: usize, words: &[u32; 16], list: u32, n: u32)
+fn put_picked(block: &mut Block, at: usize, words: &[u32; 16], list: u32, n: u32)
     requires few { list < 65536 }
     requires counted { n ≡ length (registers 16 list) }
-    requires room { at + 4 * n ≤ length bytes.old }
-    ensures { bytes.new ≡ written bytes.old at (picked_bytes words.now (registers 16 list)) }
+    requires room { at + 4 * n ≤ length block.old.cells.bytes }
+    ensures bytes { block.new.cells.bytes ≡ written block.old.cells.bytes at (picked_bytes words.now (registers 16 list)) }
+    ensures count { length block.new.cells.bytes ≡ length block.old.cells.bytes }
+    ensures room { block.new.cells.room ≡ block.old.cells.room }
 {
     if n == 0 {
         return;
     }
-    put_word(bytes, at, words[list.trailing_zeros() as usize]);
-    put_picked(bytes, at + 4, words, list & (list - 1), n - 1);
+    block.write_word(at, words[list.trailing_zeros() as usize]);
+    put_picked(block, at + 4, words, list & (list - 1), n - 1);
 }
 
 /// Makes the zeros up to the end of the frame of a place, where they aren't made yet, of the `left` ones that follow the
 /// bytes; how many are left.
 #[inline(always)]
-fn zeros_to(bytes: &mut Vec<u8>, left: usize, at: usize) -> usize
-    requires frames { AreFrames (vec_len bytes.old) (vec_capacity bytes.old) left }
-    requires within { at < vec_len bytes.old + left }
-    ensures same { bytes.new.items ++ replicate result 0 ≡ bytes.old.items ++ replicate left 0 }
-    ensures frames { AreFrames (vec_len bytes.new) (vec_capacity bytes.new) result }
-    ensures made { at < vec_len bytes.new }
+fn zeros_to(block: &mut Block, left: usize, at: usize) -> usize
+    requires frames { AreFrames (length block.old.cells.bytes) block.old.cells.room left }
+    requires within { at < length block.old.cells.bytes + left }
+    ensures same { block.new.cells.bytes ++ replicate result 0 ≡ block.old.cells.bytes ++ replicate left 0 }
+    ensures frames { AreFrames (length block.new.cells.bytes) block.new.cells.room result }
+    ensures made { at < length block.new.cells.bytes }
 {
-    if at < bytes.len() {
+    if at < block.len() {
         return left;
     }
-    more_zeros(bytes, left, at)
+    more_zeros(block, left, at)
 }
 
 #[cold]
 #[tactic(auto, using(crate::proofs::FrameLemmas::zeros_made))]
-fn more_zeros(bytes: &mut Vec<u8>, left: usize, at: usize) -> usize
-    requires frames { AreFrames (vec_len bytes.old) (vec_capacity bytes.old) left }
-    requires behind { vec_len bytes.old ≤ at }
-    requires within { at < vec_len bytes.old + left }
-    ensures same { bytes.new.items ++ replicate result 0 ≡ bytes.old.items ++ replicate left 0 }
-    ensures frames { AreFrames (vec_len bytes.new) (vec_capacity bytes.new) result }
-    ensures made { at < vec_len bytes.new }
+fn more_zeros(block: &mut Block, left: usize, at: usize) -> usize
+    requires frames { AreFrames (length block.old.cells.bytes) block.old.cells.room left }
+    requires behind { length block.old.cells.bytes ≤ at }
+    requires within { at < length block.old.cells.bytes + left }
+    ensures same { block.new.cells.bytes ++ replicate result 0 ≡ block.old.cells.bytes ++ replicate left 0 }
+    ensures frames { AreFrames (length block.new.cells.bytes) block.new.cells.room result }
+    ensures made { at < length block.new.cells.bytes }
 {
-    let end = (at / 4096 + 1) * 4096;
-    let rest = left - (end - bytes.len());
-    bytes.resize(end, 0).unwrap();
-    rest
-}
-
-fn each_fits(bytes: &[u8])
-    ensures { (k : ℕ) → slice_index bytes.now k < 256 }
-{
-    let _first = bytes.first();
+    let more = (at / 4096 + 1) * 4096 - block.len();
+    block.add_zeros(more);
+    left - more
 }

@@ -1,6 +1,7 @@
 //! Memory and devices of the machine.
 #![tactic(auto)]
 
+mod block;
 mod bus;
 mod devices;
 mod frames;

@@ -1,0 +1,54 @@
+-- `push` makes the next byte. Assumes `Logic`.
+use Rattle.arm7_bus.proofs.BlockSteps.{◌≡◌, ℕ, ◌<◌, ◌+◌, ◌-◌, List, [], ◌∷◌, ◌++◌, length, refl, sym, ap, ◌∙◌, arith, w8, w64, proved, full_share, ftrue, froom, flft, ty_int, named, Val, vunit, fact, tables, ‵, raw, ◌⊛◌, at_ret, ◌$◌, ◌∵◌, !, qed, done, move, keep, drop, use1, use2, split, join, fsplit, fsplit3, fjoin, feq_i, rewrite, suffices, frame, group, whole, sub, look_in, enter, of_opd, unit_lit, bin, load, init, stop, fld, assigns_last, first, blocks, exec, returns, alloc_all, pass_all, free_all, look_at, get, through, sets, env, u8, usize, yes, shows, cell_at, part_at, uint_in, uint_vals, uint_Tells, owns, Ptr, in_a_block, MutRef, mut_vals, mut_Tells, row, plain, nothing, opens, closes, heard, peeks, Stays, walk_of, says, stay_dropped, Goes-dropped, stay_ref, Goes-ref, ends_at, after}
+use Rattle.std.proofs.Common.{suc}
+use Rattle.arm7_bus.proofs.BlockLemmas.{no_room_at_null, room_out, row_snoc, length-snoc}
+use Rattle.arm7_bus.specs.Blocks.{bytes_type, cells_own}
+use Rattle.arm7_bus.specs.contracts.block.Cells.push as f
+use Rattle.arm7_bus.proofs.block.Cells.push.Statement.{statement}
+use Rattle.arm7_bus.proofs.block.Cells.push.Code as code
+use Rattle.arm7_bus.specs.contracts.block.Cells.{the_row as R}
+use Rattle.arm7_bus.proofs.block.Cells.TheLaws.{lowers}
+
+abbrev stayed : Stays f.ended.signature.params f.ended.kept
+stayed = (stay_ref (0 ∷ []) tt (plain (λ _. R)), (stay_dropped _ yes, (stay_dropped _ yes, tt)))
+
+pub push_spec : {M : Type 1} → statement M
+push_spec 𝓤 𝓛 𝓜 𝓡 wired =
+    let c = f.clauses 𝓛 𝓜.mem 𝓡.returns in let W = walk_of 𝓛 f.ended stayed c in let 𝓣 = tables 𝓤 𝓛.H 𝓜 𝓡 𝓡.env in
+    proved 𝓛 f.ended stayed c 𝓜 𝓡
+    (Goes-ref 𝓛 1 0 tt (plain (λ _. R)), (Goes-dropped 𝓛 1 (plain (λ _. usize)) yes (λ κs x w. refl), (Goes-dropped 𝓛 1 (plain (λ _. u8)) yes (λ κs x w. refl), tt)))
+    f.Key.name code.function (code.unfolded 𝓤 𝓛.H 𝓜 𝓡 wired)
+    (λ κs. (mut_vals, (uint_vals w64, (uint_vals w8, tt)))) (λ κs. (mut_Tells (named 0) κs.0 R, (uint_Tells w64, (uint_Tells w8, tt)))) (λ κs qs bounds a _ are.
+    let b = a.0.ref_ptr.0 in let o = a.0.ref_ptr.1 in let h = a.0.now in let i = a.1.0 in let v = a.1.1.0 in let vs = mut_vals a.0 in
+    let y : W.Ghost = ((κs, qs, bounds, a, (vs, (uint_vals w64 i, (uint_vals w8 v, tt)))), tt) in
+    let xs = h.bytes in let ys = xs ++ v ∷ [] in
+    qed 𝓛 (((‵ (flft κs.0 qs.0) ⊛ ‵ ftrue) ⊛ ‵ (owns (MutRef (named 0) κs.0 R ∷ usize ∷ u8 ∷ []) a y.0.4)) ∷ (raw (fact 𝓤 (i ≡ length xs)) ⊛ raw (fact 𝓤 (i < h.room))) ∷ []) ∵
+    move ! (1 ∷ []) $ split ! $ heard ! _ (λ next. heard ! _ (λ some. split ! $ move ! (1 ∷ []) $ fsplit ! $ move ! (1 ∷ []) $ drop ! $ move ! (1 ∷ []) $ split ! $ keep ! (2 ∷ 0 ∷ []) $
+    let long : length ys ≡ suc (length xs) = length-snoc xs v in
+    let new : R.Denot = record { at = h.at; room = h.room; bytes = ys; fits = (omega (arith, h.fits.0), h.fits.1) } in
+    enter ! _ _ _ _ _ $ alloc_all ! (λ l. pass_all ! refl ((tt, tt), ((tt, record { fits = are.1.0.1 }), ((tt, record { fits = are.1.1.0.1 }), tt))) $
+    fsplit3 ! $ move ! (1 ∷ 2 ∷ 3 ∷ []) $ opens ! tt R b o (λ us.
+    move ! (1 ∷ []) $ peeks ! R _ (shows 𝓛 R) h us (λ is. fsplit ! $ move ! (1 ∷ []) $
+    in_a_block ! h.at (λ p. cells_own p h.room xs) (no_room_at_null 𝓛 h.room xs i some) (λ b' o' e. fsplit ! $ move ! (1 ∷ []) $
+    use1 𝓛 (‵ (froom (ty_int w8) b' (length xs + o')) ⊛ ‵ (froom (bytes_type (h.room - suc (length xs))) b' (suc (length xs) + o'))) (room_out 𝓛 h.room (length xs) b' o' (omega arith)) $ split ! $
+    rewrite ! 0 (λ (k : ℕ). ‵ (froom (ty_int w8) b' (k + o'))) (sym next) refl $
+    let word = lowers.val_is h us is ∙ ap (λ (p : Ptr). lowers.lowered (record h { at = p }) ∷ []) e in
+    let Cell = λ (ws : List Val). ‵ (cell_at full_share R.mir ws b o) in
+    rewrite ! 4 Cell word refl $
+    -- [the next byte's room; the room; the bytes; what the fields own; the struct's cell; the open borrow, in three entries]
+    first ! $ blocks ! $
+    sets ! (of_opd ! (load ! (through ! refl (fld ! refl (stop !))) (look_in ! 4 (sub ! 0 refl (whole !))))) refl (tt, tt) $
+    sets ! (bin ! (get ! refl) (get ! refl) tt) refl (tt, tt) $
+    assigns_last ! (of_opd ! (get ! refl)) (through ! refl (stop !)) (init ! 0 refl (tt, record { fits = are.1.1.0.1 })) $
+    exec ! 𝓣.C 𝓣.Λ (env code.Mir.locals l) (after 1 (code.function).body) (at_ret _ (W.post y)) $
+    sets ! (of_opd ! (unit_lit !)) refl (tt, tt) $
+    use1 𝓛 (‵ (part_at u8 full_share v b' (i + o'))) (uint_in 𝓛 full_share w8 v b' (i + o')) $
+    rewrite ! 0 (λ (k : ℕ). ‵ (part_at u8 full_share v b' (k + o'))) next refl $ move ! (2 ∷ 0 ∷ []) $
+    use2 𝓛 (‵ (row u8 full_share ys b' o')) (row_snoc 𝓛 xs v b' o') $
+    rewrite ! 1 (λ (n : ℕ). ‵ (froom (bytes_type (h.room - n)) b' (n + o'))) (sym long) refl $ fjoin ! $
+    rewrite ! 0 (λ (p : Ptr). ‵ (cells_own p h.room ys)) (sym e) refl $ rewrite ! 2 Cell (sym word) refl $
+    move ! (1 ∷ []) $ fjoin ! $ move ! (1 ∷ []) $ closes ! tt R new us b o $
+    returns ! (look_at ! 0 refl) $ free_all ! refl $ move ! (3 ∷ []) $
+    suffices ! _ (ends_at 𝓛 f.ended stayed c y vunit tt (new, (tt, (tt, tt))) (tt, (tt, (tt, tt)))) $ says ! (refl, refl, refl) $
+    group ! 3 $ nothing ! $ nothing ! $ join ! $ nothing ! $ join ! $ move ! (1 ∷ 0 ∷ []) $ join ! $ nothing ! $ move ! (2 ∷ 0 ∷ []) $ join ! $ frame ! $ frame ! $
+    feq_i ! _ (vunit ∷ []) _ refl $ done !)))))))
