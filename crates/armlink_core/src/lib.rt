@@ -9,4 +9,4 @@ mod making;
 mod starting;
 mod symbols;
 
-pub use crate::linking::{link_aif, link_plain, link_scatter};
+pub use crate::linking::{link, link_aif, link_plain, link_scatter};

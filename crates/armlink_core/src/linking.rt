@@ -22,7 +22,12 @@ use sdt_fault::refusal::Refusal;
 use sdt_word::Range32;
 use std::alloc::Global;
 
-fn link(
+/// The image of a form, linked of objects and libraries. The objects of the command line stand first, then the members
+/// that are needed. `ram` has the ranges that can be written, if they are told.
+///
+/// It is what `link_plain` and `link_aif` give for their forms, and what `link_scatter` gives for a description that is
+/// read already, with their refusals. Of a description only its size is asked for, which one that is read has.
+pub fn link(
     alloc: Global,
     objects: Vec<Named<Object>>,
     archives: Vec<Named<Archive>>,
@@ -32,7 +37,7 @@ fn link(
     requires objects { AllByRecursion (λ o. IsValid o.value) objects.items }
     requires archives { AllByRecursion (λ a. IsValidArchive a.value) archives.items }
     requires small { IsSmall kind.now }
-    ensures { Links objects.items archives.items (linking kind.now (option_copied ram.entry)) result }
+    ensures exact { Links objects.items archives.items (linking kind.now (option_copied ram.entry)) result }
 {
     let symbols = region_symbols(alloc, kind)?;
     let linked = select(alloc, objects, archives, Some(symbols.as_slice()))?;

@@ -4,6 +4,7 @@
 pub mod areas;
 pub mod directive_names;
 pub mod directives;
+pub mod evaluating;
 pub mod kinds;
 pub mod known;
 pub mod names;
@@ -19,9 +20,10 @@ pub mod slots;
 pub mod told;
 pub mod value;
 
+pub use crate::evaluating::evaluate;
 pub use crate::known::KnownNames;
 pub use crate::names::Seen;
 pub use crate::read::parse_expr;
 pub use crate::registers::register_named;
 pub use crate::says::parse_directive;
-pub use crate::value::evaluate;
+pub use crate::value::value_seen;

@@ -1,4 +1,4 @@
-//! The value of an expression.
+//! The value of an expression by what a line sees.
 
 ghost use Rattle.std.specs.Prelude.{◌≡◌, [], IfOk, OnOk, if◌then◌else◌};
 ghost use Rattle.std.specs.Option.{option_copied};
@@ -227,10 +227,10 @@ fn value_of(
     ended(alloc, &mut stack)
 }
 
-/// The value of an expression with these names, or the kind of its fault: UnknownWord for a name that isn't there
+/// The value of an expression by the names that are seen, or the kind of its fault: UnknownWord for a name that isn't there
 /// and for a reference to a local label, Constant for a number above 2^32 - 1, Forward for a name that means something
 /// later, WrongType, OutOfRange, DivideByZero, and TooMany for a string of more than `STRING_BYTES` bytes.
-pub fn evaluate(alloc: Global, e: &Expr, seen: &Seen<'_>) -> Result<Value, EvalFault>
+pub fn value_seen(alloc: Global, e: &Expr, seen: &Seen<'_>) -> Result<Value, EvalFault>
     ensures { meaning.Evaluates (seen_names seen.now) e.now.items result }
 {
     match value_of(alloc, seen, e.items.as_slice())? {

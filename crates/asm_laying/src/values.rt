@@ -14,7 +14,7 @@ ghost use Rattle.asm_laying.specs.Reading.{map_after, said_number};
 
 use asm_expr::kinds::earlier;
 use asm_expr::told::told_value;
-use asm_expr::{Seen, evaluate};
+use asm_expr::{Seen, value_seen};
 use asm_model::{DirectiveLine, EvalFault, Expr, RnOperand, Value, What};
 use asm_names::{literal_at, number_at};
 use sdt_fault::NoMemory;
@@ -40,7 +40,7 @@ pub fn value_there(
     requires { IsRead e.now }
     ensures { IfOk result (λ value. value ≡ extents.value_there (seen_names seen.now) e.now) }
 {
-    told_value(evaluate(alloc, e, seen))
+    told_value(value_seen(alloc, e, seen))
 }
 
 /// The number of an expression, or the kind of its fault.

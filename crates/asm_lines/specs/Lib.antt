@@ -1,3 +1,4 @@
 -- Steps of the code.
 pub mod Lengths
+pub mod Scans
 pub mod Steps

@@ -5,7 +5,7 @@ ghost use Rattle.asm_model.specs.Meaning.{Evaluates};
 ghost use Rattle.asm_names.specs.Lines.{line_of};
 
 use crate::lines::PlacedLine;
-use asm_expr::{KnownNames, Seen, evaluate};
+use asm_expr::{KnownNames, Seen, value_seen};
 use asm_model::{EvalFault, Expr, Value};
 use std::alloc::Global;
 
@@ -28,5 +28,5 @@ pub fn final_value(
         map: line.place.map,
         thumb: line.place.thumb,
     };
-    evaluate(alloc, e, &seen)
+    value_seen(alloc, e, &seen)
 }

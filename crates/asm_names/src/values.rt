@@ -6,7 +6,7 @@ ghost use Rattle.asm_names.specs.Steps as steps;
 ghost use Rattle.asm_names.specs.Values.{SeesNumber, SeesLiteral};
 
 use crate::keeping::kept_items;
-use asm_expr::{Seen, evaluate};
+use asm_expr::{Seen, value_seen};
 use asm_model::{EvalFault, Expr, Value};
 use sdt_fault::List;
 use sdt_fault::kinds::LineKind;
@@ -27,7 +27,7 @@ fn number_in(value: Result<Value, EvalFault>) -> Result<u32, EvalFault>
 pub fn number_at(alloc: Global, e: &Expr, seen: &Seen<'_>) -> Result<u32, EvalFault>
     ensures { SeesNumber (seen_names seen.now) e.now.items result }
 {
-    number_in(evaluate(alloc, e, seen))
+    number_in(value_seen(alloc, e, seen))
 }
 
 /// The value of an expression in which names without a value stay names.
@@ -38,7 +38,7 @@ fn kept_value(alloc: Global, e: &Expr, seen: &Seen<'_>) -> Result<Value, EvalFau
     let kept = Expr {
         items: List::from_vec(items),
     };
-    evaluate(alloc, &kept, seen)
+    value_seen(alloc, &kept, seen)
 }
 
 /// Whether a value is the literal, or none is known for want of memory.
@@ -71,7 +71,7 @@ fn place_or_forward(value: Result<Value, EvalFault>) -> Result<Value, EvalFault>
 pub fn literal_at(alloc: Global, e: &Expr, seen: &Seen<'_>) -> Result<Value, EvalFault>
     ensures { SeesLiteral (seen_names seen.now) e.now.items result }
 {
-    let value = evaluate(alloc, e, seen);
+    let value = value_seen(alloc, e, seen);
     if is_settled(&value) {
         return value;
     }

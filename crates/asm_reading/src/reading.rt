@@ -4,7 +4,6 @@ ghost use Rattle.std.specs.Prelude.{◌≡◌, ◌≤◌, length, IfOk, OnOk};
 ghost use Rattle.asm_locals.specs.Naming.{in_names};
 ghost use Rattle.asm_model.specs.Before as states;
 ghost use Rattle.asm_reading.specs.Reading as reading_of;
-ghost use Rattle.asm_reading.specs.Says.{SaysBy};
 ghost use Rattle.said_model.specs.Said.{AllSaid};
 
 use crate::says::said_in;
@@ -54,16 +53,6 @@ fn state_after(thumb: bool, said: &Said) -> bool
         Ok(None) => thumb,
         Err(_) => thumb,
     }
-}
-
-/// What a line of a state says, or the kind that is told of it. A line of 2^32 bytes counts as want of memory.
-fn read_line(alloc: Global, line: &Flat, thumb: bool) -> Result<Said, NoMemory>
-    ensures { IfOk result (λ said. SaysBy thumb line.now said) }
-{
-    if line.text.as_slice().len() > 0xFFFF_FFFF {
-        return Err(NoMemory);
-    }
-    said_in(alloc, thumb, line)
 }
 
 fn unread_line(alloc: Global, line: &Flat, kind: LineKind) -> Result<Unread, NoMemory>
@@ -116,7 +105,7 @@ fn read_as_written(alloc: Global, lines: &[Flat]) -> Result<Reading, NoMemory>
     };
     let mut thumb = false;
     for line in lines {
-        let said = read_line(alloc, line, thumb)?;
+        let said = said_in(alloc, thumb, line)?;
         thumb = state_after(thumb, &said);
         keep(alloc, &mut reading, line, said)?;
     }

@@ -1,6 +1,6 @@
 //! What a line says in its state: nothing, a label alone, a directive, or an instruction or a pseudo-instruction.
 
-ghost use Rattle.std.specs.Prelude.{◌≡◌, ◌<◌, ◌^◌, IfOk, length};
+ghost use Rattle.std.specs.Prelude.{◌≡◌, IfOk};
 ghost use Rattle.std.specs.List.{list_any};
 ghost use Rattle.asm_expr.specs.SentenceSteps.{sentence_of};
 ghost use Rattle.asm_model.specs.Told.{Told};
@@ -115,12 +115,15 @@ fn with_long(tokens: &[Token], said: Said) -> Said
     }
 }
 
-/// What a line of Thumb state says, or one of ARM state.
+/// What a line of Thumb state says, or one of ARM state. A line of 2^32 bytes counts as want of memory.
 pub fn said_in(alloc: Global, thumb: bool, line: &Flat) -> Result<Said, NoMemory>
-    requires { length line.now.text < 2 ^ 32 }
     ensures { IfOk result (λ said. says.SaysBy thumb line.now said) }
 {
-    let Some(tokens) = scan(alloc, line.text.as_slice())? else {
+    let text = line.text.as_slice();
+    if text.len() > 0xFFFF_FFFF {
+        return Err(NoMemory);
+    }
+    let Some(tokens) = scan(alloc, text)? else {
         return Ok(Err(LineKind::Syntax));
     };
     let said = said_by(alloc, thumb, line, tokens.as_slice())?;
@@ -131,9 +134,8 @@ pub fn said_in(alloc: Global, thumb: bool, line: &Flat) -> Result<Said, NoMemory
 /// the first in the order of the kinds is told: Syntax where the line has no tokens, its tokens have no form or its
 /// operation is no word, UnknownWord for an operation word that nothing names, FloatingPoint for a word of the FPA; and
 /// the faults of directives. Registers, the values of expressions, words that a form doesn't have and names beyond the
-/// limit are judged elsewhere.
+/// limit are judged elsewhere. A line of 2^32 bytes counts as want of memory.
 pub fn parse_arm(alloc: Global, line: &Flat) -> Result<Option<Statement>, Fault>
-    requires { length line.now.text < 2 ^ 32 }
     ensures { Told line.now.source line.now.number (says.SaysArm line.now) result }
 {
     let said = said_in(alloc, false, line);
@@ -144,9 +146,8 @@ pub fn parse_arm(alloc: Global, line: &Flat) -> Result<Option<Statement>, Fault>
 /// the first in the order of the kinds is told: Syntax where the line has no tokens, its tokens have no form or its
 /// operation is no word, UnknownWord for an operation word that nothing names in this state, FloatingPoint for a word
 /// of the FPA; and the faults of directives. Registers, the values of expressions, words that a form doesn't have and names
-/// beyond the limit are judged elsewhere.
+/// beyond the limit are judged elsewhere. A line of 2^32 bytes counts as want of memory.
 pub fn parse_thumb(alloc: Global, line: &Flat) -> Result<Option<Statement>, Fault>
-    requires { length line.now.text < 2 ^ 32 }
     ensures { Told line.now.source line.now.number (says.SaysThumb line.now) result }
 {
     let said = said_in(alloc, true, line);

@@ -13,7 +13,7 @@ ghost use Rattle.asm_variables.specs.Valued.{Gives, HasEntries, HasEntry, HasVal
 use crate::expansion::Expansion;
 use asm_expr::known::add_entry;
 use asm_expr::told::{first_told, kind_if, told_value};
-use asm_expr::{KnownNames, Seen, evaluate};
+use asm_expr::{KnownNames, Seen, value_seen};
 use asm_model::{EvalFault, Expr, ExprItem, LaidName, Meaning, UnaryOp, Value};
 use sdt_fault::kinds::LineKind;
 use sdt_fault::{NoMemory, Text};
@@ -232,7 +232,7 @@ fn value_known(
         map: 0,
         thumb: state.thumb,
     };
-    evaluate(alloc, e, &seen)
+    value_seen(alloc, e, &seen)
 }
 
 /// The value of an expression, or the kind of its fault.

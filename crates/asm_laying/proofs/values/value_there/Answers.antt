@@ -6,4 +6,4 @@ use Rattle.asm_laying.proofs.values.value_there.Goals as goal
 pub returns : goal.returns
 returns c =
     c.told_value.ensures (value_there (seen_names c.args.seen.now) c.args.e.now)
-    (value_read (seen_names c.args.seen.now) c.args.e.now c.evaluate.result c.requires c.evaluate.ensures)
+    (value_read (seen_names c.args.seen.now) c.args.e.now c.value_seen.result c.requires c.value_seen.ensures)

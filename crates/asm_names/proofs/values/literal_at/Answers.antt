@@ -5,10 +5,10 @@ use Rattle.asm_names.proofs.values.literal_at.Goals as goal
 
 pub returns-then-is_settled : goal.returns-then-is_settled
 returns-then-is_settled c =
-    sees_settled (seen_names c.args.seen.now) c.args.e.now.items c.evaluate-value.result c.evaluate-value.ensures (sym c.is_settled.ensures ∙ c.if-is_settled.true)
+    sees_settled (seen_names c.args.seen.now) c.args.e.now.items c.value_seen-value.result c.value_seen-value.ensures (sym c.is_settled.ensures ∙ c.if-is_settled.true)
 
 pub returns : goal.returns
 returns c =
     rw c.place_or_forward.ensures
-    (sees_literal (seen_names c.args.seen.now) c.args.e.now.items c.evaluate-value.result c.kept_value.result c.evaluate-value.ensures
+    (sees_literal (seen_names c.args.seen.now) c.args.e.now.items c.value_seen-value.result c.kept_value.result c.value_seen-value.ensures
     (sym c.is_settled.ensures ∙ c.if-is_settled.false) c.kept_value.ensures)

@@ -7,8 +7,8 @@ use Rattle.asm_reading.proofs.says.said_in.Goals as goal
 
 pub returns : goal.returns
 returns c =
-    let found : Tokens c.as_slice.result.now c.in-Some.tokens.items =
-    subst (λ o. MatchOption o (NoTokens c.as_slice.result.now) (λ v. Tokens c.as_slice.result.now v.items)) c.in-Some.is c.in_ok-tokens.ensures in
-    line_said (ReadsBy c.args.thumb) c.args.line.now c.as_slice.result.now c.in-Some.tokens.items c.as_slice-2.result.now c.as_slice-3.result.now
-    c.in_ok-said.said c.with_long.result c.as_slice.ensures found c.as_slice-2.ensures.value c.as_slice-3.ensures.value
+    let found : Tokens c.as_slice-text.result.now c.in-Some.tokens.items =
+    subst (λ o. MatchOption o (NoTokens c.as_slice-text.result.now) (λ v. Tokens c.as_slice-text.result.now v.items)) c.in-Some.is c.in_ok-tokens.ensures in
+    line_said (ReadsBy c.args.thumb) c.args.line.now c.as_slice-text.result.now c.in-Some.tokens.items c.as_slice.result.now c.as_slice-2.result.now
+    c.in_ok-said.said c.with_long.result c.as_slice-text.ensures found c.as_slice.ensures.value c.as_slice-2.ensures.value
     c.in_ok-said.ensures c.with_long.ensures

@@ -11,6 +11,6 @@ returns c =
     let list =
     append-nil _ ∙ append-nil _ ∙ c.in_ok-names.ensures s r
     ∙ ap (λ (is : List ExprItem). items_entries (all_entries c.args.visible s) is) c.as_slice.ensures in
-    with_small c.args.visible s c.args.e.now.items _ c.evaluate.result
+    with_small c.args.visible s c.args.e.now.items _ c.value_seen.result
     (λ i. record { list = list i; area = None; offset = 0; map = 0; thumb = r.thumb i })
-    c.evaluate.ensures
+    c.value_seen.ensures

@@ -1,7 +1,7 @@
 use Rattle.std.proofs.Common.{◌∙◌}
 use Rattle.asm_expr.specs.Seeing.{seen_names}
 use Rattle.asm_expr.proofs.EvalLemmas.{evaluated}
-use Rattle.asm_expr.proofs.value.evaluate.Goals as goal
+use Rattle.asm_expr.proofs.value.value_seen.Goals as goal
 
 pub returns-in-Ok : goal.returns-in-Ok
 returns-in-Ok c ps t d i =
