@@ -1,5 +1,5 @@
 -- Bytes of a block: what a `&` to them holds, and how one is taken out and put back. Assumes `Logic`.
-use Rattle.std.proofs.Common.{◌≡◌, ◌∙◌, ◌^◌, ℕ, zero, suc, ◌<◌, ◌≤◌, ◌+◌, ◌-◌, arith, refl, sym, ap, subst, List, [], ◌∷◌, ◌++◌, length, take, drop, get_or, length-append}
+use Rattle.std.proofs.Common.{◌≡◌, ◌∙◌, ◌^◌, ℕ, zero, suc, ◌<◌, ◌≤◌, ◌+◌, ◌-◌, arith, refl, sym, ap, subst, List, [], ◌∷◌, ◌++◌, length, take, drop, get_or, set, length-append}
 use native.Mathlib.Nat.{not-suc-le-zero}
 use seplogic.Ra.Ura.{Ura}
 use base.Fraction.{full_share}
@@ -11,7 +11,7 @@ use denote.Shadow.{shadow, makes_shadow}
 use types.Logic.{Logic, sem}
 use types.Kit.{Goal, Item, Seq, Soaks, Step, step, ‵, ◌⊛◌, ◌$◌, ◌∵◌, !, qed, by, use1, use2, split, move, keep, rewrite, fsplit, fjoin, fpack, feq_l, feq_i, done}
 use types.Kit.{drop as skip}
-use denote.Index.{row, others, takes, puts_back, place, place_byte}
+use denote.Index.{row, others, takes, puts, puts_back, place, place_byte}
 use denote.Copied.{plain_Copied}
 use denote.Memory.{cell_at, part_at, shared_of, shares, hidden_shr}
 use denote.Opens.{Shut, hide, unhide}
@@ -89,6 +89,12 @@ module _ {M : Type 1} {𝓤 : Ura M} (𝓛 : Logic 𝓤) where
   byte_back q xs i b o inside = qed 𝓛 (‵ (fat q (ty_int w8) b (i + o) (vint w8 (get_or xs i 0))) ∷ ‵ (others (shares u8) q xs i b o) ∷ []) ∵
       use1 𝓛 (‵ (part_at u8 q (get_or xs i 0) b (i + o))) (uint_in 𝓛 q w8 (get_or xs i 0) b (i + o)) $
       rewrite ! 0 (λ (k : ℕ). ‵ (part_at u8 q (get_or xs i 0) b k)) (sym (place_byte o i)) refl $ by ! (puts_back (shares u8) q 𝓛 xs i 0 b o inside)
+
+  -- another byte is put in its place
+  pub byte_put : (xs : List ℕ) (i v b o : ℕ) → i < length xs → ent 𝓤 (sep 𝓤 (sem 𝓛 (fat full_share (ty_int w8) b (i + o) (vint w8 v))) (sem 𝓛 (others (shares u8) full_share xs i b o))) (sem 𝓛 (row u8 full_share (set xs i v) b o))
+  byte_put xs i v b o inside = qed 𝓛 (‵ (fat full_share (ty_int w8) b (i + o) (vint w8 v)) ∷ ‵ (others (shares u8) full_share xs i b o) ∷ []) ∵
+      use1 𝓛 (‵ (part_at u8 full_share v b (i + o))) (uint_in 𝓛 full_share w8 v b (i + o)) $
+      rewrite ! 0 (λ (k : ℕ). ‵ (part_at u8 full_share v b k)) (sym (place_byte o i)) refl $ by ! (puts (shares u8) full_share 𝓛 xs i v b o inside)
 
   module _ (κ : Lft) where
     pub none_lent_at_null : (room : ℕ) (xs : List ℕ) (i : ℕ) → i < length xs → length xs ≤ room → ent 𝓤 (sem 𝓛 (cells_lent null_ptr room xs κ)) (never 𝓤)

@@ -93,6 +93,34 @@ impl Cells {
         unsafe { *self.at.add(i) = v };
     }
 
+    /// Sets two bytes, through one pointer, so that they are one store.
+    #[inline(always)]
+    fn write_two(&mut self, i: usize, a: u8, b: u8)
+        requires { i + 2 ≤ length self.old.bytes }
+        ensures { (self.new.bytes ≡ slice_set (slice_set self.old.bytes i a) (i + 1) b) × (self.new.at ≡ self.old.at) × (self.new.room ≡ self.old.room) }
+    {
+        unsafe {
+            let at = self.at.add(i);
+            *at = a;
+            *at.add(1) = b;
+        }
+    }
+
+    /// Sets four bytes, through one pointer, so that they are one store.
+    #[inline(always)]
+    fn write_four(&mut self, i: usize, a: u8, b: u8, c: u8, d: u8)
+        requires { i + 4 ≤ length self.old.bytes }
+        ensures { (self.new.bytes ≡ slice_set (slice_set (slice_set (slice_set self.old.bytes i a) (i + 1) b) (i + 2) c) (i + 3) d) × (self.new.at ≡ self.old.at) × (self.new.room ≡ self.old.room) }
+    {
+        unsafe {
+            let at = self.at.add(i);
+            *at = a;
+            *at.add(1) = b;
+            *at.add(2) = c;
+            *at.add(3) = d;
+        }
+    }
+
     /// Makes the next byte.
     #[inline(always)]
     fn push(&mut self, i: usize, v: u8)
@@ -246,8 +274,8 @@ impl Block {
         ensures count { length self.new.cells.bytes ≡ length self.old.cells.bytes }
         ensures room { self.new.cells.room ≡ self.old.cells.room }
     {
-        self.write_byte(at, (v % 256) as u8);
-        self.write_byte(at + 1, (v / 256 % 256) as u8);
+        self.cells
+            .write_two(at, (v % 256) as u8, (v / 256 % 256) as u8);
     }
 
     #[inline(always)]
@@ -257,10 +285,13 @@ impl Block {
         ensures count { length self.new.cells.bytes ≡ length self.old.cells.bytes }
         ensures room { self.new.cells.room ≡ self.old.cells.room }
     {
-        self.write_byte(at, (v % 256) as u8);
-        self.write_byte(at + 1, (v / 256 % 256) as u8);
-        self.write_byte(at + 2, (v / 256 / 256 % 256) as u8);
-        self.write_byte(at + 3, (v / 256 / 256 / 256 % 256) as u8);
+        self.cells.write_four(
+            at,
+            (v % 256) as u8,
+            (v / 256 % 256) as u8,
+            (v / 256 / 256 % 256) as u8,
+            (v / 256 / 256 / 256 % 256) as u8,
+        );
     }
 
     /// Makes the next byte.

@@ -1,7 +1,13 @@
+use Rattle.std.proofs.Common.{◌+◌, ◌/◌, ◌%◌, set, refl}
 use Rattle.arm7_bus.proofs.WriteLemmas.{word_set}
 use Rattle.arm7_bus.proofs.block.Block.write_word.Goals as goal
 
 pub returns-clause-bytes : goal.returns-clause-bytes
 returns-clause-bytes c =
-    word_set c.args.self.now.cells.bytes c.write_byte.new.self.cells.bytes c.write_byte-2.new.self.cells.bytes c.write_byte-3.new.self.cells.bytes c.write_byte-4.new.self.cells.bytes
-    c.args.at c.args.v c.requires c.write_byte.ensures.bytes c.write_byte-2.ensures.bytes c.write_byte-3.ensures.bytes c.write_byte-4.ensures.bytes
+    let xs = c.args.self.now.cells.bytes in
+    let at = c.args.at in
+    let v = c.args.v in
+    let one = set xs at (v % 256) in
+    let two = set one (at + 1) (v / 256 % 256) in
+    let three = set two (at + 2) (v / 256 / 256 % 256) in
+    word_set xs one two three c.write_four.new.self.bytes at v c.requires refl refl refl c.write_four.ensures.0
