@@ -17,5 +17,7 @@ pub mod HandlerSteps
 pub mod Interrupt
 pub mod Events
 pub mod BesideStates
+pub mod Interrupted
 pub mod Transparent
-mod Examples
+pub mod Examples
+mod LoopExample
