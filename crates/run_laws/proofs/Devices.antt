@@ -37,7 +37,7 @@ right-false true true e = e
 right-false true false e = refl
 right-false false y e = e
 
-none-at : (ds : List Seat) (a n : ℕ) → 0 < n → seats_have ds a ≡ false → device_at ds a n ≡ None
+pub none-at : (ds : List Seat) (a n : ℕ) → 0 < n → seats_have ds a ≡ false → device_at ds a n ≡ None
 none-at [] a n some h = refl
 none-at (d ∷ ds) a n some h =
     let first = no-access d.base d.size a n some (left-false (has_access d.base d.size a 1) (seats_have ds a) h) in
@@ -50,14 +50,14 @@ none-given s a width e = go (bank_has s.contents.banks a (bytes_in width))
     go true = refl
     go false = rw e refl
 
-read-left : (s : State) (a : ℕ) (width : Width) → device_at s.devices a (bytes_in width) ≡ None → (after_read s a width).devices ≡ s.devices
+pub read-left : (s : State) (a : ℕ) (width : Width) → device_at s.devices a (bytes_in width) ≡ None → (after_read s a width).devices ≡ s.devices
 read-left s a width e = go (bank_has s.contents.banks a (bytes_in width))
   where
     go : (b : Bool) → (cond b s (record s { devices = changed_at seat_read a (bytes_in width) s.devices })).devices ≡ s.devices
     go true = refl
     go false = unchanged seat_read a (bytes_in width) s.devices e
 
-write-left : (s : State) (a : ℕ) (width : Width) (v : ℕ) → device_at s.devices a (bytes_in width) ≡ None → (after_write s a width v).devices ≡ s.devices
+pub write-left : (s : State) (a : ℕ) (width : Width) (v : ℕ) → device_at s.devices a (bytes_in width) ≡ None → (after_write s a width v).devices ≡ s.devices
 write-left s a width v e = go (bank_has s.contents.banks a (bytes_in width)) (is_some (device_at s.devices a (bytes_in width)))
   where
     go : (b d : Bool) → (cond b (record s { contents = store_leaves (store_fault s.contents a (bytes_in width)) s.contents (after_store s.contents a width v) })

@@ -1,5 +1,10 @@
 pub mod Boards
+pub mod BusAlike
+pub mod BusBeside
+pub mod BusExits
 pub mod BusRuns
+pub mod BusStrings
+pub mod BusTwins
 pub mod Devices
 pub mod MadeSteps
 pub mod OneRun

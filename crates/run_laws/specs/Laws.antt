@@ -1,6 +1,7 @@
 -- The laws of runs, as the empty public functions state them. This project's.
 use Rattle.std.specs.Prelude.{◌≡◌, ℕ, ◌≤◌, List, length, take}
 use Rattle.sdt_fault.specs.declared.answer.Stop.{Stop}
+use Rattle.sdt_fault.specs.declared.answer.Stop.TheVariants as stop
 use Rattle.arm7_model.specs.declared.state.ArmState.{ArmState}
 use Rattle.arm7_model.specs.declared.event.Event.{Event}
 use Rattle.arm7_model.specs.Accesses.{Access}
@@ -12,8 +13,11 @@ use Rattle.arm7_core.specs.Machines.{IsStep}
 use Rattle.arm7_transfers.specs.Boards.{board_of, over}
 use Rattle.arm7_transfers.specs.Ready.{IsReady}
 use Rattle.arm7_run.specs.Runs.{Leads, Runs}
+use Rattle.kit_laws.specs.Handler.{IsKit}
+use Rattle.kit_laws.specs.Rules.{KeepsRules}
 use Rattle.run_laws.specs.Boards.{IsBoard}
 use Rattle.run_laws.specs.Devices.{AreOffDevices, lines_for, ticked_for, touches_of}
+use Rattle.run_laws.specs.Silent.{AreSilent, HasWork}
 use Rattle.run_laws.specs.Steps.{AreMade, IsRunOf, Print, StoresAreUsed, given_by, left_by, steps_made}
 
 -- registers and a bus have at most one step
@@ -81,3 +85,13 @@ RunLeavesDevices =
     → (steps : List Stepped) × (length steps ≡ steps_made why made) × AreMade core s steps core' s'
     × (EachStep (AreOffDevices (board_of s)) (accesses_of steps)
     → (s'.devices ≡ ticked_for (steps_made why made) s.devices) × (touches_of s'.devices ≡ touches_of s.devices))
+
+-- where a program with the handler keeps the rules until it exits, and its run over devices ends by Exit, the run over
+-- silent devices ends by Exit too, with the same text
+abbrev pub ExitsAlike : Type 0
+ExitsAlike =
+    (work ack most made : ℕ) (core core_t' : ArmState) (q t t' : State) (text : List ℕ)
+    → IsReady q → IsReady t → AreSilent q.devices → HasWork work ack t.contents → t.contents ≡ q.contents → board_of t ≡ board_of q
+    → IsKit (board_of q) work ack q.contents.memory → IsValidState (over core q) → KeepsRules (board_of q) work (over core q)
+    → Runs most core t stop.Exit made text core_t' t'
+    → (most' : ℕ) × (made' : ℕ) × (core_q' : ArmState) × (q' : State) × Runs most' core q stop.Exit made' text core_q' q'

@@ -1,4 +1,5 @@
 pub mod Boards
 pub mod Devices
 pub mod Steps
+pub mod Silent
 pub mod Laws

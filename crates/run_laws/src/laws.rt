@@ -1,8 +1,9 @@
 //! The laws. Their calls do nothing; their contracts are the laws.
 
-ghost use Rattle.run_laws.specs.Laws.{BoardIsOne, BusRunIsOne, BusRunsAreRuns, BusStepIsOne, DevicesAreLeft, MadeStepsAreOne, RunLeavesDevices, RunsAreBusRuns, StepsAreMade};
+ghost use Rattle.run_laws.specs.Laws.{BoardIsOne, BusRunIsOne, BusRunsAreRuns, BusStepIsOne, DevicesAreLeft, ExitsAlike, MadeStepsAreOne, RunLeavesDevices, RunsAreBusRuns, StepsAreMade};
 
 use arm7_model::{step_is_one, step_is_valid};
+use kit_laws::runs_are_transparent;
 
 /// Registers and a bus have at most one step.
 pub fn bus_step_is_one()
@@ -56,3 +57,10 @@ pub fn devices_are_left()
 pub fn run_leaves_devices()
     ensures { RunLeavesDevices }
 {}
+
+/// Over an interrupt handler, a run that ends by SWI 0x11 over devices ends so over silent ones, with the same text.
+pub fn exits_alike()
+    ensures { ExitsAlike }
+{
+    runs_are_transparent();
+}
