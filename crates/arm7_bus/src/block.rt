@@ -131,7 +131,20 @@ impl Cells {
         unsafe { self.at.add(i).write(v) };
     }
 
-    /// The bytes from `i` up to `end`.
+    /// Makes the next `n` bytes behind those that are made, as zeros.
+    #[tactic(auto, using(crate::proofs::WriteLemmas::zero_more))]
+    fn add_zeros(&mut self, made: usize, n: usize)
+        requires next { made ≡ length self.old.bytes }
+        requires room { made + n ≤ self.old.room }
+        ensures bytes { self.new.bytes ≡ self.old.bytes ++ replicate n 0 }
+        ensures place { (self.new.at ≡ self.old.at) × (self.new.room ≡ self.old.room) }
+    {
+        for k in 0..n {
+            self.push(made + k, 0);
+        }
+    }
+
+    /// The `n` bytes from `i` on.
     #[inline(always)]
     fn slice(&self, i: usize, n: usize) -> &[u8]
         requires some { i < length self.now.bytes }
@@ -294,28 +307,15 @@ impl Block {
         );
     }
 
-    /// Makes the next byte.
-    #[inline(always)]
-    fn push_zero(&mut self)
-        requires { length self.old.cells.bytes < self.old.cells.room }
-        ensures bytes { self.new.cells.bytes ≡ self.old.cells.bytes ++ 0 ∷ [] }
-        ensures room { self.new.cells.room ≡ self.old.cells.room }
-    {
-        let at = self.made;
-        self.made = at + 1;
-        self.cells.push(at, 0);
-    }
-
     /// Makes the next `n` bytes, as zeros.
-    #[tactic(auto, using(crate::proofs::WriteLemmas::zero_more))]
     pub(crate) fn add_zeros(&mut self, n: usize)
         requires { length self.old.cells.bytes + n ≤ self.old.cells.room }
         ensures bytes { self.new.cells.bytes ≡ self.old.cells.bytes ++ replicate n 0 }
         ensures room { self.new.cells.room ≡ self.old.cells.room }
     {
-        for _k in 0..n {
-            self.push_zero();
-        }
+        let made = self.made;
+        self.made = made + n;
+        self.cells.add_zeros(made, n);
     }
 }
 
