@@ -2,7 +2,6 @@
 
 ghost use Rattle.std.specs.Prelude.{◌≡◌, ℕ, List, OnOk};
 ghost use Rattle.std.specs.Str.{bytes_eq};
-ghost use Rattle.place_model.specs.Assignment.{Offer as Selected};
 ghost use Rattle.place_model.specs.declared.scatter.Choice.{Choice as Chosen};
 ghost use Rattle.link_assign.specs.Index.{class_of, finding_in, given, joined_if, same_choice};
 ghost use Rattle.link_assign.specs.Shown.{shown_item, shown_offer};
@@ -64,7 +63,7 @@ fn note_named<'a>(
 pub fn note_choice<'a>(choices: &mut Choices<'a>, offer: &Offer<'a>) -> Result<(), NoMemory>
     ensures { OnOk result ((c : Chosen) → given choices.new c
         ≡ joined_if (same_choice c offer.now.selection.now.choice) (given choices.old c)
-            (shown_offer offer.now)) }
+        (shown_offer offer.now)) }
 {
     let selection = offer.selection;
     match &selection.choice {

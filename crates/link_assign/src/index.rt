@@ -48,7 +48,7 @@ fn note_module<'a>(
 ) -> Result<(), NoMemory>
     ensures { OnOk result ((q : List ℕ) (c : Chosen) → given_by (choices_in modules.new q) c
         ≡ joined_if (bytes_eq q home.now && same_choice c offer.now.selection.now.choice)
-            (given_by (choices_in modules.old q) c) (shown_offer offer.now)) }
+        (given_by (choices_in modules.old q) c) (shown_offer offer.now)) }
 {
     let mut choices = take_choices(alloc, modules, home);
     note_choice(&mut choices, offer)?;
@@ -60,7 +60,7 @@ fn note_module<'a>(
 fn note<'a>(alloc: Global, index: &mut Index<'a>, offer: &Offer<'a>) -> Result<(), NoMemory>
     ensures { OnOk result ((home : Option (List ℕ)) (c : Chosen) → in_index index.new home c
         ≡ joined_if (is_keyed home c (shown_offer offer.now)) (in_index index.old home c)
-            (shown_offer offer.now)) }
+        (shown_offer offer.now)) }
 {
     let selection = offer.selection;
     match &selection.module {
