@@ -193,7 +193,8 @@ pub fn place(
     ensures startup { IfOk result (λ p. IfSome p.boot (StartsInRoot (table_words kind.now
         (contents_of linked.now.objects assigned.now.regions veneers.now)) p)) }
     // Of whole words come whole words.
-    ensures whole { AreWhole kind.now (contents_of linked.now.objects assigned.now.regions veneers.now)
+    ensures whole { AreWhole kind.now
+        (contents_of linked.now.objects assigned.now.regions veneers.now)
         → IfOk result (λ p. AllByRecursion IsWhole p.regions) }
 {
     let input = Input {
