@@ -1,5 +1,7 @@
 mod ContentLemmas
 mod FindingLemmas
+mod IndexLemmas
 mod KeepingLemmas
+mod NotingLemmas
 mod OrderingLemmas
 mod Rows

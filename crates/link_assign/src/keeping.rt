@@ -1,12 +1,14 @@
 //! Which region keeps each area.
 
-ghost use Rattle.std.specs.Prelude.{◌≡◌, ℕ, ◌++◌, map, OnOk, IfOk};
+ghost use Rattle.std.specs.Prelude.{◌≡◌, ℕ, List, ◌++◌, map, OnOk, IfOk};
 ghost use Rattle.std.specs.Option.{option_to_list};
-ghost use Rattle.place_model.specs.Assignment.{assignment_refusal, best, found, kept_by, refused};
+ghost use Rattle.place_model.specs.Assignment.{Offer as Selected, assignment_refusal, best, found, kept_by, refused};
+ghost use Rattle.link_assign.specs.Index.{IsIndexOf};
 ghost use Rattle.link_assign.specs.Keeping.{report_name, AreKept, Judges};
 ghost use Rattle.link_assign.specs.Shown.{kept_in, shown_item, shown_offer};
 
-use crate::finding::{Finding, best_of};
+use crate::finding::Finding;
+use crate::index::{Index, best_of, index_of};
 use crate::items::Item;
 use crate::offers::Offer;
 use aof_object::Object;
@@ -35,21 +37,23 @@ fn object_name(alloc: Global, objects: &[Named<Object>], number: u32) -> Result<
 }
 
 /// Keeps an area in the region of its one best selection.
+#[tactic(auto, using(crate::proofs::KeepingLemmas::nowhere_refused, crate::proofs::KeepingLemmas::unclear_refused, crate::proofs::KeepingLemmas::within_refused))]
 fn keep<'a>(
     alloc: Global,
     objects: &[Named<Object>],
-    offers: &[Offer],
+    index: &Index,
     kept: &mut Vec<Kept<'a>>,
     item: &Item<'a>,
 ) -> Result<(), Fault>
-    ensures judged { Judges result (refused (report_name objects.now item.now.name.object)
-        (shown_item item.now)
-        (found (best (map shown_offer offers.now) (shown_item item.now)))) }
-    ensures kept { OnOk result ((r : ℕ) → kept_in r kept.new.items ≡ kept_in r kept.old.items
+    ensures judged { (offers : List Selected) → IsIndexOf offers index.now
+        → Judges result (refused (report_name objects.now item.now.name.object)
+        (shown_item item.now) (found (best offers (shown_item item.now)))) }
+    ensures kept { (offers : List Selected) → IsIndexOf offers index.now
+        → OnOk result ((r : ℕ) → kept_in r kept.new.items ≡ kept_in r kept.old.items
         ++ option_to_list (kept_by r (shown_item item.now)
-        (found (best (map shown_offer offers.now) (shown_item item.now))))) }
+        (found (best offers (shown_item item.now))))) }
 {
-    match best_of(offers, item) {
+    match best_of(index, item) {
         Finding::Nowhere => Err(Fault::Refused(Refusal::Unassigned {
             object: object_name(alloc, objects, item.name.object)?,
             area: item.area.name.try_clone(alloc)?,
@@ -83,9 +87,10 @@ pub fn keep_all<'a>(
     ensures kept { IfOk result (λ kept. AreKept (map shown_offer offers.now)
         (map shown_item items.now) kept.items) }
 {
+    let index = index_of(alloc, offers)?;
     let mut kept = Vec::new(alloc);
     for item in items {
-        keep(alloc, objects, offers, &mut kept, item)?;
+        keep(alloc, objects, &index, &mut kept, item)?;
     }
     Ok(kept)
 }

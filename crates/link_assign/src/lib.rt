@@ -2,7 +2,9 @@
 #![tactic(auto)]
 
 mod assigning;
+mod choices;
 mod finding;
+mod index;
 mod items;
 mod keeping;
 mod listing;

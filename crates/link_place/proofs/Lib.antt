@@ -6,3 +6,4 @@ pub mod PlacedLemmas
 pub mod AnswerLemmas
 pub mod WritableLemmas
 pub mod PlacingLemmas
+pub mod PromiseLemmas

@@ -5,4 +5,5 @@ pub mod Checks
 pub mod Writable
 pub mod Placings
 pub mod Placed
+pub mod Promises
 pub mod Judgements

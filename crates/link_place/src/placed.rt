@@ -1,16 +1,18 @@
 //! Placing: the layout with the least table, what is wrong with it, and the addresses.
 
-ghost use Rattle.std.specs.Prelude.{◌≡◌, ◌^◌, ◌<◌, ◌≤◌, length, sum_by, IfOk};
+ghost use Rattle.std.specs.Prelude.{◌≡◌, ◌^◌, ◌<◌, ◌≤◌, length, sum_by, IfOk, IfSome};
 ghost use Rattle.std.specs.List.{AllByRecursion};
 ghost use Rattle.std.specs.Option.{option_copied};
 ghost use Rattle.chunk_file.specs.Reading.{Gives};
 ghost use Rattle.place_model.specs.Assignment.{description, described_regions};
-ghost use Rattle.place_model.specs.Plans.{origin_of as model_origin};
+ghost use Rattle.place_model.specs.Laws.{AreWhole};
+ghost use Rattle.place_model.specs.Plans.{origin_of as model_origin, table_words};
 ghost use Rattle.link_items.specs.LinkedItems.{contents_of};
 ghost use Rattle.link_place.specs.Parts.{contents_in, parts_of, piece_count, AreAligned};
 ghost use Rattle.link_place.specs.Checks.{IsLow, IsLowLoad};
 ghost use Rattle.link_place.specs.Placings.{AreFor};
 ghost use Rattle.link_place.specs.Placed.{placed};
+ghost use Rattle.link_place.specs.Promises.{CopiesKeep, HasRoom, IsWhole, RunApart, StartsInRoot};
 ghost use Rattle.link_place.specs.Judgements.{refusal_of_ranges, refusal_of_layout, most_of, IsLeast};
 
 use crate::faults::{conflict, first_overfull, overlap, rootless, too_large};
@@ -178,7 +180,22 @@ pub fn place(
     requires aligned { AreAligned (contents_of linked.now.objects assigned.now.regions veneers.now) }
     requires regions { length (described_regions kind.now) ≤ 64 }
     requires loads { length (description kind.now) ≤ 64 }
-    ensures { Gives result (placed kind.now (option_copied ram.entry) (contents_of linked.now.objects assigned.now.regions veneers.now)) }
+    // What is given is the placement of the plan, or what is refused first of that.
+    ensures exact { Gives result (placed kind.now (option_copied ram.entry)
+        (contents_of linked.now.objects assigned.now.regions veneers.now)) }
+    // No two regions run at one address.
+    ensures apart { IfOk result (λ p. RunApart p.regions) }
+    // What a copy writes no later copy reads.
+    ensures copies { IfOk result (λ p. CopiesKeep p.regions) }
+    // Each region ends at 2^32 or below, and has less than 2^31 bytes.
+    ensures room { IfOk result (λ p. AllByRecursion HasRoom p.regions) }
+    // The startup code and its table are in the first region, which runs where it is loaded.
+    ensures startup { IfOk result (λ p. IfSome p.boot (StartsInRoot (table_words kind.now
+        (contents_of linked.now.objects assigned.now.regions veneers.now)) p)) }
+    // Of whole words come whole words.
+    ensures whole { AreWhole kind.now
+        (contents_of linked.now.objects assigned.now.regions veneers.now)
+        → IfOk result (λ p. AllByRecursion IsWhole p.regions) }
 {
     let input = Input {
         kind,

@@ -9,4 +9,4 @@ place-requires-clause-aligned c = are_aligned c.args.linked.objects c.args.assig
 
 pub make_at-requires-clause-within : goal.make_at-requires-clause-within
 make_at-requires-clause-within c =
-    is_within c.args.kind.now (option_copied c.args.ram) (contents_of c.args.linked.objects c.args.assigned.regions c.as_slice.result.now) c.in_ok-placement.placement c.in_ok-placement.ensures
+    is_within c.args.kind.now (option_copied c.args.ram) (contents_of c.args.linked.objects c.args.assigned.regions c.as_slice.result.now) c.in_ok-placement.placement c.in_ok-placement.ensures.exact
