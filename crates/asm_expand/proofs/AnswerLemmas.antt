@@ -16,7 +16,7 @@ use Rattle.asm_model.specs.Told.{IsBadLine, GivesFault}
 use Rattle.expand_model.specs.declared.operations.Operation.{Operation}
 use Rattle.expand_model.specs.Expands.{Run, Outcome, Expands, Flats, FaultAt, MissingFile, outcome_of, outermost}
 use Rattle.expand_model.specs.States.{State, started}
-use Rattle.expand_model.specs.Steps.{Sources, Context, Stop, Go, Under, got, visit_limit, Over, Closed, Left, Ended, Unclosed, Bad}
+use Rattle.expand_model.specs.Steps.{Sources, Context, Stop, Go, Under, got, visit_limit, Over, Closed, Left, Ended, Cut, Unclosed, Bad}
 use Rattle.expand_model.specs.Steps as model
 use Rattle.asm_expand.specs.declared.engine.Engine.{Engine}
 use Rattle.asm_variables.specs.declared.expansion.Expansion.{Expansion}
@@ -49,6 +49,7 @@ over_end c (Over s) h = ap Flats h.flats
 over_end c (Closed q l s ls) h = absurd h
 over_end c (Left l s) h = absurd h
 over_end c (Ended s) h = absurd h
+over_end c (Cut l) h = absurd h
 over_end c (Unclosed l) h = absurd h
 over_end c (Bad name n k) h = absurd h
 over_end c (model.Missing name) h = absurd h
@@ -58,6 +59,7 @@ ended_end c (Over s) h = absurd h
 ended_end c (Closed q l s ls) h = absurd h
 ended_end c (Left l s) h = absurd h
 ended_end c (Ended s) h = ap Flats h.flats
+ended_end c (Cut l) h = absurd h
 ended_end c (Unclosed l) h = absurd h
 ended_end c (Bad name n k) h = absurd h
 ended_end c (model.Missing name) h = absurd h
@@ -70,6 +72,7 @@ closed_end c o p (Over s) h = absurd h
 closed_end c o p (Closed q l s ls) h = (l, (ls, h.1), refl)
 closed_end c o p (Left l s) h = absurd h
 closed_end c o p (Ended s) h = absurd h
+closed_end c o p (Cut l) h = absurd h
 closed_end c o p (Unclosed l) h = absurd h
 closed_end c o p (Bad name n k) h = absurd h
 closed_end c o p (model.Missing name) h = absurd h
@@ -79,6 +82,7 @@ left_end c p (Over s) h = absurd h
 left_end c p (Closed q l s ls) h = absurd h
 left_end c p (Left l s) h = (l, h.0, refl)
 left_end c p (Ended s) h = absurd h
+left_end c p (Cut l) h = absurd h
 left_end c p (Unclosed l) h = absurd h
 left_end c p (Bad name n k) h = absurd h
 left_end c p (model.Missing name) h = absurd h
@@ -88,9 +92,20 @@ unclosed_end c p (Over s) h = absurd h
 unclosed_end c p (Closed q l s ls) h = absurd h
 unclosed_end c p (Left l s) h = absurd h
 unclosed_end c p (Ended s) h = absurd h
+unclosed_end c p (Cut l) h = absurd h
 unclosed_end c p (Unclosed l) h = (l, h, refl)
 unclosed_end c p (Bad name n k) h = absurd h
 unclosed_end c p (model.Missing name) h = absurd h
+
+cut_end : (c : Expansion) (p : Place) (m : model.End) → IsEnd c (end.Cut p) m → Unpaired p m
+cut_end c p (Over s) h = absurd h
+cut_end c p (Closed q l s ls) h = absurd h
+cut_end c p (Left l s) h = absurd h
+cut_end c p (Ended s) h = absurd h
+cut_end c p (Cut l) h = (l, h, refl)
+cut_end c p (Unclosed l) h = absurd h
+cut_end c p (Bad name n k) h = absurd h
+cut_end c p (model.Missing name) h = absurd h
 
 module _ (sources : Sources) (start : model.Next) where
   done : (g h : Engine) (m : model.End) → h.state ≡ g.state → Run sources outermost start m → Flats g.state.flats.items ≡ outcome_of m
@@ -108,6 +123,9 @@ module _ (sources : Sources) (start : model.Next) where
   outermost_end g h end.Ended r none same ends led =
       let x = led_end sources start g end.Ended none led in
       rw ends (done g h x.0 same x.2 (ended_end g.state x.0 x.1))
+  outermost_end g h (end.Cut p) r none same ends led =
+      let x = led_end sources start g (end.Cut p) none led in
+      rw ends.1 (refused p x.0 ends.0 (cut_end g.state p x.0 x.1) x.2 ends.2)
   outermost_end g h (end.Closed o p) r none same ends led =
       let x = led_end sources start g (end.Closed o p) none led in
       rw ends.1 (refused p x.0 ends.0 (closed_end g.state o p x.0 x.1) x.2 ends.2)
@@ -131,6 +149,7 @@ module _ (sources : Sources) (start : model.Next) where
   bad_told cs at p k e (Closed q l s ls) h is leads bad = absurd h
   bad_told cs at p k e (Left l s) h is leads bad = absurd h
   bad_told cs at p k e (Ended s) h is leads bad = absurd h
+  bad_told cs at p k e (Cut l) h is leads bad = absurd h
   bad_told cs at p k e (Unclosed l) h is leads bad = absurd h
   bad_told cs at p k e (model.Missing name) h is leads bad = absurd h
 

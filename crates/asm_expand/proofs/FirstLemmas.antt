@@ -11,7 +11,7 @@ use Rattle.expand_model.specs.Prototypes.{prototype_of}
 use Rattle.expand_model.specs.States.{State, visited}
 use Rattle.expand_model.specs.Steps.{Sources, Depth, Reads, ReadsText, defined_as, definition, first_line, prototype_line, said_text}
 use Rattle.expand_model.specs.Substitution.{substituted}
-use Rattle.expand_model.specs.Words.{words_of}
+use Rattle.expand_model.specs.Words.{raw_words_of}
 use Rattle.asm_variables.specs.declared.expansion.Expansion.{Expansion}
 use Rattle.asm_expand.specs.declared.places.Place.{Place}
 use Rattle.asm_expand.specs.declared.steps.End.TheVariants as end
@@ -72,6 +72,6 @@ text_at sources d c n at s text (m ∷ ms) l rest h e z sub reads =
     (x.0, rw same x.1, rw (z, same) x.2)
 
 pub definition_is : (l m : Line) (s : State) (rest : List Line) (p : Prototype) → (s.visits == 0) ≡ false
-    → prototype_line (raw_operation m) (prototype_of (words_of m.text)) l (visited s) m rest ≡ defined_as p l (visited s) (taken (s.visits - 1) rest)
+    → prototype_line (raw_operation m) (prototype_of (raw_words_of m.text)) l (visited s) m rest ≡ defined_as p l (visited s) (taken (s.visits - 1) rest)
     → definition l s (m ∷ rest) ≡ defined_as p l (visited s) (taken (s.visits - 1) rest)
 definition_is l m s rest p z h = rw z h

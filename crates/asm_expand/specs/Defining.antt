@@ -14,7 +14,7 @@ use Rattle.expand_model.specs.Pairing.{raw_operation, taken}
 use Rattle.expand_model.specs.Prototypes.{is_repeated, prototype_kinds, prototype_of}
 use Rattle.expand_model.specs.States.{State}
 use Rattle.expand_model.specs.Steps.{Sources, Next, bad, defined_as, prototype_line}
-use Rattle.expand_model.specs.Words.{words_of}
+use Rattle.expand_model.specs.Words.{raw_words_of}
 use Rattle.asm_variables.specs.Maps.{Set, has_name}
 use Rattle.asm_variables.specs.declared.expansion.Definition.{Definition}
 use Rattle.asm_variables.specs.declared.expansion.Expansion.{Expansion}
@@ -68,4 +68,4 @@ read_as (Err k) l s m rest = bad m k
 abbrev pub IsPrototype : Expansion → Line → Result Prototype LineKind → Type 0
 IsPrototype c m read =
     Values c (λ s. (l : Line) (rest : List Line)
-    → prototype_line (raw_operation m) (prototype_of (words_of m.text)) l s m rest ≡ read_as read l s m rest)
+    → prototype_line (raw_operation m) (prototype_of (raw_words_of m.text)) l s m rest ≡ read_as read l s m rest)

@@ -124,6 +124,7 @@ Gets name behind (Some files) result = GetsFrom (content files) name behind resu
 abbrev pub OutermostEnd : End → Result (Option Next) Fault → Type 0
 OutermostEnd end.Over result = result ≡ Ok None
 OutermostEnd end.Ended result = result ≡ Ok None
+OutermostEnd (end.Cut p) result = (e : Fault) × (result ≡ Err e) × IsBadAt p Nesting e
 OutermostEnd (end.Closed o p) result = (e : Fault) × (result ≡ Err e) × IsBadAt p Nesting e
 OutermostEnd (end.Left p) result = (e : Fault) × (result ≡ Err e) × IsBadAt p Nesting e
 OutermostEnd (end.Unclosed p) result = (e : Fault) × (result ≡ Err e) × IsBadAt p Nesting e

@@ -6,7 +6,7 @@ use Rattle.asm_model.specs.Kinds.{earlier}
 use Rattle.expand_model.specs.declared.operations.Opening.{Opening}
 use Rattle.expand_model.specs.Pairing.{skipped}
 use Rattle.expand_model.specs.States.{State}
-use Rattle.expand_model.specs.Steps.{Sources, Context, Condition, Alternative, Loop, Call, File, Over, Closed, Left, Ended, Unclosed, Bad, Stop, Go, Under, got, behind_skipped}
+use Rattle.expand_model.specs.Steps.{Sources, Context, Condition, Alternative, Loop, Call, File, Over, Closed, Left, Ended, Cut, Unclosed, Bad, Stop, Go, Under, got, behind_skipped}
 use Rattle.expand_model.specs.Steps as model
 use Rattle.asm_variables.specs.declared.expansion.Expansion.{Expansion}
 use Rattle.asm_expand.specs.declared.places.Place.{Place}
@@ -40,6 +40,7 @@ IsEnd c end.Over (Over s) = Represents c s
 IsEnd c (end.Closed o p) (Closed q l s ls) = (o ≡ q) × (place_lines p ≡ l ∷ ls) × Represents c s
 IsEnd c (end.Left p) (Left l s) = IsFirst p l × Represents c s
 IsEnd c end.Ended (Ended s) = Represents c s
+IsEnd c (end.Cut p) (Cut l) = IsFirst p l
 IsEnd c (end.Unclosed p) (Unclosed l) = IsFirst p l
 IsEnd c _ _ = ⊥
 

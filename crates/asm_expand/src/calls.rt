@@ -2,6 +2,7 @@
 
 ghost use Rattle.std.specs.Prelude.{◌≡◌, ◌≤◌, ◌++◌, length, IfOk, OnOk};
 ghost use Rattle.std.specs.Option.{option_copied};
+ghost use Rattle.asm_model.specs.Forms as forms;
 ghost use Rattle.asm_model.specs.Kinds.{told_kind};
 ghost use Rattle.expand_model.specs.Prototypes as prototypes;
 ghost use Rattle.expand_model.specs.Steps as model;
@@ -16,9 +17,11 @@ use crate::places::Place;
 use crate::steps::{Depth, Frame, Next};
 use asm_expr::operands::is;
 use asm_expr::told::{first_told, kind_if};
+use asm_lines::bytes::is_digit;
 use asm_variables::expansion::{Definition, Expansion, Scope};
 use asm_variables::maps::put;
 use asm_variables::operands::arguments;
+use asm_variables::prototypes::{is_barred, is_name};
 use asm_variables::words::Words;
 use expand_model::{Parameter, Prototype};
 use indexmap::IndexMap;
@@ -36,17 +39,39 @@ fn takes_label(label: &Option<Text>) -> bool
     }
 }
 
-/// The fault of a call's arguments, of which there are so many.
+/// Whether a text is one digit or two.
+fn is_short(text: &[u8]) -> bool
+    ensures { result ≡ forms.is_short text.now }
+{
+    match text {
+        [first] => is_digit(*first),
+        [first, second] => is_digit(*first) && is_digit(*second),
+        _ => false,
+    }
+}
+
+/// Whether a label field may be a line's label.
+fn is_label(text: &[u8]) -> bool
+    ensures { result ≡ prototypes.is_label text.now }
+{
+    is_name(text) || is_barred(text) || is_short(text)
+}
+
+/// The fault of a call's label field and arguments, of which there are so many.
 #[tactic(auto, using(asm_model::proofs::FaultLemmas::told_by_parts))]
 fn arguments_fault(prototype: &Prototype, words: Words<'_>, count: usize) -> Option<LineKind>
     requires { count ≡ length (arguments words.behind.now) }
     ensures { result ≡ told_kind (prototypes.call_kinds prototype.now (words_shown words.entry)) }
 {
+    let other = is_some_text(words.label) && !is_label(words.label);
     let many = prototype.parameters.as_slice().len() < count;
     let label = is_some_text(words.label) && !takes_label(&prototype.label);
     first_told(
-        kind_if(many, LineKind::BadOperand),
-        kind_if(label, LineKind::BadOperand),
+        kind_if(other, LineKind::Syntax),
+        first_told(
+            kind_if(many, LineKind::BadOperand),
+            kind_if(label, LineKind::BadOperand),
+        ),
     )
 }
 

@@ -17,7 +17,7 @@ use asm_variables::expansion::{Definition, Expansion};
 use asm_variables::maps::{add, is_among};
 use asm_variables::pairing::{Taking, raw_operation, take_body};
 use asm_variables::prototypes::prototype_of;
-use asm_variables::words::words_of;
+use asm_variables::words::raw_words_of;
 use expand_model::{Operation, Parameter, Prototype};
 use indexmap::IndexSet;
 use sdt_fault::kinds::LineKind;
@@ -222,7 +222,7 @@ fn prototype_on(
     if let Some(kind) = word_fault(raw_operation(line)) {
         return Ok(Err(kind));
     }
-    let Some(prototype) = prototype_of(alloc, words_of(line.text.as_slice()))? else {
+    let Some(prototype) = prototype_of(alloc, raw_words_of(line.text.as_slice()))? else {
         return Ok(Err(LineKind::Syntax));
     };
     match prototype_fault(alloc, state, &prototype)? {

@@ -161,6 +161,7 @@ fn outermost(alloc: Global, end: End) -> Result<Option<Next>, Fault>
     match end {
         End::Over => Ok(None),
         End::Ended => Ok(None),
+        End::Cut(place) => Err(bad_at(alloc, &place, LineKind::Nesting)),
         End::Closed(_, place) => Err(bad_at(alloc, &place, LineKind::Nesting)),
         End::Left(place) => Err(bad_at(alloc, &place, LineKind::Nesting)),
         End::Unclosed(place) => Err(bad_at(alloc, &place, LineKind::Nesting)),

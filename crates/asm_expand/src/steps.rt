@@ -39,6 +39,8 @@ pub enum End {
     Left(Place),
     /// At an END.
     Ended,
+    /// At an END, where the word there is the outermost that was open.
+    Cut(Place),
     /// The word there is the outermost that nothing closes.
     Unclosed(Place),
 }

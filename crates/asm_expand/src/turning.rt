@@ -56,7 +56,8 @@ fn turn_condition(
         End::Over => Ok(Next::Stop(End::Unclosed(at))),
         End::Unclosed(_) => Ok(Next::Stop(End::Unclosed(at))),
         End::Left(place) => Ok(Next::Stop(End::Left(place))),
-        End::Ended => Ok(Next::Stop(End::Ended)),
+        End::Ended => Ok(Next::Stop(End::Cut(at))),
+        End::Cut(_) => Ok(Next::Stop(End::Cut(at))),
     }
 }
 
@@ -71,7 +72,8 @@ fn turn_alternative(state: &Expansion, at: Place, end: End) -> Next
         End::Over => Next::Stop(End::Unclosed(at)),
         End::Unclosed(_) => Next::Stop(End::Unclosed(at)),
         End::Left(place) => Next::Stop(End::Left(place)),
-        End::Ended => Next::Stop(End::Ended),
+        End::Ended => Next::Stop(End::Cut(at)),
+        End::Cut(_) => Next::Stop(End::Cut(at)),
     }
 }
 
@@ -136,7 +138,8 @@ fn turn_loop(alloc: Global, state: &Expansion, at: Place, end: End) -> Result<Ne
         End::Over => Ok(Next::Stop(End::Unclosed(at))),
         End::Unclosed(_) => Ok(Next::Stop(End::Unclosed(at))),
         End::Left(place) => Ok(Next::Stop(End::Left(place))),
-        End::Ended => Ok(Next::Stop(End::Ended)),
+        End::Ended => Ok(Next::Stop(End::Cut(at))),
+        End::Cut(_) => Ok(Next::Stop(End::Cut(at))),
     }
 }
 
@@ -159,6 +162,7 @@ fn turn_call(state: &mut Expansion, scope: Scope, behind: Place, end: End) -> Ne
             state.enter(scope);
             Next::Stop(End::Ended)
         }
+        End::Cut(place) => Next::Stop(End::Cut(place)),
         End::Closed(_, word) => Next::Bad(word, LineKind::Nesting),
         End::Unclosed(place) => Next::Bad(place, LineKind::Nesting),
     }
@@ -172,6 +176,7 @@ fn turn_file(state: &Expansion, behind: Place, end: End) -> Next
     match end {
         End::Over => Next::Go(behind),
         End::Ended => Next::Go(behind),
+        End::Cut(place) => Next::Bad(place, LineKind::Nesting),
         End::Left(place) => Next::Bad(place, LineKind::Nesting),
         End::Closed(_, word) => Next::Bad(word, LineKind::Nesting),
         End::Unclosed(place) => Next::Bad(place, LineKind::Nesting),

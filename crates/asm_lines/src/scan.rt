@@ -104,7 +104,7 @@ fn token_at(due: Due, rest: &[u8]) -> Option<(TokenKind, usize)>
 }
 
 /// Whether the first byte is an operation by itself.
-fn starts_operation(rest: &[u8]) -> bool
+pub fn starts_operation(rest: &[u8]) -> bool
     ensures { result ≡ model.is_operation_sign rest.now }
 {
     let Some((first, _)) = rest.split_first() else {

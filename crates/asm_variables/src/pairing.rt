@@ -8,7 +8,7 @@ ghost use Rattle.expand_model.specs.Pairing as model;
 ghost use Rattle.asm_variables.specs.Pairing.{applied, behind_shown, HasEffect, IsBodyPart, Passes, Puts, Shows, ShowsTaken};
 
 use crate::operations::operation_of;
-use crate::words::words_of;
+use crate::words::raw_words_of;
 use asm_model::Line;
 use expand_model::{Opening, Operation};
 use sdt_fault::NoMemory;
@@ -63,7 +63,7 @@ pub enum BodyPart {
 pub fn raw_operation(line: &Line) -> Option<Operation>
     ensures { result ≡ model.raw_operation line.now }
 {
-    operation_of(words_of(line.text.as_slice()).operation)
+    operation_of(raw_words_of(line.text.as_slice()).operation)
 }
 
 /// The same inside a definition, where MACRO and MEND alone count.

@@ -21,7 +21,8 @@ fn is_of_words(text: &[u8]) -> bool
     text.iter().all(|c| is_of(Class::Word, *c))
 }
 
-fn is_name(text: &[u8]) -> bool
+/// Whether a text is a name.
+pub fn is_name(text: &[u8]) -> bool
     ensures { result ≡ forms.is_name text.now }
 {
     let Some((first, _)) = text.split_first() else {
@@ -127,7 +128,8 @@ fn begins_name(text: &[u8]) -> bool
     false
 }
 
-fn is_barred(text: &[u8]) -> bool
+/// Whether a text is a name between bars, with them.
+pub fn is_barred(text: &[u8]) -> bool
     ensures { result ≡ forms.is_barred text.now }
 {
     let Some((first, rest)) = text.split_first() else {

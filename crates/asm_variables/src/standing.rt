@@ -45,7 +45,7 @@ fn closed_width(name: usize, behind: &[u8]) -> usize
 }
 
 /// How many bytes a name between bars has that begins there; 0 where none does.
-pub fn bars_width(first: u8, behind: &[u8]) -> usize
+fn bars_width(first: u8, behind: &[u8]) -> usize
     ensures width { result ≡ model.bars_width first behind.now }
     ensures within { result ≤ length behind.now + 1 }
 {

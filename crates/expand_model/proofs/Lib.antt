@@ -1,3 +1,4 @@
 pub mod Computing
 pub mod Rows
 pub mod RunLemmas
+pub mod WordLemmas

@@ -10,7 +10,7 @@ use Rattle.asm_model.specs.declared.lines.Line.{Line}
 use Rattle.asm_model.specs.Lines.{numbered, first_beyond}
 use Rattle.expand_model.specs.Known.{Operand}
 use Rattle.expand_model.specs.States.{State, started}
-use Rattle.expand_model.specs.Steps.{Sources, Depth, Context, End, Over, Closed, Left, Ended, Unclosed, Bad, Missing, Next, Stop, Go, Under, deeper, Reads, first_line, turn}
+use Rattle.expand_model.specs.Steps.{Sources, Depth, Context, End, Over, Closed, Left, Ended, Cut, Unclosed, Bad, Missing, Next, Stop, Go, Under, deeper, Reads, first_line, turn}
 
 -- where lines end that are read at a place, or under one more construct and then behind it
 pub data Run (sources : Sources) : Depth → Next → End → Type 0 where
@@ -27,11 +27,12 @@ pub data Outcome : Type 0 where
   FaultAt : List ℕ → ℕ → LineKind → Outcome
   MissingFile : List ℕ → Outcome
 
--- what a source's end tells: MEXIT, ELSE, ENDIF and WEND are unpaired there
+-- what a source's end tells: MEXIT, ELSE, ENDIF and WEND are unpaired there, and what END cuts is told at its word
 abbrev pub outcome_of : End → Outcome
 outcome_of (Over s) = Flats s.flats
 outcome_of (Ended s) = Flats s.flats
 outcome_of (Closed o l s rest) = FaultAt l.source l.number Nesting
+outcome_of (Cut l) = FaultAt l.source l.number Nesting
 outcome_of (Left l s) = FaultAt l.source l.number Nesting
 outcome_of (Unclosed l) = FaultAt l.source l.number Nesting
 outcome_of (Bad name n k) = FaultAt name n k

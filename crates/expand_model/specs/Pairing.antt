@@ -10,11 +10,11 @@ use Rattle.expand_model.specs.declared.operations.Opening.TheVariants.{Condition
 use Rattle.expand_model.specs.declared.operations.Operation.{Operation}
 use Rattle.expand_model.specs.declared.operations.Operation.TheVariants.{If, Else, EndIf, While, WEnd, Macro, MEnd}
 use Rattle.expand_model.specs.Operations.{operation_of}
-use Rattle.expand_model.specs.Words.{words_of}
+use Rattle.expand_model.specs.Words.{raw_words_of}
 
 -- the word of expansion on a line as it stands
 abbrev pub raw_operation : Line → Option Operation
-raw_operation l = operation_of (words_of l.text).operation
+raw_operation l = operation_of (raw_words_of l.text).operation
 
 -- what is open behind a line, the innermost first; or that the line closes the outermost, or is its ELSE, or has a word
 -- that is not paired

@@ -4,8 +4,8 @@
 use Rattle.std.specs.Prelude.{ℕ, ◌+◌, List, [], ◌∷◌, ◌++◌, length, take, drop, map, nat_lt, ◌==◌, ◌&&◌, ◌||◌, not, Bool, true, false, if◌then◌else◌, codes, Option, Some, None}
 use Rattle.std.specs.List.{list_any, prefix_len}
 use Rattle.sdt_fault.specs.declared.kinds.LineKind.{LineKind}
-use Rattle.sdt_fault.specs.declared.kinds.LineKind.TheVariants.{BadOperand, DuplicateName, TooMany}
-use Rattle.asm_model.specs.Forms.{same, is_name}
+use Rattle.sdt_fault.specs.declared.kinds.LineKind.TheVariants.{Syntax, BadOperand, DuplicateName, TooMany}
+use Rattle.asm_model.specs.Forms.{same, is_name, is_barred, is_short}
 use Rattle.asm_model.specs.Kinds.{kind_if}
 use Rattle.asm_model.specs.Limits.{name_bytes}
 use Rattle.expand_model.specs.declared.macros.Macro.{Macro}
@@ -105,8 +105,13 @@ abbrev pub takes_label : Option (List ℕ) → Bool
 takes_label None = false
 takes_label (Some name) = true
 
--- more arguments than parameters, or a label that the prototype hasn't
+-- a label field that may be a line's label: a name, a name in bars, or the number of a local label
+abbrev pub is_label : List ℕ → Bool
+is_label s = is_name s || is_barred s || is_short s
+
+-- a label field that is no label, more arguments than parameters, or a label that the prototype hasn't
 abbrev pub call_kinds : Prototype → Words → List LineKind
 call_kinds p w =
-    kind_if (nat_lt (length p.parameters) (length (arguments w.behind))) BadOperand
+    kind_if (not (is_empty w.label) && not (is_label w.label)) Syntax
+    ++ kind_if (nat_lt (length p.parameters) (length (arguments w.behind))) BadOperand
     ++ kind_if (not (is_empty w.label) && not (takes_label p.label)) BadOperand

@@ -32,7 +32,7 @@ use Rattle.expand_model.specs.Pairing as pairing
 use Rattle.expand_model.specs.Prototypes.{prototype_of, prototype_kinds, macro_named, is_long, scope_of, call_kinds}
 use Rattle.expand_model.specs.States.{State, Scope, found, visited, with_scope, locals_of, variable, declared_global, declared_local, with_variable}
 use Rattle.expand_model.specs.Substitution.{substituted}
-use Rattle.expand_model.specs.Words.{words_of, as_name, is_empty, listed, operand_text}
+use Rattle.expand_model.specs.Words.{words_of, raw_words_of, as_name, is_empty, listed, operand_text}
 use Rattle.expand_model.specs.Words as word
 
 -- ---- limits
@@ -81,6 +81,8 @@ pub data End : Type 0 where
   Left : Line → State → End
   -- at an END
   Ended : State → End
+  -- at an END, and the word at this line is the outermost that was open there
+  Cut : Line → End
   -- the word at this line is the outermost that nothing closes
   Unclosed : Line → End
   -- a fault of this file and line
@@ -246,7 +248,7 @@ abbrev pub definition : Line → State → List Line → Next
 definition l s [] = Stop (Unclosed l)
 definition l s (m ∷ rest) =
     if s.visits == 0 then bad m TooMany
-    else prototype_line (raw_operation m) (prototype_of (words_of m.text)) l (visited s) m rest
+    else prototype_line (raw_operation m) (prototype_of (raw_words_of m.text)) l (visited s) m rest
 
 abbrev pub call : Depth → Line → word.Words → State → List Line → Macro → Next
 call d l w s ls m =
@@ -361,12 +363,15 @@ is_while (Err k) = true
 abbrev pub again : Line → List Line → Line → State → Next
 again l ls wend s = if is_while (substituted s l.text) then Go s (l ∷ ls) else bad wend Nesting
 
+-- behind an IF, its ELSE or a WHILE at a line: what is open at an END is cut by it
 abbrev pub behind_condition : Line → End → Next
 behind_condition l (Closed Else m s rest) = behind_skipped l s (skipped opening.Alternative [] s.visits rest)
 behind_condition l (Closed EndIf m s rest) = Go s rest
 behind_condition l (Closed o m s rest) = bad m Nesting
 behind_condition l (Over s) = Stop (Unclosed l)
 behind_condition l (Unclosed m) = Stop (Unclosed l)
+behind_condition l (Ended s) = Stop (Cut l)
+behind_condition l (Cut m) = Stop (Cut l)
 behind_condition l e = Stop e
 
 abbrev pub behind_alternative : Line → End → Next
@@ -374,6 +379,8 @@ behind_alternative l (Closed EndIf m s rest) = Go s rest
 behind_alternative l (Closed o m s rest) = bad m Nesting
 behind_alternative l (Over s) = Stop (Unclosed l)
 behind_alternative l (Unclosed m) = Stop (Unclosed l)
+behind_alternative l (Ended s) = Stop (Cut l)
+behind_alternative l (Cut m) = Stop (Cut l)
 behind_alternative l e = Stop e
 
 abbrev pub behind_turn : Line → List Line → End → Next
@@ -381,6 +388,8 @@ behind_turn l ls (Closed WEnd m s rest) = again l ls m s
 behind_turn l ls (Closed o m s rest) = bad m Nesting
 behind_turn l ls (Over s) = Stop (Unclosed l)
 behind_turn l ls (Unclosed m) = Stop (Unclosed l)
+behind_turn l ls (Ended s) = Stop (Cut l)
+behind_turn l ls (Cut m) = Stop (Cut l)
 behind_turn l ls e = Stop e
 
 -- MEXIT and the end of the body end a call alone, END also its file
@@ -398,6 +407,7 @@ behind_file rest (Ended s) = Go s rest
 behind_file rest (Left m s) = bad m Nesting
 behind_file rest (Closed o m s ls) = bad m Nesting
 behind_file rest (Unclosed m) = bad m Nesting
+behind_file rest (Cut m) = bad m Nesting
 behind_file rest e = Stop e
 
 unfoldable pub turn : Context → End → Next

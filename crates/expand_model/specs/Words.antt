@@ -1,29 +1,62 @@
--- The label field, the operation and what stands behind it, as a line's bytes show them: the label field is the word or
--- the name in bars in column 1, and the operation the next such word, or a sign. ARM SDT 2.50 Reference Guide, chapter
--- on the assembler. This project's: dollars count as bytes of words, and dots in the label field, so that lines can be
--- told apart before they are substituted.
-use Rattle.std.specs.Prelude.{ℕ, ◌+◌, List, [], ◌∷◌, take, drop, reverse, map, nat_lt, ◌==◌, ◌&&◌, ◌||◌, Bool, true, false, if◌then◌else◌, Option, Some, None}
+-- The label field, the operation and what stands behind it. Of a line that is read the label field is its first token, where
+-- the line doesn't begin with a blank, and the operation the next; a line's tokens begin so (`WordsLaw`). ARM SDT 2.50
+-- Reference Guide, chapter on the assembler. This project's: of a line that isn't read the same holds as it stands, but that
+-- dollars count as bytes of words, and dots in the label field, so that it can be told apart before it is substituted.
+use Rattle.std.specs.Prelude.{◌≡◌, ℕ, zero, suc, ◌+◌, List, [], ◌∷◌, length, take, drop, reverse, map, ◌==◌, ◌&&◌, ◌||◌, not, Bool, true, false, if◌then◌else◌, Option, Some, None}
 use Rattle.std.specs.List.{prefix_len}
-use Rattle.asm_model.specs.Forms.{is_blank, is_word, is_name, is_barred}
-use Rattle.asm_model.specs.Says.{between_bars}
-use Rattle.asm_model.specs.Tokens.{blanks}
+use Rattle.std.specs.Option.{is_some}
+use Rattle.asm_model.specs.declared.tokens.Token.{Token}
+use Rattle.asm_model.specs.Forms.{is_blank, is_digit, is_word, is_name, is_barred, form_of}
+use Rattle.asm_model.specs.Parts.{piece}
+use Rattle.asm_model.specs.Says.{between_bars, sentence}
+use Rattle.asm_model.specs.Tokens.{Tokens, blanks, is_operation_sign}
 use Rattle.expand_model.specs.declared.standing.Standing.{Standing}
 use Rattle.expand_model.specs.declared.standing.Standing.TheVariants.{Quoted}
-use Rattle.expand_model.specs.Standing.{Byte, bars_width, before_comment}
+use Rattle.expand_model.specs.Standing.{Byte, before_comment}
 
 pub record Words : Type 0 where
   pub label : List ℕ
   pub operation : List ℕ
   pub behind : List ℕ
 
--- a word of bytes that pass, a name in bars, or one byte
-abbrev pub word_width : (ℕ → Bool) → List ℕ → ℕ
-word_width passes [] = 0
-word_width passes (c ∷ cs) =
-    if c == 59 then 0
-    else if nat_lt 0 (bars_width c cs) then bars_width c cs
-    else if passes c then prefix_len passes cs + 1
-    else 1
+-- how many bytes the longest prefix with a form has, of those of at most n bytes; 0 where none has one
+abbrev pub longest : ℕ → List ℕ → ℕ
+longest zero rest = 0
+longest (suc n) rest = if is_some (form_of (take (suc n) rest)) then suc n else longest n rest
+
+-- how many bytes the token at the front has; 0 where none stands there, as in front of a comment
+unfoldable pub token_width : List ℕ → ℕ
+token_width rest = longest (length rest) rest
+
+-- & = % are operations by themselves; any other is as wide as these tell
+abbrev pub sign_or : (List ℕ → ℕ) → List ℕ → ℕ
+sign_or width rest = if is_operation_sign rest then 1 else width rest
+
+-- a line that begins with a blank has no label
+abbrev pub in_column_1 : (List ℕ → ℕ) → List ℕ → ℕ
+in_column_1 width [] = 0
+in_column_1 width (c ∷ cs) = if is_blank c then 0 else width (c ∷ cs)
+
+abbrev pub without_blanks : List ℕ → List ℕ
+without_blanks rest = drop (blanks rest) rest
+
+-- what stands behind so many bytes and blanks
+abbrev pub behind_width : ℕ → List ℕ → List ℕ
+behind_width n text = without_blanks (drop n text)
+
+-- the words of a line whose label field and operation are as wide as these tell
+abbrev pub words_with : (List ℕ → ℕ) → (List ℕ → ℕ) → List ℕ → Words
+words_with label operation text = record {
+  label = take (label text) text;
+  operation = take (operation (behind_width (label text) text)) (behind_width (label text) text);
+  behind = drop (operation (behind_width (label text) text)) (behind_width (label text) text);
+}
+
+-- of a line that is read
+unfoldable pub words_of : List ℕ → Words
+words_of text = words_with (in_column_1 token_width) (sign_or token_width) text
+
+-- ---- lines that aren't read
 
 abbrev pub is_of_operation : ℕ → Bool
 is_of_operation c = is_word c || c == 36
@@ -31,23 +64,29 @@ is_of_operation c = is_word c || c == 36
 abbrev pub is_of_label : ℕ → Bool
 is_of_label c = is_of_operation c || c == 46
 
--- a line that begins with a blank has no label
-abbrev pub label_width : List ℕ → ℕ
-label_width [] = 0
-label_width (c ∷ cs) = if is_blank c then 0 else word_width is_of_label (c ∷ cs)
+-- a word of bytes that pass, whose first is no digit, or else a token
+abbrev pub raw_width : (ℕ → Bool) → List ℕ → ℕ
+raw_width passes [] = 0
+raw_width passes (c ∷ cs) =
+    if passes c && not (is_digit c) then prefix_len passes cs + 1 else token_width (c ∷ cs)
 
-abbrev pub without_blanks : List ℕ → List ℕ
-without_blanks rest = drop (blanks rest) rest
+-- of a line that isn't read
+unfoldable pub raw_words_of : List ℕ → Words
+raw_words_of text = words_with (in_column_1 (raw_width is_of_label)) (sign_or (raw_width is_of_operation)) text
 
-abbrev pub behind_label : List ℕ → List ℕ
-behind_label text = without_blanks (drop (label_width text) text)
+-- ---- tokens
 
-unfoldable pub words_of : List ℕ → Words
-words_of text = record {
-  label = take (label_width text) text;
-  operation = take (word_width is_of_operation (behind_label text)) (behind_label text);
-  behind = drop (word_width is_of_operation (behind_label text)) (behind_label text);
-}
+-- the bytes of a token, where it is there
+abbrev pub maybe_piece : List ℕ → Option Token → List ℕ
+maybe_piece text None = []
+maybe_piece text (Some t) = piece text t
+
+-- the label field and the operation of a line with tokens are those of its tokens
+abbrev pub WordsLaw : Type 0
+WordsLaw =
+    (text : List ℕ) (ts : List Token) → Tokens text ts
+    → ((words_of text).label ≡ maybe_piece text (sentence ts).label)
+    × ((words_of text).operation ≡ maybe_piece text (sentence ts).operation)
 
 -- ---- names and operands
 

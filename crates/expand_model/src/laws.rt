@@ -1,6 +1,7 @@
-//! The law of the definitions, as the contract of an empty function.
+//! The laws of the definitions, as contracts of empty functions.
 
 ghost use Rattle.expand_model.specs.Expands.{ExpansionLaw};
+ghost use Rattle.expand_model.specs.Words.{WordsLaw};
 
 use asm_expr::read::one_parse;
 use asm_lines::scan::one_scan;
@@ -12,3 +13,8 @@ pub fn expansion_law()
     one_scan();
     one_parse();
 }
+
+/// The words of a line that has tokens are its first tokens.
+pub fn words_law()
+    ensures { WordsLaw }
+{}

@@ -1,5 +1,5 @@
 //! Expansion: which flat lines a source is, once its variables, conditions, loops, macros and files are taken away.
-//! Definitions and their law; there is no engine.
+//! Definitions and their laws; there is no engine.
 #![tactic(auto)]
 
 mod laws;
@@ -7,7 +7,7 @@ pub mod macros;
 pub mod operations;
 pub mod standing;
 
-pub use crate::laws::expansion_law;
+pub use crate::laws::{expansion_law, words_law};
 pub use crate::macros::{Macro, Parameter, Prototype};
 pub use crate::operations::{Opening, Operation, Sort};
 pub use crate::standing::Standing;
