@@ -1,8 +1,8 @@
 -- One source to one object, or its first fault. A source is judged in passes: its expansion, what its flat lines say and
 -- their layout, and its values. The first pass with a fault counts, in it the first line, and there the first kind. SDT
 -- 2.50 Reference Guide, chapter on the assembler; the order of faults and the limit are this project's.
-use Rattle.std.specs.Prelude.{◌≡◌, ◌⊎◌, ℕ, ◌^◌, ◌<◌, ◌≤◌, ◌==◌, ◌&&◌, List, [], length, drop, codes, Bool, if◌then◌else◌, Option, Some, None, Result, Ok, Err}
-use Rattle.std.specs.List.{list_any, prefix_len}
+use Rattle.std.specs.Prelude.{◌≡◌, ◌⊎◌, ℕ, ◌^◌, ◌<◌, ◌≤◌, ◌==◌, ◌&&◌, List, [], length, codes, Bool, if◌then◌else◌, Option, Some, None, Result, Ok, Err}
+use Rattle.std.specs.List.{list_any}
 use Rattle.sdt_fault.specs.declared.answer.Fault.{Fault}
 use Rattle.sdt_fault.specs.declared.answer.Fault.TheVariants as fault
 use Rattle.sdt_fault.specs.declared.kinds.LineKind.{LineKind}
@@ -16,7 +16,7 @@ use Rattle.asm_layout.specs.Front.{front_laid}
 use Rattle.asm_model.specs.declared.lines.Flat.{Flat}
 use Rattle.asm_model.specs.declared.statements.Statement.{Statement}
 use Rattle.asm_model.specs.Directives.{or_else}
-use Rattle.asm_model.specs.Forms.{same, is_digit}
+use Rattle.asm_model.specs.Forms.{same}
 use Rattle.asm_model.specs.Kinds.{earlier}
 use Rattle.asm_model.specs.Laid.{reversed}
 use Rattle.asm_model.specs.Tokens.{is_called}
@@ -25,7 +25,7 @@ use Rattle.asm_reading.specs.declared.reading.Unread.{Unread}
 use Rattle.asm_reading.specs.Reading.{IsReading}
 use Rattle.expand_model.specs.Expands.{Outcome, Flats, FaultAt, MissingFile, Expands}
 use Rattle.expand_model.specs.Steps.{Sources, visit_limit}
-use Rattle.expand_model.specs.Words.{Words, words_of, is_empty}
+use Rattle.expand_model.specs.Words.{words_of}
 use Rattle.source_model.specs.Objects.{IsObject}
 use Rattle.source_model.specs.SourceFaults.{layout_faults, value_faults}
 
@@ -39,17 +39,9 @@ most_bytes = 2 ^ 24
 abbrev pub said_by : Reading → List Statement
 said_by r = reversed r.statements.items []
 
--- the word of a line's operation, as its bytes show it; behind the number of a local label no blank is needed
-abbrev pub word_behind : Words → List ℕ
-word_behind w = if is_empty w.label then w.operation else w.label
-
-abbrev pub operation_word : List ℕ → List ℕ
-operation_word text =
-    if prefix_len is_digit text == 0 then (words_of text).operation else word_behind (words_of (drop (prefix_len is_digit text) text))
-
 -- whether a line's operation is AREA, also where the line can't be read
 abbrev pub says_area : Flat → Bool
-says_area f = is_called (codes "AREA") (operation_word f.text)
+says_area f = is_called (codes "AREA") (words_of f.text).operation
 
 -- ---- its faults
 

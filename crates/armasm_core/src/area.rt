@@ -10,7 +10,6 @@ ghost use Rattle.armasm_core.specs.Assembling as assembling;
 ghost use Rattle.armasm_core.specs.Passes.{IsToldAs};
 
 use asm_expr::kinds::earlier;
-use asm_lines::bytes::{Class, run_len};
 use asm_model::{Flat, bad_line, is_called};
 use asm_variables::words::words_of;
 use sdt_fault::Text;
@@ -19,27 +18,11 @@ use sdt_fault::kinds::LineKind;
 use sdt_fault::refusal::Refusal;
 use std::alloc::Global;
 
-/// The word of a line's operation; behind the number of a local label no blank is needed.
-fn operation_word(text: &[u8]) -> &[u8]
-    ensures { result.now ≡ assembling.operation_word text.now }
-{
-    let digits = run_len(text, Class::Digit);
-    if digits == 0 {
-        return words_of(text).operation;
-    }
-    let words = words_of(&text[digits..]);
-    if words.label.is_empty() {
-        words.operation
-    } else {
-        words.label
-    }
-}
-
 /// Whether a line's operation is AREA, also where the line can't be read.
 fn says_area(flat: &Flat) -> bool
     ensures { result ≡ assembling.says_area flat.now }
 {
-    is_called(b"AREA", operation_word(flat.text.as_slice()))
+    is_called(b"AREA", words_of(flat.text.as_slice()).operation)
 }
 
 /// Whether a line of these begins an area.
