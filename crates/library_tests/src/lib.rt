@@ -1,9 +1,11 @@
 //! Tests of libraries, of what no command reaches: the bus and its devices, the startup code, the selection of members,
-//! maps that are written, and encoders.
+//! maps that are written, encoders, lines one by one, and expressions with lists of names.
 #![tactic(auto)]
 
 #[cfg(test)]
 mod buses;
+#[cfg(test)]
+mod calls;
 #[cfg(test)]
 mod devices;
 #[cfg(test)]
