@@ -10,7 +10,7 @@ use Rattle.sdt_fault.specs.declared.refusal.Refusal.TheVariants.{BadLine, Missin
 use Rattle.sdt_outside.specs.Files.{Files, content}
 use Rattle.aof_object.specs.declared.records.Object.{Object}
 use Rattle.aof_object.specs.Validity.{IsValid}
-use Rattle.asm_expand.specs.Leading.{Caused, IsFault, IsToldBy, OfFiles}
+use Rattle.asm_expand.specs.Leading.{Caused, IsFault, IsReadOf, IsToldBy, OfFiles}
 use Rattle.asm_layout.specs.Front.{front_laid}
 use Rattle.asm_model.specs.declared.lines.Flat.{Flat}
 use Rattle.asm_model.specs.declared.statements.Statement.{Statement}
@@ -19,6 +19,7 @@ use Rattle.asm_reading.specs.declared.reading.Reading.{Reading}
 use Rattle.asm_reading.specs.declared.reading.Unread.{Unread}
 use Rattle.asm_reading.specs.Reading.{IsReading}
 use Rattle.expand_model.specs.Expands.{Outcome, Flats, FaultAt, MissingFile, Expands, ExpansionLaw}
+use Rattle.expand_model.specs.Gets.{GetsFile}
 use Rattle.expand_model.specs.Steps.{visit_limit}
 use Rattle.source_model.specs.SourceFaults.{layout_faults, value_faults}
 use Rattle.stand_model.specs.Placed.{HoldsWherePlaced}
@@ -44,7 +45,7 @@ pub assembled : (told : Option Files) (name text : List ℕ) (flats : List Flat)
     → OfFiles told (λ sources. Expands sources visit_limit name text (Flats flats)) → FlatsGive name flats x → Assembles told name text x
 assembled told name text flats (Ok o) short expands made = inr (short, Flats flats, may_expand told name text (Flats flats) expands, made)
 assembled told name text flats (Err (fault.Refused r)) short expands made = inr (short, Flats flats, may_expand told name text (Flats flats) expands, made)
-assembled told name text flats (Err (fault.ReadFault file)) short expands made = tt
+assembled told name text flats (Err (fault.ReadFault file)) short expands made = absurd made
 assembled told name text flats (Err fault.NoMemory) short expands made = tt
 
 -- each fault is of a line
@@ -100,13 +101,15 @@ told_made name (Missing file) o h = subst (λ (p : Outcome). OutcomeMakes name p
 told_made name r o h = absurd h
 
 pub refused : (told : Option Files) (rose : Type 0) (name text : List ℕ) (e : Fault) → length text ≤ most_bytes
-    → OfFiles told (λ sources. IsFault e (λ o. Expands sources visit_limit name text o)) → Caused e told rose → Assembles told name text (Err e)
-refused told rose name text (fault.ReadFault file) short h cause = tt
-refused told rose name text fault.NoMemory short h cause = tt
-refused None rose name text (fault.Refused (BadLine file n k)) short h cause = inr (short, FaultAt file n k, tt, refl)
-refused None rose name text (fault.Refused (Missing file)) short h cause = inr (short, MissingFile file, tt, refl)
-refused None rose name text (fault.Refused r) short h cause = absurd cause
-refused (Some files) rose name text (fault.Refused r) short h cause = inr (short, h.0, h.1, told_made name r h.0 h.2)
+    → OfFiles told (λ sources. IsFault e (λ o. Expands sources visit_limit name text o)) → OfFiles told (λ sources. IsReadOf e (GetsFile sources visit_limit name text))
+    → Caused e told rose → Assembles told name text (Err e)
+refused None rose name text (fault.ReadFault file) short h gets cause = tt
+refused (Some files) rose name text (fault.ReadFault file) short h gets cause = (short, gets)
+refused told rose name text fault.NoMemory short h gets cause = tt
+refused None rose name text (fault.Refused (BadLine file n k)) short h gets cause = inr (short, FaultAt file n k, tt, refl)
+refused None rose name text (fault.Refused (Missing file)) short h gets cause = inr (short, MissingFile file, tt, refl)
+refused None rose name text (fault.Refused r) short h gets cause = absurd cause
+refused (Some files) rose name text (fault.Refused r) short h gets cause = inr (short, h.0, h.1, told_made name r h.0 h.2)
 
 pub caused : (told : Option Files) (rose : Type 0) (e : Fault) → Caused e told rose → IsCaused told rose e
 caused told rose (fault.Refused (Missing file)) h = h

@@ -24,6 +24,7 @@ use Rattle.asm_reading.specs.declared.reading.Reading.{Reading}
 use Rattle.asm_reading.specs.declared.reading.Unread.{Unread}
 use Rattle.asm_reading.specs.Reading.{IsReading}
 use Rattle.expand_model.specs.Expands.{Outcome, Flats, FaultAt, MissingFile, Expands}
+use Rattle.expand_model.specs.Gets.{GetsFile}
 use Rattle.expand_model.specs.Steps.{Sources, visit_limit}
 use Rattle.expand_model.specs.Words.{words_of}
 use Rattle.source_model.specs.Objects.{IsObject}
@@ -113,11 +114,16 @@ AssembledFrom told name text made = MakesBy (MayExpand told name text) name text
 
 -- ---- a call
 
--- what a call answers; a file that could not be read, and want of memory, tell nothing of the source
+-- a file that the source gets, by the files that a store tells; where it tells none, it may be any
+abbrev pub MayGet : Option Files → List ℕ → List ℕ → List ℕ → Type 0
+MayGet None name text file = Unit {0}
+MayGet (Some files) name text file = (length text ≤ most_bytes) × GetsFile (content files) visit_limit name text file
+
+-- what a call answers; a file that could not be read is one that the source gets; want of memory tells nothing of it
 abbrev pub Assembles : Option Files → List ℕ → List ℕ → Result Object Fault → Type 0
 Assembles told name text (Ok o) = AssembledFrom told name text (Ok o)
 Assembles told name text (Err (fault.Refused r)) = AssembledFrom told name text (Err r)
-Assembles told name text (Err (fault.ReadFault file)) = Unit {0}
+Assembles told name text (Err (fault.ReadFault file)) = MayGet told name text file
 Assembles told name text (Err fault.NoMemory) = Unit {0}
 
 -- an error has its cause, where the count of read faults rose as told: a file is missing, or a read failed

@@ -61,7 +61,7 @@ fn assemble_flats(alloc: Global, source: &Text, flats: &[Flat]) -> Result<Object
 
 /// Assembles the text of the source of this name, with the files that its GETs name. A refusal is `TooLarge` for a text of
 /// more than `MOST_BYTES` bytes, `BadLine` at the first line at fault, or `Missing` of a file that isn't there; `ReadFault`
-/// names a file whose read failed. Wherever the object is placed, the statements of the text stand.
+/// names a file whose read failed, which a GET names that is reached. Wherever the object is placed, the statements of the text stand.
 pub fn assemble<S: Store>(
     alloc: Global,
     source: &Text,

@@ -27,7 +27,7 @@ use Rattle.asm_expand.specs.declared.steps.Frame.{Frame}
 use Rattle.asm_expand.specs.declared.steps.Next.{Next}
 use Rattle.asm_expand.specs.declared.steps.Next.TheVariants as next
 use Rattle.asm_variables.specs.Expanding.{Represents}
-use Rattle.asm_expand.specs.Leading.{IsBadAt, IsFault, IsLed, Caused, Gets, IsRefusal, LedOn, IsToldBy, OfFiles, OutermostEnd, RunsTo, Starts, StepsTo, GetsFrom}
+use Rattle.asm_expand.specs.Leading.{IsBadAt, IsFault, IsLed, Caused, Gets, IsReadOf, IsRefusal, LedOn, IsToldBy, OfFiles, OutermostEnd, RunsTo, Starts, StepsTo, GetsFrom}
 use Rattle.asm_expand.specs.Places.{place_lines}
 use Rattle.asm_expand.specs.Saying.{IsBad, IsEnd, IsFirst, Shows, most_flats}
 use Rattle.asm_expand.specs.Unwinding.{Leads}
@@ -40,7 +40,7 @@ back_one xs fs f e = ap (λ (ys : List Frame). reverse ys) e ∙ reverse-append 
 pub led_on : (told : Option Files) (g h : Engine) (n : Next) (r : Result (Option Next) Fault)
     → ((sources : Sources) (start : model.Next) → IsLed sources start g n → StepsTo sources start h r) → LedOn told g n h r
 led_on None g h n r f = tt
-led_on (Some files) g h n r f = λ start. f (content files) start
+led_on (Some files) g h n r f = λ sources start alike. f sources start
 
 -- ---- ends
 
@@ -202,8 +202,8 @@ as_step (Err e) = Err e
 
 pub get_led : (told : Option Files) (g : Engine) (name : List ℕ) (p : Place) (r : Result Next Fault) → Gets name p told r → LedOn told g (next.Get name p) g (as_step r)
 get_led None g name p r h = tt
-get_led (Some files) g name p (Ok n) h = λ start is_led. led_get (content files) start g name p n h is_led
-get_led (Some files) g name p (Err e) h = λ start is_led. get_told (content files) start g name p e h is_led
+get_led (Some files) g name p (Ok n) h = λ sources start alike is_led. led_get sources start g name p n (h sources alike) is_led
+get_led (Some files) g name p (Err e) h = λ sources start alike is_led. get_told sources start g name p e (h sources alike) is_led
 
 pub bad_refusal : (name : List ℕ) (n : ℕ) (k : LineKind) (e : Fault) → IsBadLine name n k e → IsRefusal e
 bad_refusal name n k (fault.Refused r) h = rw h tt
@@ -219,6 +219,15 @@ refusal_caused fault.NoMemory told rose h = tt
 pub end_caused : (r : Result (Option Next) Fault) (told : Option Files) (rose : Type 0) → IfErr r (λ e. IsRefusal e) → IfErr r (λ e. Caused e told rose)
 end_caused (Ok n) told rose h = tt
 end_caused (Err e) told rose h = refusal_caused e told rose h
+
+pub refusal_reads : (e : Fault) (Has : List ℕ → Type 0) → IsRefusal e → IsReadOf e Has
+refusal_reads (fault.Refused r) Has h = tt
+refusal_reads (fault.ReadFault q) Has h = absurd h
+refusal_reads fault.NoMemory Has h = tt
+
+pub end_reads : (r : Result (Option Next) Fault) (Has : List ℕ → Type 0) → IfErr r (λ e. IsRefusal e) → IfErr r (λ e. IsReadOf e Has)
+end_reads (Ok n) Has h = tt
+end_reads (Err e) Has h = refusal_reads e Has h
 
 -- ---- the beginning
 
@@ -254,3 +263,12 @@ split_refused sources name text (fault.Refused r) h = by (first_beyond 1 (lines 
         let g = rw e at h in
         let is : r ≡ refusal.BadLine name n TooMany = cc in
         (FaultAt name n TooMany, rw e refl, rw is refl)
+
+pub split_reads : (name text : List ℕ) (e : Fault) (Has : List ℕ → Type 0) → GivesFault (split name text) e → IsReadOf e Has
+split_reads name text (fault.Refused r) Has h = tt
+split_reads name text fault.NoMemory Has h = tt
+split_reads name text (fault.ReadFault q) Has h = by (first_beyond 1 (lines text)) refl
+  where
+    by : (o : Option ℕ) → first_beyond 1 (lines text) ≡ o → Has q
+    by None e = let g = rw e at h in absurd (cc)
+    by (Some n) e = let g = rw e at h in absurd (cc)

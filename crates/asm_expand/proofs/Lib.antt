@@ -3,6 +3,7 @@ pub mod DefiningLemmas
 pub mod EngineLemmas
 pub mod PlainLemmas
 pub mod FirstLemmas
+pub mod GetLemmas
 pub mod ReadingLemmas
 pub mod SayingLemmas
 pub mod ScanningLemmas

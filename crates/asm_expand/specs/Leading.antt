@@ -1,5 +1,5 @@
 -- What the engine has of a run, and what it answers. This project's.
-use Rattle.std.specs.Prelude.{◌≡◌, ℕ, ◌+◌, ◌*◌, ◌<◌, List, [], ◌∷◌, ◌++◌, length, reverse, Option, Some, None, Result, Ok, Err}
+use Rattle.std.specs.Prelude.{◌≡◌, ◌⊎◌, ℕ, ◌+◌, ◌*◌, ◌<◌, List, [], ◌∷◌, ◌++◌, length, reverse, Option, Some, None, Result, Ok, Err}
 use Rattle.sdt_fault.specs.declared.answer.Fault.{Fault}
 use Rattle.sdt_fault.specs.declared.answer.Fault.TheVariants as fault
 use Rattle.sdt_fault.specs.declared.kinds.LineKind.{LineKind}
@@ -10,6 +10,7 @@ use Rattle.sdt_outside.specs.Files.{Files, content, IsMissing}
 use Rattle.asm_model.specs.declared.lines.Line.{Line}
 use Rattle.asm_model.specs.Told.{IsBadLine}
 use Rattle.expand_model.specs.Expands.{Run, Outcome, Flats, FaultAt, MissingFile, outcome_of, outermost}
+use Rattle.expand_model.specs.Gets.{without}
 use Rattle.expand_model.specs.States.{State, started}
 use Rattle.expand_model.specs.Steps.{Sources, Context, Stop, got, visit_limit}
 use Rattle.expand_model.specs.Steps as model
@@ -38,6 +39,11 @@ abbrev pub IsFault : Fault → (Outcome → Type 0) → Type 0
 IsFault (fault.Refused r) Has = (o : Outcome) × Has o × IsToldBy r o
 IsFault (fault.ReadFault name) Has = Unit {0}
 IsFault fault.NoMemory Has = Unit {0}
+
+-- a read that failed is of such a file
+abbrev pub IsReadOf : Fault → (List ℕ → Type 0) → Type 0
+IsReadOf (fault.ReadFault name) Has = Has name
+IsReadOf _ Has = Unit {0}
 
 -- an error has its cause: a line of a file; a file that is missing; or a read that failed
 abbrev pub Caused : Fault → Option Files → Type 0 → Type 0
@@ -79,11 +85,33 @@ StepsTo sources start g (Ok (Some n)) = IsLed sources start g n
 StepsTo sources start g (Ok None) = RunsTo sources start (Flats g.state.flats.items)
 StepsTo sources start g (Err e) = IsFault e (RunsTo sources start)
 
--- a step over a store that tells its files
+-- what is next reads the same of both
+abbrev pub ReadsAlike : Next → Sources → Sources → Type 0
+ReadsAlike (next.Get name p) a b = a name ≡ b name
+ReadsAlike _ a b = Unit {0}
+
+-- a step over a store that tells its files, in each run that reads the same there
 abbrev pub LedOn : Option Files → Engine → Next → Engine → Result (Option Next) Fault → Type 0
 LedOn None old n new result = Unit {0}
 LedOn (Some files) old n new result =
-    (start : model.Next) → IsLed (content files) start old n → StepsTo (content files) start new result
+    (sources : Sources) (start : model.Next) → ReadsAlike n sources (content files)
+    → IsLed sources start old n → StepsTo sources start new result
+
+-- what is next is a GET of the file
+abbrev pub IsGetOf : Next → List ℕ → Type 0
+IsGetOf (next.Get name p) file = name ≡ file
+IsGetOf _ file = ⊥
+
+-- ---- the files that a run gets
+
+-- were the file missing, the run would end there
+abbrev pub RunsToGet : Sources → model.Next → List ℕ → Type 0
+RunsToGet sources start file = RunsTo (without file sources) start (MissingFile file)
+
+-- each file was got, or the run without it is led to the same place
+abbrev pub IsLedWithout : Sources → model.Next → Engine → Next → Type 0
+IsLedWithout sources start g n =
+    (file : List ℕ) → RunsToGet sources start file ⊎ IsLed (without file sources) start g n
 
 -- ---- steps
 
@@ -116,9 +144,11 @@ GetsFrom sources name behind (Err (fault.Refused _)) = ⊥
 GetsFrom sources name behind (Err (fault.ReadFault q)) = Unit {0}
 GetsFrom sources name behind (Err fault.NoMemory) = Unit {0}
 
+-- by all that have the file as the store tells it
 abbrev pub Gets : List ℕ → Place → Option Files → Result Next Fault → Type 0
 Gets name behind None result = Unit {0}
-Gets name behind (Some files) result = GetsFrom (content files) name behind result
+Gets name behind (Some files) result =
+    (sources : Sources) → sources name ≡ content files name → GetsFrom sources name behind result
 
 -- where lines end under nothing
 abbrev pub OutermostEnd : End → Result (Option Next) Fault → Type 0

@@ -3,12 +3,13 @@
 ghost use Rattle.std.specs.Prelude.{◌≡◌, ◌≤◌, ◌∷◌, [], ◌++◌, length, IfOk, IfErr, MatchOption, OnOk};
 ghost use Rattle.sdt_outside.specs.Counts.{Rose};
 ghost use Rattle.expand_model.specs.Expands.{Expands, Flats};
+ghost use Rattle.expand_model.specs.Gets.{GetsFile};
 ghost use Rattle.expand_model.specs.States.{started};
 ghost use Rattle.expand_model.specs.Steps.{Go, visit_limit};
 ghost use Rattle.asm_expand.specs.Places.{place_lines};
 ghost use Rattle.asm_expand.specs.Saying.{most_flats};
 ghost use Rattle.asm_expand.specs.declared.steps.Next.TheVariants as next;
-ghost use Rattle.asm_expand.specs.Leading.{Caused, Closes, Gets, IsBadAt, IsDeeper, IsFault, IsRefusal, IsShallower, LedOn, OfFiles, Opens, OutermostEnd, RunsTo, Smaller, Starts, weight};
+ghost use Rattle.asm_expand.specs.Leading.{Caused, Closes, Gets, IsBadAt, IsDeeper, IsFault, IsGetOf, IsReadOf, IsRefusal, IsShallower, LedOn, OfFiles, Opens, OutermostEnd, RunsTo, RunsToGet, Smaller, Starts, weight};
 
 use crate::places::Place;
 use crate::reading::read;
@@ -134,6 +135,7 @@ fn open(engine: &mut Engine, frame: Frame) -> Result<(), NoMemory>
 fn get<S: Store>(alloc: Global, store: &mut S, name: Text, behind: Place) -> Result<Next, Fault>
     ensures gets { Gets name behind (S.files store.old) result }
     ensures under { IfOk result (λ next. weight next ≡ 5) }
+    ensures read { IfErr result (λ e. IsReadOf e (λ file. name ≡ file)) }
     ensures cause { IfErr result
         (λ e. Caused e (S.files store.old)
         (Rose (S.read_faults store.old) (S.read_faults store.new))) }
@@ -202,6 +204,7 @@ fn get_on<S: Store>(
     ensures led { LedOn (S.files store.old) engine.now (next.Get name behind) engine.now result }
     ensures smaller { IfOk result
         (λ after. Smaller (next.Get name behind) engine.now after engine.now) }
+    ensures read { IfErr result (λ e. IsReadOf e (λ file. name ≡ file)) }
     ensures cause { IfErr result
         (λ e. Caused e (S.files store.old)
         (Rose (S.read_faults store.old) (S.read_faults store.new))) }
@@ -224,6 +227,7 @@ fn step<S: Store>(
 ) -> Result<Option<Next>, Fault>
     ensures led { LedOn (S.files store.old) engine.old next engine.new result }
     ensures smaller { IfOk result (λ after. Smaller next engine.old after engine.new) }
+    ensures read { IfErr result (λ e. IsReadOf e (IsGetOf next)) }
     ensures flats { OnOk result (most_flats engine.new.state ≤ most_flats engine.old.state) }
     ensures cause { IfErr result
         (λ e. Caused e (S.files store.old)
@@ -254,6 +258,8 @@ fn expand_lines<S: Store>(alloc: Global, first: Place, store: &mut S) -> Result<
     ensures few { IfOk result (λ flats. length flats.items ≤ visit_limit) }
     ensures fault { IfErr result (λ e. OfFiles (S.files store.old) (λ sources.
         IsFault e (RunsTo sources (Go (started visit_limit) (place_lines first))))) }
+    ensures read { IfErr result (λ e. OfFiles (S.files store.old) (λ sources.
+        IsReadOf e (RunsToGet sources (Go (started visit_limit) (place_lines first))))) }
     ensures cause { IfErr result
         (λ e. Caused e (S.files store.old)
         (Rose (S.read_faults store.old) (S.read_faults store.new))) }
@@ -273,7 +279,8 @@ fn expand_lines<S: Store>(alloc: Global, first: Place, store: &mut S) -> Result<
 }
 
 /// The flat lines of a source, in order, with the files that its GETs name. `BadLine` names the file and the line of the
-/// first fault; `Missing` a file that isn't there; `ReadFault` a file whose read failed.
+/// first fault; `Missing` a file that isn't there; `ReadFault` a file whose read failed, which a
+/// GET names that is reached.
 pub fn expand<S: Store>(
     alloc: Global,
     source: &Text,
@@ -285,6 +292,8 @@ pub fn expand<S: Store>(
     ensures few { IfOk result (λ flats. length flats.items ≤ visit_limit) }
     ensures fault { IfErr result (λ e. OfFiles (S.files store.old) (λ sources.
         IsFault e (λ o. Expands sources visit_limit source.now text.now o))) }
+    ensures read { IfErr result (λ e. OfFiles (S.files store.old) (λ sources.
+        IsReadOf e (GetsFile sources visit_limit source.now text.now))) }
     ensures cause { IfErr result
         (λ e. Caused e (S.files store.old)
         (Rose (S.read_faults store.old) (S.read_faults store.new))) }

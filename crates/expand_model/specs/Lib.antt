@@ -1,5 +1,6 @@
 -- What the clauses of the crate cite.
 pub mod Expands
+pub mod Gets
 pub mod Known
 pub mod Operations
 pub mod Pairing

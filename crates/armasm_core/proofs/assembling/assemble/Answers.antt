@@ -5,7 +5,7 @@ use Rattle.armasm_core.proofs.assembling.assemble.Goals as goal
 pub returns-in-Err-clause-assembled : goal.returns-in-Err-clause-assembled
 returns-in-Err-clause-assembled g c =
     refused (g.S.Store.files c.args.store.now) _ c.args.source.now c.args.text.now c.in-Err.fault (omega (arith, c.if-text-gt-MOST_BYTES.false))
-    c.in-Err.ensures.fault c.in-Err.ensures.cause
+    c.in-Err.ensures.fault c.in-Err.ensures.read c.in-Err.ensures.cause
 
 pub returns-in-Err-clause-cause : goal.returns-in-Err-clause-cause
 returns-in-Err-clause-cause g c = caused (g.S.Store.files c.args.store.now) _ c.in-Err.fault c.in-Err.ensures.cause

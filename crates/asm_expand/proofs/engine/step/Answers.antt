@@ -1,4 +1,4 @@
-use Rattle.asm_expand.proofs.AnswerLemmas.{back_one, end_caused, led_bad, led_on, refusal_caused}
+use Rattle.asm_expand.proofs.AnswerLemmas.{back_one, end_caused, end_reads, led_bad, led_on, refusal_caused, refusal_reads}
 use Rattle.asm_expand.proofs.EngineLemmas.{led_open, led_read}
 use Rattle.asm_expand.proofs.engine.step.Goals as goal
 
@@ -29,3 +29,9 @@ returns-in-Stop-clause-led g c = led_on _ _ _ _ _ (λ sources start led. c.close
 
 pub returns-in-Stop-clause-cause : goal.returns-in-Stop-clause-cause
 returns-in-Stop-clause-cause g c = end_caused c.close.result _ _ c.close.ensures.refused
+
+pub returns-in-Bad-clause-read : goal.returns-in-Bad-clause-read
+returns-in-Bad-clause-read g c = refusal_reads c.bad_at.result _ c.bad_at.ensures.refusal
+
+pub returns-in-Stop-clause-read : goal.returns-in-Stop-clause-read
+returns-in-Stop-clause-read g c = end_reads c.close.result _ c.close.ensures.refused
