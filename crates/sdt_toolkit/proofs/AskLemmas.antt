@@ -13,7 +13,7 @@ use Rattle.armasm_core.specs.Assembling.{Assembles, AssembledFrom, IsCaused, One
 use Rattle.tool_answers.specs.Outcomes.{Outcome, writes_one}
 use Rattle.sdt_toolkit.specs.Reads.{Reads, HasFailed, IsAmong}
 use Rattle.sdt_toolkit.specs.Sources.{IsObjectOf, Spells, TextAsks, SpellsAs, FilesAsk, FoundAsks, SourceAsks, OneAsked}
-use Rattle.sdt_toolkit.proofs.ReadLemmas.{assembled_among, cause_among, failed_among}
+use Rattle.sdt_toolkit.proofs.ReadLemmas.{assembled_among, cause_among, failed_among, got_among}
 use Rattle.tool_library.proofs.AnswerLemmas.{first_reached as reached}
 
 -- ---- a text
@@ -27,7 +27,7 @@ module _ (told : Option Files) (before now : ℕ) (s : Reads) (among : IsAmong t
     sound = λ o e. absurd (let bad : ◌≡◌ {A = Result Object Refusal} (Err r) (Ok o) = e in cc);
     spelled = refl;
   }
-  spells_none name text (fault.ReadFault n) h cause = failed_among told before now s among cause
+  spells_none name text (fault.ReadFault n) h cause = (failed_among told before now s among cause, got_among told before now s among name text n h)
   spells_none name text fault.NoMemory h cause = tt
 
   spelled : (name text : List ℕ) (o : Object) (r : Result (List ℕ) Refusal) → Assembles told name text (Ok o) → IsObjectOf told name text o → r ≡ written o → Spells s name text r

@@ -32,7 +32,7 @@ unread end.NoMemory name output o h left = left
 pub refused : (f : Fault) (name output text : List ℕ) (o : Outside) → IsFound o.before name text → SpellsAs (reads_of o) name text (Err f) → IsLeft o → AssemblyAnswers name output o (fault_answer f)
 refused (fault.Refused r) name output text o found h left =
     (Err r, source_asks (reads_of o) name output text (Err r) found (text_refused (reads_of o) name output text r h), (refl, left))
-refused (fault.ReadFault q) name output text o found h left = (h, inr (text, found), left)
+refused (fault.ReadFault q) name output text o found h left = (h.0, inr (text, found, h.1), left)
 refused fault.NoMemory name output text o found h left = left
 
 -- what some text asks for

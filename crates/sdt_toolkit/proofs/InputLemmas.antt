@@ -1,5 +1,5 @@
 -- Names of inputs, and inputs one after the other.
-use Rattle.std.proofs.Common.{◌≡◌, ◌≢◌, ℕ, suc, ◌+◌, ◌==◌, ◌<◌, List, [], ◌∷◌, ◌++◌, length, drop, get_or, Bool, true, false, cond, ◌&&◌, Option, Some, None, Result, Ok, Err, refl, sym, ap, ◌∙◌, subst, append_assoc, add-one}
+use Rattle.std.proofs.Common.{◌≡◌, ◌≢◌, inl, inr, ℕ, zero, suc, ◌+◌, ◌==◌, ◌<◌, List, [], ◌∷◌, ◌++◌, length, drop, get_or, Bool, true, false, cond, ◌&&◌, Option, Some, None, Result, Ok, Err, refl, sym, ap, ◌∙◌, subst, append_assoc, add-one}
 use Rattle.std.proofs.Math.Seq.{drop-cons}
 use Rattle.std.proofs.lemmas.Bool.{ne_eqb}
 use Rattle.std.proofs.lemmas.List.{append-nil}
@@ -14,15 +14,15 @@ use Rattle.aof_object.specs.declared.records.Object.{Object}
 use Rattle.aof_object.specs.Validity as object
 use Rattle.alf_archive.specs.declared.records.Archive.{Archive}
 use Rattle.alf_archive.specs.Grammar as library
-use Rattle.armasm_core.specs.Assembling.{Assembles, IsCaused}
+use Rattle.armasm_core.specs.Assembling.{Assembles, IsCaused, MayGet}
 use Rattle.armasm_core.specs.Standing.{StandsFrom}
 use Rattle.link_model.specs.declared.selection.Named.{Named}
 use Rattle.tool_library.specs.declared.linkables.Linkable.{Linkable}
 use Rattle.tool_library.specs.declared.linkables.Linkable.TheVariants as input
 use Rattle.tool_library.specs.Linkables.{linkable_of, IsValidInput}
-use Rattle.sdt_toolkit.specs.Inputs.{AreValid, InputBy, InputIs, InputsAre, IsSource, NamedIs, archives_among, as_archive, as_object, is_source_name, last_part, named, objects_among}
-use Rattle.sdt_toolkit.specs.Reads.{Reads, IsAmong, Judged, Judges, TellsOf, Told}
-use Rattle.sdt_toolkit.proofs.ReadLemmas.{assembled_among, cause_among, failed_among}
+use Rattle.sdt_toolkit.specs.Inputs.{AreValid, InputBy, InputIs, InputsAre, IsGot, IsGotBy, IsSource, NamedIs, archives_among, as_archive, as_object, is_source_name, last_part, named, objects_among}
+use Rattle.sdt_toolkit.specs.Reads.{Reads, IsAmong, TellsOf, Told}
+use Rattle.sdt_toolkit.proofs.ReadLemmas.{assembled_among, cause_among, failed_among, got_among}
 
 -- ---- the last part of a name
 
@@ -79,7 +79,7 @@ module _ (told : Option Files) (before now : ℕ) (s : Reads) (among : IsAmong t
   }
 
   pub unassembled_as : (name bytes : List ℕ) (f : Fault) → Assembles told name bytes (Err f) → IsCaused told (Rose before now) f
-      → TellsOf {A = Linkable} s (Err f) (IsSource s name bytes)
+      → TellsOf {A = Linkable} s (Err f) (IsSource s name bytes) (MayGet s.told name bytes)
   unassembled_as name bytes (fault.Refused r) h cause = record {
     object = Err r;
     assembled = assembled_among told before now s among name bytes (Err r) h;
@@ -87,69 +87,73 @@ module _ (told : Option Files) (before now : ℕ) (s : Reads) (among : IsAmong t
     as_input = refl;
     stands = λ p e. absurd (let bad : ◌≡◌ {A = Result Object Refusal} (Err r) (Ok p) = e in cc);
   }
-  unassembled_as name bytes (fault.ReadFault q) h cause = failed_among told before now s among cause
+  unassembled_as name bytes (fault.ReadFault q) h cause = (failed_among told before now s among cause, got_among told before now s among name bytes q h)
   unassembled_as name bytes fault.NoMemory h cause = tt
 
+abbrev InputTold : Reads → Bool → Bool → List ℕ → List ℕ → Result Linkable Fault → Type 0
+InputTold s sources b name bytes r = TellsOf s r (InputBy s b name bytes) (IsGotBy s.told sources name bytes)
+
 -- a read of a source may fail
-judged_source : (s : Reads) (sources : Bool) (name bytes : List ℕ) (r : Result Linkable Fault) → sources ≡ true → TellsOf s r (IsSource s name bytes)
-    → Judges s sources r (InputBy s true name bytes)
-judged_source s sources name bytes (Ok x) taken h = h
-judged_source s sources name bytes (Err (fault.Refused r)) taken h = h
-judged_source s sources name bytes (Err (fault.ReadFault q)) taken h = (taken, h)
-judged_source s sources name bytes (Err fault.NoMemory) taken h = tt
+source_told : (s : Reads) (sources : Bool) (name bytes : List ℕ) (r : Result Linkable Fault) → (sources && is_source_name name) ≡ true
+    → TellsOf s r (IsSource s name bytes) (MayGet s.told name bytes) → InputTold s sources true name bytes r
+source_told s sources name bytes (Ok x) is h = h
+source_told s sources name bytes (Err (fault.Refused r)) is h = h
+source_told s sources name bytes (Err (fault.ReadFault q)) is h = (h.0, is, h.1)
+source_told s sources name bytes (Err fault.NoMemory) is h = tt
 
-by_source : (s : Reads) (sources b : Bool) (name bytes : List ℕ) (r : Result Linkable Fault) → sources ≡ true → b ≡ true → TellsOf s r (IsSource s name bytes)
-    → Judges s sources r (InputBy s b name bytes)
-by_source s sources b name bytes r taken is h =
-    subst (λ (x : Bool). Judges s sources r (InputBy s x name bytes)) (sym is) (judged_source s sources name bytes r taken h)
+by_source : (s : Reads) (sources : Bool) (name bytes : List ℕ) (r : Result Linkable Fault) → (sources && is_source_name name) ≡ true
+    → TellsOf s r (IsSource s name bytes) (MayGet s.told name bytes) → InputTold s sources (sources && is_source_name name) name bytes r
+by_source s sources name bytes r is h =
+    subst (λ (x : Bool). InputTold s sources x name bytes r) (sym is) (source_told s sources name bytes r is h)
 
-by_file_so : (s : Reads) (sources : Bool) (name bytes : List ℕ) (r : Result Linkable Fault) → Gives r (linkable_of name bytes) → Judges s sources r (InputBy s false name bytes)
-by_file_so s sources name bytes (Ok x) h = sym h
-by_file_so s sources name bytes (Err (fault.Refused e)) h = sym h
-by_file_so s sources name bytes (Err (fault.ReadFault q)) h = absurd h
-by_file_so s sources name bytes (Err fault.NoMemory) h = tt
+file_told : (s : Reads) (sources : Bool) (name bytes : List ℕ) (r : Result Linkable Fault) → Gives r (linkable_of name bytes) → InputTold s sources false name bytes r
+file_told s sources name bytes (Ok x) h = sym h
+file_told s sources name bytes (Err (fault.Refused e)) h = sym h
+file_told s sources name bytes (Err (fault.ReadFault q)) h = absurd h
+file_told s sources name bytes (Err fault.NoMemory) h = tt
 
-by_file : (s : Reads) (sources b : Bool) (name bytes : List ℕ) (r : Result Linkable Fault) → b ≡ false → Gives r (linkable_of name bytes)
-    → Judges s sources r (InputBy s b name bytes)
-by_file s sources b name bytes r is h =
-    subst (λ (x : Bool). Judges s sources r (InputBy s x name bytes)) (sym is) (by_file_so s sources name bytes r h)
+by_file : (s : Reads) (sources : Bool) (name bytes : List ℕ) (r : Result Linkable Fault) → (sources && is_source_name name) ≡ false → Gives r (linkable_of name bytes)
+    → InputTold s sources (sources && is_source_name name) name bytes r
+by_file s sources name bytes r is h =
+    subst (λ (x : Bool). InputTold s sources x name bytes r) (sym is) (file_told s sources name bytes r h)
 
 named_so : (s : Reads) (sources : Bool) (name bytes : List ℕ) (x : Linkable) → InputIs s sources name bytes (Ok x) → NamedIs s sources name bytes (Ok (named name x))
 named_so s sources name bytes x h = (Ok x, h, refl)
 
-unnamed : (s : Reads) (sources : Bool) (name bytes : List ℕ) (f : Fault) → Judges {A = Linkable} s sources (Err f) (InputIs s sources name bytes)
-    → Judges {A = Named Linkable} s sources (Err f) (NamedIs s sources name bytes)
+unnamed : (s : Reads) (sources : Bool) (name bytes : List ℕ) (f : Fault) → TellsOf {A = Linkable} s (Err f) (InputIs s sources name bytes) (IsGotBy s.told sources name bytes)
+    → TellsOf {A = Named Linkable} s (Err f) (NamedIs s sources name bytes) (IsGotBy s.told sources name bytes)
 unnamed s sources name bytes (fault.Refused r) h = (Err r, h, refl)
 unnamed s sources name bytes (fault.ReadFault q) h = h
 unnamed s sources name bytes fault.NoMemory h = tt
 
 -- the same whichever reads a call is among
 module _ (told : Option Files) (before now : ℕ) (sources : Bool) (name bytes : List ℕ) where
-  pub source_judged : (r : Result Linkable Fault) → sources ≡ true → (sources && is_source_name name) ≡ true → Told told before now r (λ s. IsSource s name bytes)
-      → Judged told before now sources r (λ s. InputIs s sources name bytes)
-  unfolding Judged Told
-  source_judged r taken is h = λ s among. by_source s sources (sources && is_source_name name) name bytes r taken is (h s among)
+  pub source_judged : (r : Result Linkable Fault) → (sources && is_source_name name) ≡ true
+      → Told told before now r (λ s. IsSource s name bytes) (λ s. MayGet s.told name bytes)
+      → Told told before now r (λ s. InputIs s sources name bytes) (λ s. IsGotBy s.told sources name bytes)
+  unfolding Told
+  source_judged r is h = λ s among. by_source s sources name bytes r is (h s among)
 
   pub file_judged : (r : Result Linkable Fault) → (sources && is_source_name name) ≡ false → Gives r (linkable_of name bytes)
-      → Judged told before now sources r (λ s. InputIs s sources name bytes)
-  unfolding Judged
-  file_judged r is h = λ s among. by_file s sources (sources && is_source_name name) name bytes r is h
+      → Told told before now r (λ s. InputIs s sources name bytes) (λ s. IsGotBy s.told sources name bytes)
+  unfolding Told
+  file_judged r is h = λ s among. by_file s sources name bytes r is h
 
-  pub named_judged : (x : Linkable) → Judged told before now sources (Ok x) (λ s. InputIs s sources name bytes)
-      → Judged told before now sources (Ok (named name x)) (λ s. NamedIs s sources name bytes)
-  unfolding Judged
+  pub named_judged : (x : Linkable) → Told told before now (Ok x) (λ s. InputIs s sources name bytes) (λ s. IsGotBy s.told sources name bytes)
+      → Told told before now (Ok (named name x)) (λ s. NamedIs s sources name bytes) (λ s. IsGotBy s.told sources name bytes)
+  unfolding Told
   named_judged x h = λ s among. named_so s sources name bytes x (h s among)
 
-  pub unnamed_judged : (f : Fault) → Judged {A = Linkable} told before now sources (Err f) (λ s. InputIs s sources name bytes)
-      → Judged {A = Named Linkable} told before now sources (Err f) (λ s. NamedIs s sources name bytes)
-  unfolding Judged
+  pub unnamed_judged : (f : Fault) → Told {A = Linkable} told before now (Err f) (λ s. InputIs s sources name bytes) (λ s. IsGotBy s.told sources name bytes)
+      → Told {A = Named Linkable} told before now (Err f) (λ s. NamedIs s sources name bytes) (λ s. IsGotBy s.told sources name bytes)
+  unfolding Told
   unnamed_judged f h = λ s among. unnamed s sources name bytes f (h s among)
 
 -- want of memory is free
-pub none_judged : {A : Type 0} (told : Option Files) (before now : ℕ) (sources : Bool) (is : Reads → Result A Refusal → Type 0)
-    → Judged {A = A} told before now sources (Err fault.NoMemory) is
-unfolding Judged
-none_judged told before now sources is = λ s among. tt
+pub none_judged : {A : Type 0} (told : Option Files) (before now : ℕ) (is : Reads → Result A Refusal → Type 0) (gets : Reads → List ℕ → Type 0)
+    → Told {A = A} told before now (Err fault.NoMemory) is gets
+unfolding Told
+none_judged told before now is gets = λ s among. tt
 
 -- ---- inputs in order
 
@@ -180,6 +184,14 @@ begun s sources names contents = λ rest h. subst (InputsAre s sources names con
 at_place : (xs : List (List ℕ)) (k : ℕ) (x : List ℕ) → k < length xs → x ≡ get_or xs k x → drop k xs ≡ x ∷ drop (k + 1) xs
 at_place xs k x lt is = rw add-one (drop-cons xs k x lt ∙ ap (λ (y : List ℕ). y ∷ drop (suc k) xs) (sym is))
 
+-- a file that the source at a place gets is one that a source gets
+got_at : (told : Option Files) (sources : Bool) (k : ℕ) (names contents ns ts : List (List ℕ)) (name bytes file : List ℕ) → drop k names ≡ name ∷ ns → drop k contents ≡ bytes ∷ ts
+    → IsGotBy told sources name bytes file → IsGot told sources names contents file
+got_at told sources zero names contents ns ts name bytes file e f h = rw (e, f) (inl h)
+got_at told sources (suc k) [] contents ns ts name bytes file e f h = absurd cc
+got_at told sources (suc k) (n ∷ names) [] ns ts name bytes file e f h = absurd cc
+got_at told sources (suc k) (n ∷ names) (t ∷ contents) ns ts name bytes file e f h = inr (got_at told sources k names contents ns ts name bytes file e f h)
+
 -- the same among all reads that these are among
 abbrev pub AreBehind : Option Files → ℕ → ℕ → Bool → List (List ℕ) → List (List ℕ) → ℕ → Inputs → Type 0
 AreBehind told before now sources names contents k xs = (s : Reads) → IsAmong told before now s → IsBehind s sources names contents k xs
@@ -192,12 +204,16 @@ module _ (s : Reads) (sources : Bool) (names contents : List (List ℕ)) (k : �
       let there : InputsAre s sources (drop k names) (drop k contents) (rest >>= λ ys. Ok (x ∷ ys)) = rw (at_place names k name lt name_is, at_place contents k bytes lt' bytes_is) here in
       subst (InputsAre s sources names contents) (behind_one xs x rest) (before (rest >>= λ ys. Ok (x ∷ ys)) there)
 
-  pub one_refused : (f : Fault) → Judges {A = Named Linkable} s sources (Err f) (NamedIs s sources name bytes) → Judges {A = Inputs} s sources (Err f) (InputsAre s sources names contents)
+  pub one_refused : (f : Fault) → TellsOf {A = Named Linkable} s (Err f) (NamedIs s sources name bytes) (IsGotBy s.told sources name bytes)
+      → TellsOf {A = Inputs} s (Err f) (InputsAre s sources names contents) (IsGot s.told sources names contents)
   one_refused (fault.Refused r) is =
       let here : InputsAre s sources (name ∷ drop (k + 1) names) (bytes ∷ drop (k + 1) contents) (Err r) = (Err r, is, refl) in
       let there : InputsAre s sources (drop k names) (drop k contents) (Err r) = rw (at_place names k name lt name_is, at_place contents k bytes lt' bytes_is) here in
       before (Err r) there
-  one_refused (fault.ReadFault q) is = is
+  one_refused (fault.ReadFault q) is = (
+    is.0,
+    got_at s.told sources k names contents (drop (k + 1) names) (drop (k + 1) contents) name bytes q (at_place names k name lt name_is) (at_place contents k bytes lt' bytes_is) is.1,
+  )
   one_refused fault.NoMemory is = tt
 
 pub all_judged : (s : Reads) (sources : Bool) (names contents : List (List ℕ)) (k : ℕ) (xs : Inputs) → drop k names ≡ [] → IsBehind s sources names contents k xs

@@ -22,8 +22,8 @@ use Rattle.tool_answers.specs.Inputs.{AreInputs, InputsEnd}
 use Rattle.tool_answers.specs.Outcomes.{Outcome, Outside, IsLeft}
 use Rattle.tool_library.specs.declared.linkables.Linkable.{Linkable}
 use Rattle.tool_library.specs.Libraries.{end_answer, fault_answer}
-use Rattle.sdt_toolkit.specs.Inputs.{InputsAre, Tells}
-use Rattle.sdt_toolkit.specs.Reads.{Reads, HasFailed, Judges, reads_of}
+use Rattle.sdt_toolkit.specs.Inputs.{InputsAre, IsGot, Tells}
+use Rattle.sdt_toolkit.specs.Reads.{Reads, HasFailed, TellsOf, reads_of}
 use Rattle.sdt_toolkit.specs.Links.{AllWritten, FilesAsk, ImageIs, InputsMake, LinkAnswers, LinkAsks, LinkMakes, ReadAsks, WordsAsk, filed, files_read, inputs_in, outputs, read_by, text_in}
 
 -- ---- what is read
@@ -44,10 +44,11 @@ inputs_short (form.Plain base) contents h k d lt = h k d lt
 -- ---- what it makes
 
 abbrev pub Makes : Reads → Bool → LinkWords → List (List ℕ) → Result (List OutFile) Fault → Type 0
-Makes s sources w contents r = Judges s sources r (LinkMakes s sources w contents)
+Makes s sources w contents r = TellsOf s r (LinkMakes s sources w contents) (IsGot s.told sources w.names (inputs_in w.form contents))
 
 pub no_inputs : (s : Reads) (sources : Bool) (w : LinkWords) (contents : List (List ℕ)) (f : Fault)
-    → Judges {A = List (Named Linkable)} s sources (Err f) (InputsAre s sources w.names (inputs_in w.form contents)) → Makes s sources w contents (Err f)
+    → TellsOf {A = List (Named Linkable)} s (Err f) (InputsAre s sources w.names (inputs_in w.form contents)) (IsGot s.told sources w.names (inputs_in w.form contents))
+    → Makes s sources w contents (Err f)
 no_inputs s sources w contents (fault.Refused r) h = record { inputs = Err r; judged = h; files = refl }
 no_inputs s sources w contents (fault.ReadFault q) h = h
 no_inputs s sources w contents fault.NoMemory h = tt
@@ -102,7 +103,7 @@ unfolding LinkAnswers
 refused (fault.Refused r) sources w contents o read count h left =
     let asks : LinkAsks (reads_of o) sources w contents (Err r) = record { made = Err r; makes = h; outcome = refl } in
     (Err r, contents_ask o.before (reads_of o) sources w contents (Err r) read count asks, (refl, left))
-refused (fault.ReadFault q) sources w contents o read count h left = (h.1, inr (h.0, contents, read), left)
+refused (fault.ReadFault q) sources w contents o read count h left = (h.0, inr (contents, read, h.1), left)
 refused fault.NoMemory sources w contents o read count h left = inl left
 
 all_of : List OutFile → Outcome

@@ -6,7 +6,7 @@ use Rattle.sdt_fault.specs.declared.refusal.Refusal.TheVariants.{Missing}
 use Rattle.sdt_outside.specs.Counts.{Rose}
 use Rattle.sdt_outside.specs.Files.{Files, IsMissing}
 use Rattle.aof_object.specs.declared.records.Object.{Object}
-use Rattle.armasm_core.specs.Assembling.{AssembledFrom, IsCaused}
+use Rattle.armasm_core.specs.Assembling.{AssembledFrom, IsCaused, MayGet}
 use Rattle.sdt_toolkit.specs.Reads.{Reads, HasCause, HasFailed, IsAmong}
 
 pub failed_among : (told : Option Files) (before now : ℕ) (s : Reads) → IsAmong told before now s → Rose before now → HasFailed s
@@ -29,6 +29,10 @@ cause_among told before now s among r h =
 pub assembled_among : (told : Option Files) (before now : ℕ) (s : Reads) → IsAmong told before now s → (name text : List ℕ) (r : Result Object Refusal)
     → AssembledFrom told name text r → AssembledFrom s.told name text r
 assembled_among told before now s among name text r h = subst (λ (t : Option Files). AssembledFrom t name text r) (sym among.files) h
+
+pub got_among : (told : Option Files) (before now : ℕ) (s : Reads) → IsAmong told before now s → (name text file : List ℕ)
+    → MayGet told name text file → MayGet s.told name text file
+got_among told before now s among name text file h = subst (λ (t : Option Files). MayGet t name text file) (sym among.files) h
 
 -- of calls one behind the other
 pub among_later : (told here : Option Files) (before first last now : ℕ) (s : Reads) → here ≡ told → before ≤ first → last ≤ now

@@ -1,14 +1,15 @@
 -- The inputs of a link: each file by its name and its bytes, as an object or a library; which names are those of sources,
 -- and what reports and scatter descriptions call an input. This project's.
-use Rattle.std.specs.Prelude.{◌≡◌, ℕ, ◌-◌, ◌==◌, ◌&&◌, nat_eq, Bool, true, false, if◌then◌else◌, List, [], ◌∷◌, ◌++◌, length, take, codes, Option, Some, None, Result, Ok, Err}
+use Rattle.std.specs.Prelude.{◌≡◌, ◌⊎◌, ℕ, ◌-◌, ◌==◌, ◌&&◌, nat_eq, Bool, true, false, if◌then◌else◌, List, [], ◌∷◌, ◌++◌, length, take, codes, Option, Some, None, Result, Ok, Err}
 use Rattle.std.specs.List.{ends_with, list_any, filter_map, AllByRecursion}
 use Rattle.sdt_fault.specs.declared.answer.Fault.{Fault}
 use Rattle.sdt_fault.specs.declared.answer.Fault.TheVariants as fault
 use Rattle.sdt_fault.specs.declared.refusal.Refusal.{Refusal}
+use Rattle.sdt_outside.specs.Files.{Files}
 use Rattle.chunk_file.specs.Reading.{◌>>=◌}
 use Rattle.aof_object.specs.declared.records.Object.{Object}
 use Rattle.alf_archive.specs.declared.records.Archive.{Archive}
-use Rattle.armasm_core.specs.Assembling.{AssembledFrom}
+use Rattle.armasm_core.specs.Assembling.{AssembledFrom, MayGet}
 use Rattle.armasm_core.specs.Standing.{StandsFrom}
 use Rattle.link_model.specs.declared.selection.Named.{Named}
 use Rattle.tool_library.specs.declared.linkables.Linkable.{Linkable}
@@ -59,6 +60,10 @@ InputBy s false name bytes made = made ≡ linkable_of name bytes
 abbrev pub InputIs : Reads → Bool → List ℕ → List ℕ → Result Linkable Refusal → Type 0
 InputIs s sources name bytes made = InputBy s (sources && is_source_name name) name bytes made
 
+-- a source gets the file, where sources are taken
+abbrev pub IsGotBy : Option Files → Bool → List ℕ → List ℕ → List ℕ → Type 0
+IsGotBy told sources name bytes file = ((sources && is_source_name name) ≡ true) × MayGet told name bytes file
+
 -- reports call an input by the name under which it is read
 abbrev pub named : List ℕ → Linkable → Named Linkable
 named name x = record { name = name; «module» = module_of name; value = x }
@@ -83,6 +88,13 @@ InputsAre s sources [] contents made = made ≡ Ok []
 InputsAre s sources (name ∷ names) [] made = made ≡ Ok []
 InputsAre s sources (name ∷ names) (bytes ∷ contents) made =
     (first : Result (Named Linkable) Refusal) × NamedIs s sources name bytes first × Behind first (InputsAre s sources names contents) made
+
+-- one of the sources gets the file
+abbrev pub IsGot : Option Files → Bool → List (List ℕ) → List (List ℕ) → List ℕ → Type 0
+IsGot told sources [] contents file = ⊥
+IsGot told sources (name ∷ names) [] file = ⊥
+IsGot told sources (name ∷ names) (bytes ∷ contents) file =
+    IsGotBy told sources name bytes file ⊎ IsGot told sources names contents file
 
 -- ---- objects and libraries among them
 

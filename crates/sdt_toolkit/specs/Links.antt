@@ -33,7 +33,7 @@ use Rattle.tool_answers.specs.Inputs.{AreInputs, inputs_of, IsReached}
 use Rattle.tool_answers.specs.Outcomes.{Outcome, Outside, AreWritten, FailsAt, IsCutShort, IsLeft, IsLost, Says, unprinted}
 use Rattle.tool_library.specs.declared.linkables.Linkable.{Linkable}
 use Rattle.tool_run.specs.Runs.{AreRanges}
-use Rattle.sdt_toolkit.specs.Inputs.{InputsAre, objects_among, archives_among}
+use Rattle.sdt_toolkit.specs.Inputs.{InputsAre, IsGot, objects_among, archives_among}
 use Rattle.sdt_toolkit.specs.Reads.{Reads, HasFailed, reads_of}
 use Rattle.sdt_toolkit.specs.Starting.{Loads, Starts, StartsAsAif}
 
@@ -191,10 +191,11 @@ abbrev pub LinkSays : Bool → LinkWords → Outside → Answer → Type 0
 LinkSays sources w o a =
     (asked : Result Outcome Refusal) × WordsAsk (reads_of o) sources w asked × Says asked (files_read w) o a
 
--- the file whose read may fail: one that the words name, or, where all these were read, one that a GET of a source names
+-- the file whose read may fail: one that the words name, or, where all these were read, one that a source gets
 abbrev pub MayFail : Bool → LinkWords → Option Files → List ℕ → Type 0
 MayFail sources w told name =
-    IsReached told (files_read w) name ⊎ ((sources ≡ true) × (contents : List (List ℕ)) × AreInputs told (files_read w) contents)
+    IsReached told (files_read w) name ⊎ ((contents : List (List ℕ)) × AreInputs told (files_read w) contents
+    × IsGot told sources w.names (inputs_in w.form contents) name)
 
 -- the answer to a link, and to a build, where sources are taken: where a read failed, nothing is told of the inputs and
 -- nothing is written; where memory was refused, either nothing is written, or a beginning of what the inputs ask for

@@ -1,5 +1,5 @@
 -- What a store tells of its files while a command reads, and its counts of read faults before and behind that. This project's.
-use Rattle.std.specs.Prelude.{◌≡◌, ℕ, ◌≤◌, Bool, true, Option, Result, Ok, Err}
+use Rattle.std.specs.Prelude.{◌≡◌, ℕ, ◌≤◌, List, Option, Result, Ok, Err}
 use Rattle.sdt_fault.specs.declared.answer.Fault.{Fault}
 use Rattle.sdt_fault.specs.declared.answer.Fault.TheVariants as fault
 use Rattle.sdt_fault.specs.declared.refusal.Refusal.{Refusal}
@@ -31,23 +31,13 @@ abbrev pub HasCause : {A : Type 0} → Reads → Result A Refusal → Type 0
 HasCause s (Ok x) = Unit {0}
 HasCause s (Err r) = IsCaused s.told (HasFailed s) (fault.Refused r)
 
--- what a call gives of which this is told, where a read may fail; want of memory is free
-abbrev pub TellsOf : {A : Type 0} → Reads → Result A Fault → (Result A Refusal → Type 0) → Type 0
-TellsOf s (Ok x) is = is (Ok x)
-TellsOf s (Err (fault.Refused r)) is = is (Err r)
-TellsOf s (Err (fault.ReadFault name)) is = HasFailed s
-TellsOf s (Err fault.NoMemory) is = Unit {0}
+-- what a call gives of which this is told, where the read of a file that it gets may fail; want of memory is free
+abbrev pub TellsOf : {A : Type 0} → Reads → Result A Fault → (Result A Refusal → Type 0) → (List ℕ → Type 0) → Type 0
+TellsOf s (Ok x) is gets = is (Ok x)
+TellsOf s (Err (fault.Refused r)) is gets = is (Err r)
+TellsOf s (Err (fault.ReadFault name)) is gets = HasFailed s × gets name
+TellsOf s (Err fault.NoMemory) is gets = Unit {0}
 
 -- the same of a call over these files, with these counts before and behind it, whichever reads it is among
-unfoldable pub Told : {A : Type 0} → Option Files → ℕ → ℕ → Result A Fault → (Reads → Result A Refusal → Type 0) → Type 0
-Told told before now r is = (s : Reads) → IsAmong told before now s → TellsOf s r (is s)
-
--- where a read may fail only if sources are taken
-abbrev pub Judges : {A : Type 0} → Reads → Bool → Result A Fault → (Result A Refusal → Type 0) → Type 0
-Judges s sources (Ok x) is = is (Ok x)
-Judges s sources (Err (fault.Refused r)) is = is (Err r)
-Judges s sources (Err (fault.ReadFault name)) is = (sources ≡ true) × HasFailed s
-Judges s sources (Err fault.NoMemory) is = Unit {0}
-
-unfoldable pub Judged : {A : Type 0} → Option Files → ℕ → ℕ → Bool → Result A Fault → (Reads → Result A Refusal → Type 0) → Type 0
-Judged told before now sources r is = (s : Reads) → IsAmong told before now s → Judges s sources r (is s)
+unfoldable pub Told : {A : Type 0} → Option Files → ℕ → ℕ → Result A Fault → (Reads → Result A Refusal → Type 0) → (Reads → List ℕ → Type 0) → Type 0
+Told told before now r is gets = (s : Reads) → IsAmong told before now s → TellsOf s r (is s) (gets s)

@@ -13,7 +13,7 @@ use Rattle.aof_object.specs.declared.records.Object.{Object}
 use Rattle.aof_object.specs.Grammar.{Fits}
 use Rattle.aof_object.specs.Spelling.{written}
 use Rattle.aof_object.specs.Validity.{IsValid}
-use Rattle.armasm_core.specs.Assembling.{AssembledFrom}
+use Rattle.armasm_core.specs.Assembling.{AssembledFrom, MayGet}
 use Rattle.armasm_core.specs.Standing.{StandsFrom}
 use Rattle.tool_answers.specs.Inputs.{IsReached}
 use Rattle.tool_answers.specs.Outcomes.{Outcome, Outside, IsLeft, Says, IsLost, writes_one, unprinted}
@@ -43,7 +43,7 @@ pub record TextAsks (s : Reads) (name output text : List ℕ) (asked : Result Ou
 
 -- what a call gives of a source's text
 abbrev pub SpellsAs : Reads → List ℕ → List ℕ → Result (List ℕ) Fault → Type 0
-SpellsAs s name text r = TellsOf s r (Spells s name text)
+SpellsAs s name text r = TellsOf s r (Spells s name text) (MayGet s.told name text)
 
 -- ---- a file
 
@@ -60,9 +60,9 @@ FilesAsk (Some files) s name output asked = FoundAsks s name output (content fil
 abbrev pub SourceAsks : Reads → List ℕ → List ℕ → Result Outcome Refusal → Type 0
 SourceAsks s name output asked = FilesAsk s.told s name output asked
 
--- the file whose read may fail: the source's, or, where that was read, one that a GET names
+-- the file whose read may fail: the source's, or, where that was read, one that it gets
 abbrev pub MayFail : Option Files → List ℕ → List ℕ → Type 0
-MayFail told name q = IsReached told (name ∷ []) q ⊎ ((text : List ℕ) × IsFound told name text)
+MayFail told name q = IsReached told (name ∷ []) q ⊎ ((text : List ℕ) × IsFound told name text × MayGet told name text q)
 
 -- the answer to `asm`: where a read failed or memory was refused, nothing is told of the source and nothing is written
 abbrev pub AssemblyAnswers : List ℕ → List ℕ → Outside → Answer → Type 0

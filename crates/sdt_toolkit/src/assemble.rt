@@ -1,6 +1,7 @@
 //! The command.
 
 ghost use Rattle.std.specs.Prelude.{◌≡◌, ◌<◌, ◌≤◌, ◌^◌, IfOk, length};
+ghost use Rattle.armasm_core.specs.Assembling.{MayGet};
 ghost use Rattle.sdt_toolkit.specs.Reads.{Told};
 ghost use Rattle.sdt_toolkit.specs.Sources.{AssemblyAnswersOver, Spells};
 
@@ -23,7 +24,7 @@ fn object_file<S: Store>(
     text: &[u8],
 ) -> Result<Bytes, Fault>
     ensures spells { Told (S.files store.old) (S.read_faults store.old) (S.read_faults store.new)
-        result (λ s. Spells s source.now text.now) }
+        result (λ s. Spells s source.now text.now) (λ s. MayGet s.told source.now text.now) }
     ensures short { IfOk result (λ bytes. length bytes < 2 ^ 32) }
     ensures files { S.files store.new ≡ S.files store.old }
     ensures read_faults { S.read_faults store.old ≤ S.read_faults store.new }

@@ -1,9 +1,10 @@
 //! The inputs of a link: which files are read, and what each of them is.
 
-ghost use Rattle.std.specs.Prelude.{◌≡◌, ◌<◌, ◌≤◌, ◌^◌, ◌&&◌, true, All, IfOk, length};
+ghost use Rattle.std.specs.Prelude.{◌≡◌, ◌<◌, ◌≤◌, ◌^◌, ◌&&◌, All, IfOk, length};
+ghost use Rattle.armasm_core.specs.Assembling.{MayGet};
 ghost use Rattle.sdt_toolkit.specs.Inputs as inputs;
-ghost use Rattle.sdt_toolkit.specs.Inputs.{AreValid, InputIs, InputsAre, NamedIs};
-ghost use Rattle.sdt_toolkit.specs.Reads.{Judged, Told};
+ghost use Rattle.sdt_toolkit.specs.Inputs.{AreValid, InputIs, InputsAre, IsGot, IsGotBy, NamedIs};
+ghost use Rattle.sdt_toolkit.specs.Reads.{Told};
 ghost use Rattle.sdt_toolkit.specs.Links.{files_read, inputs_in, read_by, text_in};
 ghost use Rattle.tool_library.specs.Linkables.{IsValidInput};
 
@@ -88,7 +89,7 @@ fn source_input<S: Store>(
     bytes: &[u8],
 ) -> Result<Linkable, Fault>
     ensures value { Told (S.files store.old) (S.read_faults store.old) (S.read_faults store.new)
-        result (λ s. IsSource s name.now bytes.now) }
+        result (λ s. IsSource s name.now bytes.now) (λ s. MayGet s.told name.now bytes.now) }
     ensures valid { IfOk result IsValidInput }
     ensures files { S.files store.new ≡ S.files store.old }
     ensures read_faults { S.read_faults store.old ≤ S.read_faults store.new }
@@ -102,8 +103,7 @@ ghost use Rattle.sdt_toolkit.specs.Inputs.{IsSource};
 
 /// Whether a name is that of a source, where sources are taken.
 fn is_source(sources: bool, name: &Text) -> bool
-    ensures value { result ≡ (sources && inputs.is_source_name name.now) }
-    ensures taken { result ≡ true → sources ≡ true }
+    ensures { result ≡ (sources && inputs.is_source_name name.now) }
 {
     if !sources {
         return false;
@@ -120,8 +120,9 @@ fn input<S: Store>(
     bytes: &[u8],
 ) -> Result<Linkable, Fault>
     requires { length bytes.now < 2 ^ 32 }
-    ensures value { Judged (S.files store.old) (S.read_faults store.old) (S.read_faults store.new)
-        sources result (λ s. InputIs s sources name.now bytes.now) }
+    ensures value { Told (S.files store.old) (S.read_faults store.old) (S.read_faults store.new)
+        result (λ s. InputIs s sources name.now bytes.now)
+        (λ s. IsGotBy s.told sources name.now bytes.now) }
     ensures valid { IfOk result IsValidInput }
     ensures files { S.files store.new ≡ S.files store.old }
     ensures read_faults { S.read_faults store.old ≤ S.read_faults store.new }
@@ -141,8 +142,9 @@ fn named_input<S: Store>(
     bytes: &[u8],
 ) -> Result<Named<Linkable>, Fault>
     requires { length bytes.now < 2 ^ 32 }
-    ensures value { Judged (S.files store.old) (S.read_faults store.old) (S.read_faults store.new)
-        sources result (λ s. NamedIs s sources name.now bytes.now) }
+    ensures value { Told (S.files store.old) (S.read_faults store.old) (S.read_faults store.new)
+        result (λ s. NamedIs s sources name.now bytes.now)
+        (λ s. IsGotBy s.told sources name.now bytes.now) }
     ensures valid { IfOk result (λ x. IsValidInput x.value) }
     ensures files { S.files store.new ≡ S.files store.old }
     ensures read_faults { S.read_faults store.old ≤ S.read_faults store.new }
@@ -167,8 +169,9 @@ pub fn inputs_of<S: Store>(
 ) -> Result<List<Named<Linkable>>, Fault>
     requires few { length contents.now ≡ length names.now }
     requires bounded { All (λ bytes. length bytes < 2 ^ 32) contents.now }
-    ensures value { Judged (S.files store.old) (S.read_faults store.old) (S.read_faults store.new)
-        sources result (λ s. InputsAre s sources names.now contents.now) }
+    ensures value { Told (S.files store.old) (S.read_faults store.old) (S.read_faults store.new)
+        result (λ s. InputsAre s sources names.now contents.now)
+        (λ s. IsGot s.told sources names.now contents.now) }
     ensures valid { IfOk result AreValid }
     ensures files { S.files store.new ≡ S.files store.old }
     ensures read_faults { S.read_faults store.old ≤ S.read_faults store.new }

@@ -1,9 +1,9 @@
 //! The commands `link` and `build`.
 
 ghost use Rattle.std.specs.Prelude.{◌≡◌, ◌<◌, ◌≤◌, ◌^◌, All, IfOk, Ok, length};
-ghost use Rattle.sdt_toolkit.specs.Inputs.{AreValid, Tells};
-ghost use Rattle.sdt_toolkit.specs.Reads.{Judged};
-ghost use Rattle.sdt_toolkit.specs.Links.{InputsMake, LinkAnswersOver, LinkMakes, files_read};
+ghost use Rattle.sdt_toolkit.specs.Inputs.{AreValid, IsGot, Tells};
+ghost use Rattle.sdt_toolkit.specs.Reads.{Told};
+ghost use Rattle.sdt_toolkit.specs.Links.{InputsMake, LinkAnswersOver, LinkMakes, files_read, inputs_in};
 ghost use Rattle.tool_words.specs.Commands.{IsLinked};
 
 use crate::images::{files_of, image_of};
@@ -51,8 +51,9 @@ fn made<S: Store>(
     requires good { IsLinked words.now }
     requires few { length contents.now ≡ length (files_read words.now) }
     requires bounded { All (λ bytes. length bytes < 2 ^ 32) contents.now }
-    ensures makes { Judged (S.files store.old) (S.read_faults store.old) (S.read_faults store.new)
-        sources result (λ s. LinkMakes s sources words.now contents.now) }
+    ensures makes { Told (S.files store.old) (S.read_faults store.old) (S.read_faults store.new)
+        result (λ s. LinkMakes s sources words.now contents.now)
+        (λ s. IsGot s.told sources words.now.names (inputs_in words.now.form contents.now)) }
     ensures short { IfOk result (λ files. All (λ f. length f.bytes < 2 ^ 32) files) }
     ensures files { S.files store.new ≡ S.files store.old }
     ensures read_faults { S.read_faults store.old ≤ S.read_faults store.new }

@@ -4,7 +4,7 @@ use Rattle.std.proofs.lemmas.Result.{err_from_is_err_and}
 use Rattle.base_lemmas.proofs.BaseLemmas.{all_append}
 use Rattle.tool_library.specs.Linkables.{IsValidInput}
 use Rattle.sdt_toolkit.proofs.InputLemmas.{one_more, one_refused, all_judged, none_judged}
-use Rattle.sdt_toolkit.specs.Reads.{Judged}
+use Rattle.sdt_toolkit.specs.Reads.{Told}
 use Rattle.sdt_toolkit.proofs.ReadLemmas.{among_later}
 use Rattle.sdt_toolkit.proofs.inputs.inputs_of.Goals as goal
 
@@ -14,7 +14,7 @@ returns-in_err-push-in-Ok-clause-value g c =
     rw (p.1, p.2) (none_judged _ _ _ _ _)
 
 pub returns-in-Err-clause-value : goal.returns-in-Err-clause-value
-unfolding Judged
+unfolding Told
 returns-in-Err-clause-value g c = λ s among.
     let told = g.S.Store.files in
     let count = g.S.Store.read_faults in
@@ -28,7 +28,7 @@ returns-in-Err-clause-value g c = λ s among.
     c.loop-k-test.true c.index-names-k.is (rw c.requires.few c.loop-k-test.true) c.index-contents-k.is (before.value s there) c.in-Err.fault is
 
 pub loop-k-preserved : goal.loop-k-preserved
-unfolding Judged
+unfolding Told
 loop-k-preserved g c =
     let told = g.S.Store.files in
     let count = g.S.Store.read_faults in
@@ -49,7 +49,7 @@ loop-k-preserved g c =
     }
 
 pub returns-clause-value : goal.returns-clause-value
-unfolding Judged
+unfolding Told
 returns-clause-value g c = λ s among.
     rw c.from_vec.ensures (all_judged s c.args.sources c.args.names.now c.args.contents.now c.loop-k.k c.loop-k.inputs.items
     (drop_all c.loop-k.k c.args.names.now c.loop-k-test.false) (c.loop-k.invariant.value s among))

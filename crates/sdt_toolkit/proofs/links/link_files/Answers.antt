@@ -2,7 +2,7 @@ use Rattle.std.proofs.Common.{refl, sym, ◌∙◌, inl, arith}
 use Rattle.tool_answers.specs.Outcomes.{unprinted}
 use Rattle.sdt_outside.proofs.SharedLemmas.{got_none}
 use Rattle.sdt_toolkit.specs.Links.{LinkAnswers}
-use Rattle.sdt_toolkit.specs.Reads.{IsAmong, Judged, reads_of}
+use Rattle.sdt_toolkit.specs.Reads.{IsAmong, Told, reads_of}
 use Rattle.sdt_toolkit.proofs.LinkLemmas.{unread, refused, wrote}
 use Rattle.sdt_toolkit.proofs.links.link_files.Goals as goal
 
@@ -17,7 +17,7 @@ returns-in-Err g c = λ shown faults.
     rw c.end_answer.ensures (unread c.in-Err.end c.args.sources c.args.words.now o end (record { files = c.read_inputs.ensures.files; sink = refl }))
 
 pub returns-in-Ok-made : goal.returns-in-Ok-made
-unfolding Judged
+unfolding Told
 returns-in-Ok-made g c = λ shown faults.
     let o = unprinted shown faults (g.S.Store.files c.args.store.now) (g.S.Store.files c.write_files.new.store) (g.S.Store.read_faults c.args.store.now) (g.S.Store.read_faults c.write_files.new.store) (g.S.Store.write_faults c.args.store.now) (g.S.Store.write_faults c.write_files.new.store) in
     let among : IsAmong (g.S.Store.files c.read_inputs.new.store) (g.S.Store.read_faults c.read_inputs.new.store) (g.S.Store.read_faults c.made.new.store) (reads_of o) =
@@ -29,7 +29,7 @@ returns-in-Ok-made g c = λ shown faults.
     wrote c.write_files.result c.args.sources c.args.words.now c.in-Ok-read_inputs.contents.items c.in-Ok-made.files o found count makes (got_none shown) refl says
 
 pub returns : goal.returns
-unfolding Judged
+unfolding Told
 returns g c = λ shown faults.
     let o = unprinted shown faults (g.S.Store.files c.args.store.now) (g.S.Store.files c.made.new.store) (g.S.Store.read_faults c.args.store.now) (g.S.Store.read_faults c.made.new.store) (g.S.Store.write_faults c.args.store.now) (g.S.Store.write_faults c.made.new.store) in
     let among : IsAmong (g.S.Store.files c.read_inputs.new.store) (g.S.Store.read_faults c.read_inputs.new.store) (g.S.Store.read_faults c.made.new.store) (reads_of o) =
