@@ -98,7 +98,7 @@ source_told : (s : Reads) (sources : Bool) (name bytes : List ℕ) (r : Result L
     → TellsOf s r (IsSource s name bytes) (MayGet s.told name bytes) → InputTold s sources true name bytes r
 source_told s sources name bytes (Ok x) is h = h
 source_told s sources name bytes (Err (fault.Refused r)) is h = h
-source_told s sources name bytes (Err (fault.ReadFault q)) is h = (h.0, is, h.1)
+source_told s sources name bytes (Err (fault.ReadFault q)) is h = (h.0, (is, h.1))
 source_told s sources name bytes (Err fault.NoMemory) is h = tt
 
 by_source : (s : Reads) (sources : Bool) (name bytes : List ℕ) (r : Result Linkable Fault) → (sources && is_source_name name) ≡ true
