@@ -7,15 +7,17 @@ use Rattle.std.proofs.lemmas.Bool.Decides.{nat_tests}
 use Rattle.std.proofs.lemmas.List.{length-map}
 use Rattle.std.proofs.lemmas.List.Sums.{length-filter}
 use Rattle.tool_words.specs.declared.items.Verb.{Verb}
-use Rattle.tool_words.specs.declared.items.Verb.TheVariants.{Assemble, Library, List as Listing, Run, Link, Build}
+use Rattle.tool_words.specs.declared.items.Verb.TheVariants.{Assemble, Library, List as Listing, Run, Link, Build, InterruptKit}
 use Rattle.tool_words.specs.declared.items.Flag.{Flag}
 use Rattle.tool_words.specs.declared.items.Flag.TheVariants as flag
 use Rattle.tool_words.specs.declared.items.Role.{Role}
 use Rattle.tool_words.specs.declared.items.Role.TheVariants.{Name, Known, Unknown}
 use Rattle.tool_words.specs.declared.items.Item.{Item}
+use Rattle.tool_words.specs.declared.command.LinkPlacement.TheVariants as placement
+use Rattle.tool_words.specs.declared.command.Container.TheVariants as container
 use Rattle.tool_words.specs.Items.{word_at}
 use Rattle.tool_words.specs.Rules.{code, has, is_flag, is_name, number_at, is_aligned, is_size, first_is_good, value_fault, or_else, values_fault, is_allowed, is_surplus, name_count, role_fault, items_fault, names_fault, needs_mode, is_met, is_complete, lesser, verb_fault, mode_of}
-use Rattle.tool_words.specs.Commands.{number_of, number_told, bank_at, banks_in, image_of, form_of, names_in, link_words, library_command, verb_command, IsBank, IsAddress, IsPlaced, IsFormed, AreBanks, IsLinked, IsGood}
+use Rattle.tool_words.specs.Commands.{value_of, number_of, number_told, bank_at, banks_in, image_of, placement_of, container_of, names_in, link_words, library_command, verb_command, IsBank, IsAddress, IsPlaced, IsBased, ComeTogether, AreBanks, IsLinked, IsGood}
 use Rattle.base_lemmas.proofs.BaseLemmas.{first_of_both, second_of_both}
 
 -- ---- no fault at all
@@ -76,7 +78,8 @@ flag_at n =
     if n == 3 then flag.Output else (if n == 4 then flag.Map else (if n == 5 then flag.Bin else (
     if n == 6 then flag.At else (if n == 7 then flag.Memory else (if n == 8 then flag.Rom else (
     if n == 9 then flag.Steps else (if n == 10 then flag.Scatter else (if n == 11 then flag.Aif else (
-    if n == 12 then flag.Reloc else (if n == 13 then flag.Base else flag.Ram)))))))))))))
+    if n == 12 then flag.Reloc else (if n == 13 then flag.Base else (if n == 14 then flag.Ram else (
+    if n == 15 then flag.Elf else flag.Acknowledge)))))))))))))))
 
 back : (f : Flag) → flag_at (code f) ≡ f
 unfolding flag_at
@@ -95,6 +98,8 @@ back flag.Aif = refl
 back flag.Reloc = refl
 back flag.Base = refl
 back flag.Ram = refl
+back flag.Elf = refl
+back flag.Acknowledge = refl
 
 same_flag : (f g : Flag) → (code f == code g) ≡ true → f ≡ g
 same_flag f g h = let e : code f ≡ code g = grind (arith, nat_tests) in sym (back f) ∙ (ap flag_at e ∙ back g)
@@ -112,7 +117,7 @@ HasValues verb words i = (f : Flag) → i.role ≡ Known f → values_fault verb
 values_fine : (verb : Verb) (words : List (List ℕ)) (mode : Option Flag) (moves : Bool) (before : List Item) (at : ℕ) (role : Role) (f : Flag) → role ≡ Known f → role_fault verb words mode moves before at role ≡ None → values_fault verb f words at ≡ None
 values_fine verb words mode moves before at role f e h =
     let k : role_fault verb words mode moves before at (Known f) ≡ None = ap (role_fault verb words mode moves before at) (sym e) ∙ h in
-    (chosen (is_allowed verb mode moves f && not (is_surplus before f)) (values_fault verb f words at) at k).1
+    (chosen (is_allowed verb mode moves f && not (is_surplus verb before f)) (values_fault verb f words at) at k).1
 
 all_fine : (verb : Verb) (words : List (List ℕ)) (mode : Option Flag) (moves : Bool) (before items : List Item) → items_fault verb words mode moves before items ≡ None → AllByRecursion (HasValues verb words) items
 all_fine verb words mode moves before [] h = tt
@@ -140,9 +145,11 @@ aligned_number (Some n) h = grind (arith, nat_tests)
 pub data Addresses : Flag → Type 0 where
   entry : Addresses flag.At
   base : Addresses flag.Base
+  acknowledgement : Addresses flag.Acknowledge
 
 address_of : (verb : Verb) (f : Flag) → Addresses f → (words : List (List ℕ)) (at : ℕ) → values_fault verb f words at ≡ None → unwrap_or (number_at words (at + 1)) 0 % 4 ≡ 0
 address_of verb f entry words at h = aligned_number (number_at words (at + 1)) (is_good words (at + 1) _ (first_none (value_fault words (at + 1) (first_is_good flag.At words at)) _ h))
+address_of verb f acknowledgement words at h = aligned_number (number_at words (at + 1)) (is_good words (at + 1) _ (first_none (value_fault words (at + 1) (first_is_good flag.Acknowledge words at)) _ h))
 address_of verb f base words at h = aligned_number (number_at words (at + 1)) (is_good words (at + 1) _ (first_none (value_fault words (at + 1) (first_is_good flag.Base words at)) _ h))
 
 found_at : (words : List (List ℕ)) (o : Option Item) (usual : ℕ) → ℕ
@@ -169,40 +176,23 @@ told_fine verb f k words [] all = tt
 told_fine verb f k words (i ∷ is) all = told_more verb f k words i is _ refl all.0 (told_fine verb f k words is all.1)
 
 image_fine : (verb : Verb) (mode : Option Flag) (words : List (List ℕ)) (items : List Item) → AllByRecursion (HasValues verb words) items → IsPlaced (image_of mode words items)
-image_fine verb None words items all = address_fine verb flag.At entry words items 0 refl all
-image_fine verb (Some flag.Create) words items all = address_fine verb flag.At entry words items 0 refl all
-image_fine verb (Some flag.Table) words items all = address_fine verb flag.At entry words items 0 refl all
-image_fine verb (Some flag.Extract) words items all = address_fine verb flag.At entry words items 0 refl all
-image_fine verb (Some flag.Output) words items all = address_fine verb flag.At entry words items 0 refl all
 image_fine verb (Some flag.Map) words items all = tt
-image_fine verb (Some flag.Bin) words items all = address_fine verb flag.At entry words items 0 refl all
-image_fine verb (Some flag.At) words items all = address_fine verb flag.At entry words items 0 refl all
-image_fine verb (Some flag.Memory) words items all = address_fine verb flag.At entry words items 0 refl all
-image_fine verb (Some flag.Rom) words items all = address_fine verb flag.At entry words items 0 refl all
-image_fine verb (Some flag.Steps) words items all = address_fine verb flag.At entry words items 0 refl all
-image_fine verb (Some flag.Scatter) words items all = address_fine verb flag.At entry words items 0 refl all
+image_fine verb (Some flag.Elf) words items all = tt
 image_fine verb (Some flag.Aif) words items all = told_fine verb flag.At entry words items all
-image_fine verb (Some flag.Reloc) words items all = address_fine verb flag.At entry words items 0 refl all
-image_fine verb (Some flag.Base) words items all = address_fine verb flag.At entry words items 0 refl all
-image_fine verb (Some flag.Ram) words items all = address_fine verb flag.At entry words items 0 refl all
+image_fine verb mode words items all = address_fine verb flag.At entry words items 0 refl all
 
-form_fine : (verb : Verb) (mode : Option Flag) (words : List (List ℕ)) (items : List Item) → AllByRecursion (HasValues verb words) items → IsFormed (form_of mode words items)
-form_fine verb None words items all = address_fine verb flag.Base base words items 0x8000 refl all
-form_fine verb (Some flag.Create) words items all = address_fine verb flag.Base base words items 0x8000 refl all
-form_fine verb (Some flag.Table) words items all = address_fine verb flag.Base base words items 0x8000 refl all
-form_fine verb (Some flag.Extract) words items all = address_fine verb flag.Base base words items 0x8000 refl all
-form_fine verb (Some flag.Output) words items all = address_fine verb flag.Base base words items 0x8000 refl all
-form_fine verb (Some flag.Map) words items all = address_fine verb flag.Base base words items 0x8000 refl all
-form_fine verb (Some flag.Bin) words items all = address_fine verb flag.Base base words items 0x8000 refl all
-form_fine verb (Some flag.At) words items all = address_fine verb flag.Base base words items 0x8000 refl all
-form_fine verb (Some flag.Memory) words items all = address_fine verb flag.Base base words items 0x8000 refl all
-form_fine verb (Some flag.Rom) words items all = address_fine verb flag.Base base words items 0x8000 refl all
-form_fine verb (Some flag.Steps) words items all = address_fine verb flag.Base base words items 0x8000 refl all
-form_fine verb (Some flag.Scatter) words items all = tt
-form_fine verb (Some flag.Aif) words items all = address_fine verb flag.Base base words items 0x8000 refl all
-form_fine verb (Some flag.Reloc) words items all = address_fine verb flag.Base base words items 0x8000 refl all
-form_fine verb (Some flag.Base) words items all = address_fine verb flag.Base base words items 0x8000 refl all
-form_fine verb (Some flag.Ram) words items all = address_fine verb flag.Base base words items 0x8000 refl all
+based : (verb : Verb) (mode : Option Flag) (words : List (List ℕ)) (items : List Item) → AllByRecursion (HasValues verb words) items → IsBased (placement_of mode words items)
+based verb (Some flag.Scatter) words items all = tt
+based verb mode words items all = address_fine verb flag.Base base words items 0x8000 refl all
+
+-- what is written of a scatter image, with -elf or without
+scattered : (b : Bool) (file : List ℕ) → ComeTogether (placement.Scatter file) (cond b container.Elf container.LoadFiles)
+scattered true file = tt
+scattered false file = tt
+
+written : (mode : Option Flag) (words : List (List ℕ)) (items : List Item) → ComeTogether (placement_of mode words items) (container_of mode items)
+written (Some flag.Scatter) words items = scattered (has flag.Elf items) (value_of words items flag.Scatter)
+written mode words items = tt
 
 -- ---- what is linked
 
@@ -215,7 +205,8 @@ names_counted words items = length-map (filter (λ i. is_name i.role) items) (λ
 
 linked : (verb : Verb) (mode : Option Flag) (words : List (List ℕ)) (items : List Item) → AllByRecursion (HasValues verb words) items → nat_lt 0 (name_count items) ≡ true → IsLinked (link_words mode words items)
 linked verb mode words items all some = record {
-  form = form_fine verb mode words items all;
+  based = based verb mode words items all;
+  written = written mode words items;
   named = rw (names_counted words items) (grind (arith, nat_tests));
   ram = ram_fine verb words items (has flag.Ram items) all;
 }
@@ -228,22 +219,9 @@ lesser_none (Some n) None h = absurd (let bad : Some n ≡ None = h in cc)
 lesser_none (Some n) (Some m) h = absurd (cc)
 
 library_good : (mode : Option Flag) (words : List (List ℕ)) (items : List Item) → IsGood (library_command mode words items)
-library_good None words items = tt
-library_good (Some flag.Map) words items = tt
 library_good (Some flag.Create) words items = tt
-library_good (Some flag.Table) words items = tt
 library_good (Some flag.Extract) words items = tt
-library_good (Some flag.Output) words items = tt
-library_good (Some flag.Bin) words items = tt
-library_good (Some flag.At) words items = tt
-library_good (Some flag.Memory) words items = tt
-library_good (Some flag.Rom) words items = tt
-library_good (Some flag.Steps) words items = tt
-library_good (Some flag.Scatter) words items = tt
-library_good (Some flag.Aif) words items = tt
-library_good (Some flag.Reloc) words items = tt
-library_good (Some flag.Base) words items = tt
-library_good (Some flag.Ram) words items = tt
+library_good mode words items = tt
 
 -- who links has a name
 pub data Links : Verb → Type 0 where
@@ -255,19 +233,20 @@ named verb link mode items h = first_of_both (nat_lt 0 (name_count items)) _ (se
 named verb build mode items h = first_of_both (nat_lt 0 (name_count items)) _ (second_of_both (is_met (needs_mode verb) (is_some mode)) _ h)
 
 all_good : (verb : Verb) (words : List (List ℕ)) (items : List Item) → verb_fault verb words items ≡ None → AllByRecursion (HasValues verb words) items
-all_good verb words items h = all_fine verb words (mode_of items) (has flag.Reloc items) [] items (lesser_none _ (names_fault verb (mode_of items) words items) (first_none _ _ h))
+all_good verb words items h = all_fine verb words (mode_of verb items) (has flag.Reloc items) [] items (lesser_none _ (names_fault verb (mode_of verb items) words items) (first_none _ _ h))
 
-links : (verb : Verb) → Links verb → (words : List (List ℕ)) (items : List Item) → verb_fault verb words items ≡ None → IsLinked (link_words (mode_of items) words items)
+links : (verb : Verb) → Links verb → (words : List (List ℕ)) (items : List Item) → verb_fault verb words items ≡ None → IsLinked (link_words (mode_of verb items) words items)
 links verb k words items h =
-    let complete : is_complete verb (mode_of items) items ≡ true = (chosen (is_complete verb (mode_of items) items) None (length words) (later_none (lesser (items_fault verb words (mode_of items) (has flag.Reloc items) [] items) (names_fault verb (mode_of items) words items)) _ h)).0 in
-    linked verb (mode_of items) words items (all_good verb words items h) (named verb k (mode_of items) items complete)
+    let complete : is_complete verb (mode_of verb items) items ≡ true = (chosen (is_complete verb (mode_of verb items) items) None (length words) (later_none (lesser (items_fault verb words (mode_of verb items) (has flag.Reloc items) [] items) (names_fault verb (mode_of verb items) words items)) _ h)).0 in
+    linked verb (mode_of verb items) words items (all_good verb words items h) (named verb k (mode_of verb items) items complete)
 
-pub good_words : (verb : Verb) (words : List (List ℕ)) (items : List Item) → verb_fault verb words items ≡ None → IsGood (verb_command verb (mode_of items) words items)
+pub good_words : (verb : Verb) (words : List (List ℕ)) (items : List Item) → verb_fault verb words items ≡ None → IsGood (verb_command verb (mode_of verb items) words items)
 good_words Assemble words items h = tt
-good_words Library words items h = library_good (mode_of items) words items
+good_words Library words items h = library_good (mode_of Library items) words items
 good_words Listing words items h = tt
 good_words Run words items h =
     let all = all_good Run words items h in
-    (image_fine Run (mode_of items) words items all, banks_fine Run flag.Memory memory words items all, banks_fine Run flag.Rom rom words items all)
+    (image_fine Run (mode_of Run items) words items all, banks_fine Run flag.Memory memory words items all, banks_fine Run flag.Rom rom words items all)
 good_words Link words items h = links Link link words items h
 good_words Build words items h = links Build build words items h
+good_words InterruptKit words items h = address_fine InterruptKit flag.Acknowledge acknowledgement words items 0xF000000C refl (all_good InterruptKit words items h)

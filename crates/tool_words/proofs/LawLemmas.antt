@@ -44,6 +44,7 @@ form_most verb = omega arith
 values_most : (verb : Verb) (f : Flag) → value_count verb f ≤ 2
 values_most verb flag.Aif = form_most verb
 values_most verb flag.Bin = form_most verb
+values_most verb flag.Elf = form_most verb
 values_most verb f = omega arith
 
 -- of an option with so many values, the first
@@ -103,11 +104,11 @@ values_tell verb words at f lt =
 
 -- ---- an option
 
-mode_no_bank : (f : Flag) → is_mode f ≡ true → is_bank f ≡ false
-mode_no_bank flag.Memory h = absurd (let bad : false ≡ true = h in cc)
-mode_no_bank flag.Rom h = absurd (let bad : false ≡ true = h in cc)
-mode_no_bank flag.Ram h = absurd (let bad : false ≡ true = h in cc)
-mode_no_bank f h = refl
+mode_no_bank : (verb : Verb) (f : Flag) → is_mode verb f ≡ true → is_bank f ≡ false
+mode_no_bank verb flag.Memory h = absurd (let bad : false ≡ true = h in cc)
+mode_no_bank verb flag.Rom h = absurd (let bad : false ≡ true = h in cc)
+mode_no_bank verb flag.Ram h = absurd (let bad : false ≡ true = h in cc)
+mode_no_bank verb f h = refl
 
 -- why an option is one too many: of full banks, one that stands twice, or a second mode
 surplus : (bank less there mode some : Bool) → cond bank (not less) (there || (mode && some)) ≡ true
@@ -146,23 +147,23 @@ module _ (verb : Verb) (words : List (List ℕ)) (mode : Option Flag) (moves : B
   of_value q (inl x) = subst (OptionBreaks verb words mode moves before at f) (sym x.1.0) (laws.bad_value x.0 x.1.1 x.1.2)
   of_value q (inr x) = subst (OptionBreaks verb words mode moves before at f) (sym x.1.0) (laws.bad_size x.0 x.1.1 x.1.2)
 
-  value_only : (q : ℕ) → is_allowed verb mode moves f ≡ true → is_surplus before f ≡ false → OptionBreaks verb words mode moves before at f q → BadValue verb words at f q
+  value_only : (q : ℕ) → is_allowed verb mode moves f ≡ true → is_surplus verb before f ≡ false → OptionBreaks verb words mode moves before at f q → BadValue verb words at f q
   value_only q a s (laws.excluded e) = absurd (opposite (is_allowed verb mode moves f) a e)
-  value_only q a s (laws.twice b e) = absurd (no_surplus (is_bank f) (nat_lt (bank_count before) 16) (has f before) (is_mode f) (is_some (mode_of before)) s (inr (inl (b, e))))
-  value_only q a s (laws.second_mode m e) = absurd (no_surplus (is_bank f) (nat_lt (bank_count before) 16) (has f before) (is_mode f) (is_some (mode_of before)) s (inr (inr (mode_no_bank f m, m, e))))
+  value_only q a s (laws.twice b e) = absurd (no_surplus (is_bank f) (nat_lt (bank_count before) 16) (has f before) (is_mode verb f) (is_some (mode_of verb before)) s (inr (inl (b, e))))
+  value_only q a s (laws.second_mode m e) = absurd (no_surplus (is_bank f) (nat_lt (bank_count before) 16) (has f before) (is_mode verb f) (is_some (mode_of verb before)) s (inr (inr (mode_no_bank verb f m, m, e))))
   value_only q a s (laws.too_many_banks b e) =
       let full : nat_lt (bank_count before) 16 ≡ false = grind (arith, nat_tests) in
-      absurd (no_surplus (is_bank f) (nat_lt (bank_count before) 16) (has f before) (is_mode f) (is_some (mode_of before)) s (inl (b, full)))
+      absurd (no_surplus (is_bank f) (nat_lt (bank_count before) 16) (has f before) (is_mode verb f) (is_some (mode_of verb before)) s (inl (b, full)))
   value_only q a s (laws.bad_value c lt e) = inl (c, (refl, lt, e))
   value_only q a s (laws.bad_size c lt e) = inr (c, (refl, lt, e))
 
-  too_many : is_surplus before f ≡ true → OptionBreaks verb words mode moves before at f at
+  too_many : is_surplus verb before f ≡ true → OptionBreaks verb words mode moves before at f at
   too_many s =
       either (λ x. let full : 16 ≤ bank_count before = not_less (bank_count before) x.1 in laws.too_many_banks x.0 full)
       (either (λ x. laws.twice x.0 x.1) (λ x. laws.second_mode x.0 x.1))
-      (surplus (is_bank f) (nat_lt (bank_count before) 16) (has f before) (is_mode f) (is_some (mode_of before)) s)
+      (surplus (is_bank f) (nat_lt (bank_count before) 16) (has f before) (is_mode verb f) (is_some (mode_of verb before)) s)
 
-  option_tells : (allowed many : Bool) → is_allowed verb mode moves f ≡ allowed → is_surplus before f ≡ many → at < length words
+  option_tells : (allowed many : Bool) → is_allowed verb mode moves f ≡ allowed → is_surplus verb before f ≡ many → at < length words
       → Tells (OptionBreaks verb words mode moves before at f) (length words ≤ at + value_count verb f) (length words) (cond (allowed && not many) (values_fault verb f words at) (Some at))
   option_tells false many a s lt = inl (record { holds = laws.excluded a; least = λ q l x. absurd (omega (arith, from_word q x, l)) })
   option_tells true true a s lt = inl (record { holds = too_many s; least = λ q l x. absurd (omega (arith, from_word q x, l)) })
@@ -221,7 +222,7 @@ role_tells : (verb : Verb) (words : List (List ℕ)) (mode : Option Flag) (moves
     → Tells (Alone verb words mode moves before at role) (Wants verb words at role) (length words) (role_fault verb words mode moves before at role)
 role_tells verb words mode moves before at Name lt = name_tells verb words mode before at (is_plain (word_at words at)) (most_names verb mode) refl refl
 role_tells verb words mode moves before at Unknown lt = inl (record { holds = refl; least = λ q l x. absurd (omega (arith, x, l)) })
-role_tells verb words mode moves before at (Known f) lt = option_tells verb words mode moves before at f (is_allowed verb mode moves f) (is_surplus before f) refl refl lt
+role_tells verb words mode moves before at (Known f) lt = option_tells verb words mode moves before at f (is_allowed verb mode moves f) (is_surplus verb before f) refl refl lt
 
 near_option : (verb : Verb) (words : List (List ℕ)) (mode : Option Flag) (moves : Bool) (before : List Item) (at : ℕ) (f : Flag) (count q : ℕ) → at < length words → count ≡ min (value_count verb f) (length words - (at + 1))
     → OptionBreaks verb words mode moves before at f q → q < at + 1 + count
@@ -343,14 +344,14 @@ wants_option verb words at Unknown x = absurd x
 wants_option verb words at (Known f) x = (f, refl, x)
 
 module _ (verb : Verb) (words : List (List ℕ)) (items : List Item) where
-  to_rule : (q : ℕ) → From (ItemAlone verb words (mode_of items) (has flag.Reloc items)) [] items q ⊎ Same verb words (mode_of items) items q → BreaksRule verb words items q
+  to_rule : (q : ℕ) → From (ItemAlone verb words (mode_of verb items) (has flag.Reloc items)) [] items q ⊎ Same verb words (mode_of verb items) items q → BreaksRule verb words items q
   to_rule q (inl x) =
-      let f : Found (ItemAlone verb words (mode_of items) (has flag.Reloc items)) [] items q = found (ItemAlone verb words (mode_of items) (has flag.Reloc items)) [] items q x in record {
+      let f : Found (ItemAlone verb words (mode_of verb items) (has flag.Reloc items)) [] items q = found (ItemAlone verb words (mode_of verb items) (has flag.Reloc items)) [] items q x in record {
         before = f.before;
         item = f.item;
         after = f.after;
         all = f.all;
-        breaks = alone_role verb words (mode_of items) (has flag.Reloc items) f.before f.item.at f.item.role q f.holds;
+        breaks = alone_role verb words (mode_of verb items) (has flag.Reloc items) f.before f.item.at f.item.role q f.holds;
       }
   to_rule q (inr x) =
       let f : Found (Repeats words) [] items q = found (Repeats words) [] items q x.1 in record {
@@ -358,14 +359,14 @@ module _ (verb : Verb) (words : List (List ℕ)) (items : List Item) where
         item = f.item;
         after = f.after;
         all = f.all;
-        breaks = again_role verb words (mode_of items) (has flag.Reloc items) f.before f.item.at f.item.role q x.0 f.holds.0 f.holds.1;
+        breaks = again_role verb words (mode_of verb items) (has flag.Reloc items) f.before f.item.at f.item.role q x.0 f.holds.0 f.holds.1;
       }
 
-  of_rule : (q : ℕ) → BreaksRule verb words items q → From (ItemAlone verb words (mode_of items) (has flag.Reloc items)) [] items q ⊎ Same verb words (mode_of items) items q
+  of_rule : (q : ℕ) → BreaksRule verb words items q → From (ItemAlone verb words (mode_of verb items) (has flag.Reloc items)) [] items q ⊎ Same verb words (mode_of verb items) items q
   of_rule q r =
-      either (λ a. inl (subst (λ l. From (ItemAlone verb words (mode_of items) (has flag.Reloc items)) [] l q) r.all (placed (ItemAlone verb words (mode_of items) (has flag.Reloc items)) [] r.before r.item r.after q a)))
+      either (λ a. inl (subst (λ l. From (ItemAlone verb words (mode_of verb items) (has flag.Reloc items)) [] l q) r.all (placed (ItemAlone verb words (mode_of verb items) (has flag.Reloc items)) [] r.before r.item r.after q a)))
       (λ x. inr (x.0, subst (λ l. From (Repeats words) [] l q) r.all (placed (Repeats words) [] r.before r.item r.after q (x.1, x.2))))
-      (whole_role verb words (mode_of items) (has flag.Reloc items) r.before r.item.at r.item.role q r.breaks)
+      (whole_role verb words (mode_of verb items) (has flag.Reloc items) r.before r.item.at r.item.role q r.breaks)
 
   of_value_missing : Lacks (ItemWants verb words) [] items → IsMissing verb words items
   of_value_missing x =
@@ -404,61 +405,61 @@ no_name n h = grind (arith, nat_tests)
 
 module _ (verb : Verb) (words : List (List ℕ)) (items : List Item) where
   abbrev mode_met : Bool
-  mode_met = is_met (needs_mode verb) (is_some (mode_of items))
+  mode_met = is_met (needs_mode verb) (is_some (mode_of verb items))
 
   abbrev name_met : Bool
-  name_met = is_met (needs_name verb (mode_of items)) (nat_lt 0 (name_count items))
+  name_met = is_met (needs_name verb (mode_of verb items)) (nat_lt 0 (name_count items))
 
   abbrev output_met : Bool
-  output_met = is_met (needs_output verb (mode_of items)) (has flag.Output items)
+  output_met = is_met (needs_output verb (mode_of verb items)) (has flag.Output items)
 
   abbrev address_met : Bool
-  address_met = is_met (needs_address verb (mode_of items)) (has flag.At items)
+  address_met = is_met (needs_address verb (mode_of verb items)) (has flag.At items)
 
   of_option_missing : (output_met && address_met) ≡ false → IsMissing verb words items
   of_option_missing h =
-      either (λ e. let k = not_met (needs_output verb (mode_of items)) (has flag.Output items) e in laws.output k.0 k.1)
-      (λ e. let k = not_met (needs_address verb (mode_of items)) (has flag.At items) e in laws.address k.0 k.1)
+      either (λ e. let k = not_met (needs_output verb (mode_of verb items)) (has flag.Output items) e in laws.output k.0 k.1)
+      (λ e. let k = not_met (needs_address verb (mode_of verb items)) (has flag.At items) e in laws.address k.0 k.1)
       (which_fails output_met address_met h)
 
-  of_incomplete : is_complete verb (mode_of items) items ≡ false → IsMissing verb words items
+  of_incomplete : is_complete verb (mode_of verb items) items ≡ false → IsMissing verb words items
   of_incomplete h =
-      either (λ e. let k = not_met (needs_mode verb) (is_some (mode_of items)) e in laws.mode k.0 (none_of (mode_of items) k.1))
-      (λ r. either (λ e. let k = not_met (needs_name verb (mode_of items)) (nat_lt 0 (name_count items)) e in laws.name k.0 (no_name (name_count items) k.1)) of_option_missing
+      either (λ e. let k = not_met (needs_mode verb) (is_some (mode_of verb items)) e in laws.mode k.0 (none_of (mode_of verb items) k.1))
+      (λ r. either (λ e. let k = not_met (needs_name verb (mode_of verb items)) (nat_lt 0 (name_count items)) e in laws.name k.0 (no_name (name_count items) k.1)) of_option_missing
       (which_fails name_met (output_met && address_met) r))
       (which_fails mode_met (name_met && (output_met && address_met)) h)
 
-  to_missing : IsMissing verb words items → Lacks (ItemWants verb words) [] items ⊎ (is_complete verb (mode_of items) items ≡ false)
+  to_missing : IsMissing verb words items → Lacks (ItemWants verb words) [] items ⊎ (is_complete verb (mode_of verb items) items ≡ false)
   to_missing (laws.value before item after f all role le) =
       inl (subst (λ l. Lacks (ItemWants verb words) [] l) all (placed (λ b i q. ItemWants verb words i) [] before item after 0 (subst (Wants verb words item.at) (sym role) le)))
   to_missing (laws.mode n e) =
-      let none : is_some (mode_of items) ≡ false = rw e refl in
-      inr (first_fails mode_met (name_met && (output_met && address_met)) (unmet (needs_mode verb) (is_some (mode_of items)) n none))
+      let none : is_some (mode_of verb items) ≡ false = rw e refl in
+      inr (first_fails mode_met (name_met && (output_met && address_met)) (unmet (needs_mode verb) (is_some (mode_of verb items)) n none))
   to_missing (laws.name n e) =
       let none : nat_lt 0 (name_count items) ≡ false = rw e refl in
-      inr (second_fails mode_met (name_met && (output_met && address_met)) (first_fails name_met (output_met && address_met) (unmet (needs_name verb (mode_of items)) (nat_lt 0 (name_count items)) n none)))
+      inr (second_fails mode_met (name_met && (output_met && address_met)) (first_fails name_met (output_met && address_met) (unmet (needs_name verb (mode_of verb items)) (nat_lt 0 (name_count items)) n none)))
   to_missing (laws.output n e) =
-      inr (second_fails mode_met (name_met && (output_met && address_met)) (second_fails name_met (output_met && address_met) (first_fails output_met address_met (unmet (needs_output verb (mode_of items)) (has flag.Output items) n e))))
+      inr (second_fails mode_met (name_met && (output_met && address_met)) (second_fails name_met (output_met && address_met) (first_fails output_met address_met (unmet (needs_output verb (mode_of verb items)) (has flag.Output items) n e))))
   to_missing (laws.address n e) =
-      inr (second_fails mode_met (name_met && (output_met && address_met)) (second_fails name_met (output_met && address_met) (second_fails output_met address_met (unmet (needs_address verb (mode_of items)) (has flag.At items) n e))))
+      inr (second_fails mode_met (name_met && (output_met && address_met)) (second_fails name_met (output_met && address_met) (second_fails output_met address_met (unmet (needs_address verb (mode_of verb items)) (has flag.At items) n e))))
 
 -- ---- the fault of a command
 
-repeats_within : (verb : Verb) (words : List (List ℕ)) (items : List Item) (q : ℕ) → Chain verb words 1 items → Same verb words (mode_of items) items q → q < length words
+repeats_within : (verb : Verb) (words : List (List ℕ)) (items : List Item) (q : ℕ) → Chain verb words 1 items → Same verb words (mode_of verb items) items q → q < length words
 repeats_within verb words items q c x = (far verb words (Repeats words) (near_repeat verb words) [] items 1 q c x.1).1
 
 fault_tells : (verb : Verb) (words : List (List ℕ)) (items : List Item) → Chain verb words 1 items → Tells (BreaksRule verb words items) (IsMissing verb words items) (length words) (verb_fault verb words items)
 fault_tells verb words items c =
-    tells_same (λ q. From (ItemAlone verb words (mode_of items) (has flag.Reloc items)) [] items q ⊎ Same verb words (mode_of items) items q) (BreaksRule verb words items)
-    (Lacks (ItemWants verb words) [] items ⊎ (is_complete verb (mode_of items) items ≡ false)) (IsMissing verb words items) (length words) (verb_fault verb words items)
+    tells_same (λ q. From (ItemAlone verb words (mode_of verb items) (has flag.Reloc items)) [] items q ⊎ Same verb words (mode_of verb items) items q) (BreaksRule verb words items)
+    (Lacks (ItemWants verb words) [] items ⊎ (is_complete verb (mode_of verb items) items ≡ false)) (IsMissing verb words items) (length words) (verb_fault verb words items)
     (to_rule verb words items) (of_rule verb words items) (either (of_value_missing verb words items) (of_incomplete verb words items)) (to_missing verb words items)
-    (complete_tells (λ q. From (ItemAlone verb words (mode_of items) (has flag.Reloc items)) [] items q ⊎ Same verb words (mode_of items) items q) (Lacks (ItemWants verb words) [] items) (length words)
-    (lesser (items_fault verb words (mode_of items) (has flag.Reloc items) [] items) (names_fault verb (mode_of items) words items)) (is_complete verb (mode_of items) items)
-    (lesser_tells (From (ItemAlone verb words (mode_of items) (has flag.Reloc items)) [] items) (Same verb words (mode_of items) items) (Lacks (ItemWants verb words) [] items) (length words)
-    (items_fault verb words (mode_of items) (has flag.Reloc items) [] items) (names_fault verb (mode_of items) words items)
+    (complete_tells (λ q. From (ItemAlone verb words (mode_of verb items) (has flag.Reloc items)) [] items q ⊎ Same verb words (mode_of verb items) items q) (Lacks (ItemWants verb words) [] items) (length words)
+    (lesser (items_fault verb words (mode_of verb items) (has flag.Reloc items) [] items) (names_fault verb (mode_of verb items) words items)) (is_complete verb (mode_of verb items) items)
+    (lesser_tells (From (ItemAlone verb words (mode_of verb items) (has flag.Reloc items)) [] items) (Same verb words (mode_of verb items) items) (Lacks (ItemWants verb words) [] items) (length words)
+    (items_fault verb words (mode_of verb items) (has flag.Reloc items) [] items) (names_fault verb (mode_of verb items) words items)
     (λ q x. repeats_within verb words items q c x)
-    (items_tell verb words (mode_of items) (has flag.Reloc items) items c)
-    (names_tell verb words (mode_of items) items (must_differ verb (mode_of items)) refl c)))
+    (items_tell verb words (mode_of verb items) (has flag.Reloc items) items c)
+    (names_tell verb words (mode_of verb items) items (must_differ verb (mode_of verb items)) refl c)))
 
 -- ---- the laws
 
@@ -480,7 +481,7 @@ place_of_verb None (w ∷ ws) k h =
     (0, cc, inl (record { holds = (refl, omega arith); least = λ q lt x. absurd (omega arith) }))
 place_of_verb (Some verb) words k h =
     let items = items_of verb words in
-    told_place (BreaksRule verb words items) (IsMissing verb words items) (length words) (verb_fault verb words items) (verb_command verb (mode_of items) words items) k
+    told_place (BreaksRule verb words items) (IsMissing verb words items) (length words) (verb_fault verb words items) (verb_command verb (mode_of verb items) words items) k
     (fault_tells verb words items (chain_items verb words (length words) 1)) h
 
 pub place_law : PlaceLaw
@@ -490,7 +491,7 @@ fine_verb : (v : Option Verb) (words : List (List ℕ)) (c : Command) → verb_w
 fine_verb None words c h = absurd (let bad : Err (told 0) ≡ Ok c = h in cc)
 fine_verb (Some verb) words c h =
     let items = items_of verb words in
-    told_none (BreaksRule verb words items) (IsMissing verb words items) (length words) (verb_fault verb words items) (verb_command verb (mode_of items) words items) c
+    told_none (BreaksRule verb words items) (IsMissing verb words items) (length words) (verb_fault verb words items) (verb_command verb (mode_of verb items) words items) c
     (fault_tells verb words items (chain_items verb words (length words) 1)) h
 
 pub fine_law : FineLaw
@@ -498,7 +499,7 @@ fine_law words c h = fine_verb (verb_named (word_at words 0)) words c h
 
 rule_within : (verb : Verb) (words : List (List ℕ)) (items : List Item) (q : ℕ) → Chain verb words 1 items → BreaksRule verb words items q → q < length words
 rule_within verb words items q c r =
-    either (λ x. (far verb words (ItemAlone verb words (mode_of items) (has flag.Reloc items)) (near_item verb words (mode_of items) (has flag.Reloc items)) [] items 1 q c x).1)
+    either (λ x. (far verb words (ItemAlone verb words (mode_of verb items) (has flag.Reloc items)) (near_item verb words (mode_of verb items) (has flag.Reloc items)) [] items 1 q c x).1)
     (repeats_within verb words items q c)
     (of_rule verb words items q r)
 

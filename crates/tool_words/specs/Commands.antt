@@ -3,9 +3,9 @@ use Rattle.std.specs.Prelude.{◌≡◌, ℕ, ◌+◌, ◌%◌, ◌^◌, ◌<◌
 use Rattle.std.specs.List.{AllByRecursion}
 use Rattle.std.specs.Option.{option_map_or}
 use Rattle.tool_words.specs.declared.items.Verb.{Verb}
-use Rattle.tool_words.specs.declared.items.Verb.TheVariants.{Assemble, Library, List as Listing, Run, Link, Build}
+use Rattle.tool_words.specs.declared.items.Verb.TheVariants.{Assemble, Library, List as Listing, Run, Link, Build, InterruptKit}
 use Rattle.tool_words.specs.declared.items.Flag.{Flag}
-use Rattle.tool_words.specs.declared.items.Flag.TheVariants.{Create, Table, Extract, Output, Bin, At, Memory, Rom, Steps, Reloc, Base, Ram}
+use Rattle.tool_words.specs.declared.items.Flag.TheVariants.{Create, Table, Extract, Output, Bin, At, Memory, Rom, Steps, Reloc, Base, Ram, Acknowledge}
 use Rattle.tool_words.specs.declared.items.Flag.TheVariants as flag
 use Rattle.tool_words.specs.declared.items.Item.{Item}
 use Rattle.tool_words.specs.declared.command.Bank.{Bank}
@@ -13,8 +13,10 @@ use Rattle.tool_words.specs.declared.command.Command.{Command}
 use Rattle.tool_words.specs.declared.command.Command.TheVariants as command
 use Rattle.tool_words.specs.declared.command.RunImage.{RunImage}
 use Rattle.tool_words.specs.declared.command.RunImage.TheVariants as image
-use Rattle.tool_words.specs.declared.command.LinkForm.{LinkForm}
-use Rattle.tool_words.specs.declared.command.LinkForm.TheVariants as form
+use Rattle.tool_words.specs.declared.command.LinkPlacement.{LinkPlacement}
+use Rattle.tool_words.specs.declared.command.LinkPlacement.TheVariants as placement
+use Rattle.tool_words.specs.declared.command.Container.{Container}
+use Rattle.tool_words.specs.declared.command.Container.TheVariants as container
 use Rattle.tool_words.specs.declared.command.LinkWords.{LinkWords}
 use Rattle.tool_words.specs.declared.command.WordsFault.{WordsFault}
 use Rattle.tool_words.specs.declared.command.WordsFault.TheVariants as fault
@@ -53,21 +55,28 @@ banks_in words items f = map (λ i. bank_at words i.at) (filter (λ i. is_flag f
 
 abbrev pub image_of : Option Flag → List (List ℕ) → List Item → RunImage
 image_of (Some flag.Map) words items = image.Map (value_of words items flag.Map)
+image_of (Some flag.Elf) words items = image.Elf (value_of words items flag.Elf)
 image_of (Some flag.Aif) words items = image.Aif (value_of words items flag.Aif) (number_told words items At)
 image_of mode words items = image.Binary (value_of words items Bin) (number_of words items At 0)
 
--- the form of an image that is made, and the banks that it may use, where any is told
-abbrev pub form_of : Option Flag → List (List ℕ) → List Item → LinkForm
-form_of (Some flag.Scatter) words items = form.Scatter (value_of words items flag.Scatter)
-form_of (Some flag.Aif) words items = form.Aif (number_of words items Base 0x8000) (has Reloc items)
-form_of mode words items = form.Plain (number_of words items Base 0x8000)
+-- where an image that is made is placed, what is written of it, and the banks that it may use, where any is told
+abbrev pub placement_of : Option Flag → List (List ℕ) → List Item → LinkPlacement
+placement_of (Some flag.Scatter) words items = placement.Scatter (value_of words items flag.Scatter)
+placement_of (Some flag.Aif) words items = placement.Aif (number_of words items Base 0x8000) (has Reloc items)
+placement_of mode words items = placement.Plain (number_of words items Base 0x8000)
+
+abbrev pub container_of : Option Flag → List Item → Container
+container_of (Some flag.Scatter) items = if has flag.Elf items then container.Elf else container.LoadFiles
+container_of (Some flag.Aif) items = container.ImageFile
+container_of mode items = container.Binary
 
 abbrev pub ram_of : List (List ℕ) → List Item → Option (List Bank)
 ram_of words items = if has Ram items then Some (banks_in words items Ram) else None
 
 abbrev pub link_words : Option Flag → List (List ℕ) → List Item → LinkWords
 link_words mode words items = record {
-  form = form_of mode words items;
+  placement = placement_of mode words items;
+  container = container_of mode items;
   output = value_of words items Output;
   names = names_in words items;
   ram = ram_of words items;
@@ -90,6 +99,7 @@ verb_command Run mode words items = command.Run (record {
 })
 verb_command Link mode words items = command.Link (link_words mode words items)
 verb_command Build mode words items = command.Build (link_words mode words items)
+verb_command InterruptKit mode words items = command.InterruptKit (value_of words items Output) (number_of words items Acknowledge 0xF000000C)
 
 -- a place as it is told: counted from 1, and at most 2^32 - 1
 abbrev pub told : ℕ → ℕ
@@ -103,7 +113,7 @@ abbrev pub verb_words : Option Verb → List (List ℕ) → Result Command ℕ
 verb_words None words = Err (told 0)
 verb_words (Some verb) words =
     let items = items_of verb words in
-    unless (verb_fault verb words items) (verb_command verb (mode_of items) words items)
+    unless (verb_fault verb words items) (verb_command verb (mode_of verb items) words items)
 
 -- the command that words ask for, or the place of the first that breaks a rule
 abbrev pub command_of : List (List ℕ) → Result Command ℕ
@@ -139,20 +149,30 @@ IsAddress (Some at) = at % 4 ≡ 0
 
 abbrev pub IsPlaced : RunImage → Type 0
 IsPlaced (image.Map file) = Unit {0}
+IsPlaced (image.Elf file) = Unit {0}
 IsPlaced (image.Aif file at) = IsAddress at
 IsPlaced (image.Binary file at) = at % 4 ≡ 0
 
-abbrev pub IsFormed : LinkForm → Type 0
-IsFormed (form.Scatter file) = Unit {0}
-IsFormed (form.Aif base relocatable) = base % 4 ≡ 0
-IsFormed (form.Plain base) = base % 4 ≡ 0
+abbrev pub IsBased : LinkPlacement → Type 0
+IsBased (placement.Scatter file) = Unit {0}
+IsBased (placement.Plain base) = base % 4 ≡ 0
+IsBased (placement.Aif base relocatable) = base % 4 ≡ 0
+
+-- what is written of an image that is placed so
+abbrev pub ComeTogether : LinkPlacement → Container → Type 0
+ComeTogether (placement.Scatter file) container.LoadFiles = Unit {0}
+ComeTogether (placement.Scatter file) container.Elf = Unit {0}
+ComeTogether (placement.Plain base) container.Binary = Unit {0}
+ComeTogether (placement.Aif base relocatable) container.ImageFile = Unit {0}
+ComeTogether placed written = ⊥
 
 abbrev pub AreBanks : Option (List Bank) → Type 0
 AreBanks None = Unit {0}
 AreBanks (Some banks) = AllByRecursion IsBank banks
 
 pub record IsLinked (l : LinkWords) : Type 0 where
-  pub form : IsFormed l.form
+  pub based : IsBased l.placement
+  pub written : ComeTogether l.placement l.container
   pub named : 0 < length l.names
   pub ram : AreBanks l.ram
 
@@ -160,4 +180,5 @@ abbrev pub IsGood : Command → Type 0
 IsGood (command.Run run) = IsPlaced run.image × AllByRecursion IsBank run.memory × AllByRecursion IsBank run.rom
 IsGood (command.Link link) = IsLinked link
 IsGood (command.Build link) = IsLinked link
+IsGood (command.InterruptKit output acknowledge) = acknowledge % 4 ≡ 0
 IsGood other = Unit {0}

@@ -1,9 +1,9 @@
 -- The words behind a command, as items: names, and options with their values. This project's.
 use Rattle.std.specs.Prelude.{ℕ, zero, suc, ◌+◌, ◌-◌, ◌==◌, nat_lt, Bool, true, false, if◌then◌else◌, List, [], ◌∷◌, length, slice_get, unwrap_or, min, Option, Some, None, codes, bytes_eq}
 use Rattle.tool_words.specs.declared.items.Verb.{Verb}
-use Rattle.tool_words.specs.declared.items.Verb.TheVariants.{Assemble, Library, List as Listing, Run, Link, Build}
+use Rattle.tool_words.specs.declared.items.Verb.TheVariants.{Assemble, Library, List as Listing, Run, Link, Build, InterruptKit}
 use Rattle.tool_words.specs.declared.items.Flag.{Flag}
-use Rattle.tool_words.specs.declared.items.Flag.TheVariants.{Create, Table, Extract, Output, Map, Bin, At, Memory, Rom, Steps, Scatter, Aif, Reloc, Base, Ram}
+use Rattle.tool_words.specs.declared.items.Flag.TheVariants.{Create, Table, Extract, Output, Map, Bin, At, Memory, Rom, Steps, Scatter, Aif, Reloc, Base, Ram, Elf, Acknowledge}
 use Rattle.tool_words.specs.declared.items.Role.{Role}
 use Rattle.tool_words.specs.declared.items.Role.TheVariants.{Name, Known, Unknown}
 use Rattle.tool_words.specs.declared.items.Item.{Item}
@@ -20,16 +20,18 @@ verb_named word =
     if bytes_eq word (codes "list") then Some Listing else (
     if bytes_eq word (codes "run") then Some Run else (
     if bytes_eq word (codes "link") then Some Link else (
-    if bytes_eq word (codes "build") then Some Build else None)))))
+    if bytes_eq word (codes "build") then Some Build else (
+    if bytes_eq word (codes "irqkit") then Some InterruptKit else None))))))
 
--- an option of the form and place of an image
+-- an option of the place and files of an image
 abbrev pub image_flag_named : List ℕ → Option Flag
 image_flag_named word =
     if bytes_eq word (codes "-scatter") then Some Scatter else (
     if bytes_eq word (codes "-aif") then Some Aif else (
     if bytes_eq word (codes "-reloc") then Some Reloc else (
     if bytes_eq word (codes "-base") then Some Base else (
-    if bytes_eq word (codes "-ram") then Some Ram else None))))
+    if bytes_eq word (codes "-ram") then Some Ram else (
+    if bytes_eq word (codes "-elf") then Some Elf else None)))))
 
 -- the option of a spelling
 abbrev pub flag_named : List ℕ → Option Flag
@@ -43,7 +45,8 @@ flag_named word =
     if bytes_eq word (codes "-at") then Some At else (
     if bytes_eq word (codes "-mem") then Some Memory else (
     if bytes_eq word (codes "-rom") then Some Rom else (
-    if bytes_eq word (codes "-steps") then Some Steps else image_flag_named word)))))))))
+    if bytes_eq word (codes "-steps") then Some Steps else (
+    if bytes_eq word (codes "-ack") then Some Acknowledge else image_flag_named word))))))))))
 
 -- the options of making an image
 abbrev pub is_image_flag : Flag → Bool
@@ -54,6 +57,7 @@ is_image_flag Reloc = true
 is_image_flag Base = true
 is_image_flag Output = true
 is_image_flag Ram = true
+is_image_flag Elf = true
 is_image_flag other = false
 
 -- the options of a command
@@ -68,6 +72,7 @@ has_flag Library other = false
 has_flag Listing flag = false
 has_flag Run Map = true
 has_flag Run Aif = true
+has_flag Run Elf = true
 has_flag Run Bin = true
 has_flag Run At = true
 has_flag Run Memory = true
@@ -76,6 +81,9 @@ has_flag Run Steps = true
 has_flag Run other = false
 has_flag Link flag = is_image_flag flag
 has_flag Build flag = is_image_flag flag
+has_flag InterruptKit Output = true
+has_flag InterruptKit Acknowledge = true
+has_flag InterruptKit other = false
 
 -- an option of the command, or one that it hasn't
 abbrev pub flag_role : Verb → Option Flag → Role
@@ -90,7 +98,7 @@ begins_with_dash (c ∷ cs) = c == 45
 abbrev pub role_of : Verb → List ℕ → Role
 role_of verb word = if begins_with_dash word then flag_role verb (flag_named word) else Name
 
--- how many values -aif and -bin have: the file of an image to run, and none where the image is made
+-- how many values -aif, -bin and -elf have: the file of an image to run, and none where the image is made
 abbrev pub form_count : Verb → ℕ
 form_count Run = 1
 form_count other = 0
@@ -102,6 +110,7 @@ value_count verb Rom = 2
 value_count verb Ram = 2
 value_count verb Aif = form_count verb
 value_count verb Bin = form_count verb
+value_count verb Elf = form_count verb
 value_count verb Reloc = 0
 value_count verb other = 1
 

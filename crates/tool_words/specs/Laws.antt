@@ -19,7 +19,7 @@ use Rattle.tool_words.specs.Commands.{told, command_of}
 pub data OptionBreaks (verb : Verb) (words : List (List ℕ)) (mode : Option Flag) (moves : Bool) (before : List Item) (at : ℕ) (f : Flag) : ℕ → Type 0 where
   excluded : is_allowed verb mode moves f ≡ false → OptionBreaks verb words mode moves before at f at
   twice : is_bank f ≡ false → has f before ≡ true → OptionBreaks verb words mode moves before at f at
-  second_mode : is_mode f ≡ true → is_some (mode_of before) ≡ true → OptionBreaks verb words mode moves before at f at
+  second_mode : is_mode verb f ≡ true → is_some (mode_of verb before) ≡ true → OptionBreaks verb words mode moves before at f at
   too_many_banks : is_bank f ≡ true → 16 ≤ bank_count before → OptionBreaks verb words mode moves before at f at
   bad_value : 1 ≤ value_count verb f → at + 1 < length words → first_is_good f words at ≡ false
       → OptionBreaks verb words mode moves before at f (at + 1)
@@ -44,17 +44,17 @@ pub record BreaksRule (verb : Verb) (words : List (List ℕ)) (items : List Item
   pub item : Item
   pub after : List Item
   pub all : before ++ item ∷ after ≡ items
-  pub breaks : RoleBreaks verb words (mode_of items) (has Reloc items) before item.at item.role place
+  pub breaks : RoleBreaks verb words (mode_of verb items) (has Reloc items) before item.at item.role place
 
 -- ---- what is missing
 
 pub data IsMissing (verb : Verb) (words : List (List ℕ)) (items : List Item) : Type 0 where
   value : (before : List Item) (item : Item) (after : List Item) (f : Flag) → before ++ item ∷ after ≡ items
       → item.role ≡ Known f → length words ≤ item.at + value_count verb f → IsMissing verb words items
-  mode : needs_mode verb ≡ true → mode_of items ≡ None → IsMissing verb words items
-  name : needs_name verb (mode_of items) ≡ true → name_count items ≡ 0 → IsMissing verb words items
-  output : needs_output verb (mode_of items) ≡ true → has Output items ≡ false → IsMissing verb words items
-  address : needs_address verb (mode_of items) ≡ true → has At items ≡ false → IsMissing verb words items
+  mode : needs_mode verb ≡ true → mode_of verb items ≡ None → IsMissing verb words items
+  name : needs_name verb (mode_of verb items) ≡ true → name_count items ≡ 0 → IsMissing verb words items
+  output : needs_output verb (mode_of verb items) ≡ true → has Output items ≡ false → IsMissing verb words items
+  address : needs_address verb (mode_of verb items) ≡ true → has At items ≡ false → IsMissing verb words items
 
 -- ---- the command's name too
 

@@ -3,9 +3,9 @@
 use Rattle.std.specs.Prelude.{ℕ, ◌+◌, ◌%◌, ◌^◌, ◌==◌, nat_lt, nat_le, Bool, true, false, not, ◌&&◌, ◌||◌, if◌then◌else◌, List, [], ◌∷◌, ◌++◌, length, min, Option, Some, None, is_some, bytes_eq, count_by}
 use Rattle.std.specs.List.{list_any, list_all}
 use Rattle.tool_words.specs.declared.items.Verb.{Verb}
-use Rattle.tool_words.specs.declared.items.Verb.TheVariants.{Assemble, Library, List as Listing, Run, Link, Build}
+use Rattle.tool_words.specs.declared.items.Verb.TheVariants.{Assemble, Library, List as Listing, Run, Link, Build, InterruptKit}
 use Rattle.tool_words.specs.declared.items.Flag.{Flag}
-use Rattle.tool_words.specs.declared.items.Flag.TheVariants.{Create, Table, Extract, Output, Map, Bin, At, Memory, Rom, Steps, Scatter, Aif, Reloc, Base, Ram}
+use Rattle.tool_words.specs.declared.items.Flag.TheVariants.{Create, Table, Extract, Output, Map, Bin, At, Memory, Rom, Steps, Scatter, Aif, Reloc, Base, Ram, Elf, Acknowledge}
 use Rattle.tool_words.specs.declared.items.Role.{Role}
 use Rattle.tool_words.specs.declared.items.Role.TheVariants.{Name, Known, Unknown}
 use Rattle.tool_words.specs.declared.items.Item.{Item}
@@ -31,6 +31,8 @@ code Aif = 11
 code Reloc = 12
 code Base = 13
 code Ram = 14
+code Elf = 15
+code Acknowledge = 16
 
 abbrev pub is_flag : Flag → Role → Bool
 is_flag flag Name = false
@@ -63,30 +65,36 @@ is_bank_role (Known flag) = is_bank flag
 abbrev pub bank_count : List Item → ℕ
 bank_count items = count_by (λ i. is_bank_role i.role) items
 
--- options of which a command has one: what a library is wanted for, or an image's form
-abbrev pub is_mode : Flag → Bool
-is_mode Create = true
-is_mode Table = true
-is_mode Extract = true
-is_mode Map = true
-is_mode Bin = true
-is_mode Scatter = true
-is_mode Aif = true
-is_mode other = false
+abbrev pub is_run : Verb → Bool
+is_run Run = true
+is_run other = false
+
+-- options of which a command has one: what a library is wanted for, what is run, or where an image is placed, beside
+-- which -elf of an image that is made says what is written
+abbrev pub is_mode : Verb → Flag → Bool
+is_mode verb Create = true
+is_mode verb Table = true
+is_mode verb Extract = true
+is_mode verb Map = true
+is_mode verb Bin = true
+is_mode verb Scatter = true
+is_mode verb Aif = true
+is_mode verb Elf = is_run verb
+is_mode verb other = false
 
 -- the first such option
-abbrev pub role_mode : Role → Option Flag
-role_mode Name = None
-role_mode Unknown = None
-role_mode (Known flag) = if is_mode flag then Some flag else None
+abbrev pub role_mode : Verb → Role → Option Flag
+role_mode verb Name = None
+role_mode verb Unknown = None
+role_mode verb (Known flag) = if is_mode verb flag then Some flag else None
 
 abbrev pub flag_or : Option Flag → Option Flag → Option Flag
 flag_or None later = later
 flag_or (Some flag) later = Some flag
 
-abbrev pub mode_of : List Item → Option Flag
-mode_of [] = None
-mode_of (i ∷ is) = flag_or (role_mode i.role) (mode_of is)
+abbrev pub mode_of : Verb → List Item → Option Flag
+mode_of verb [] = None
+mode_of verb (i ∷ is) = flag_or (role_mode verb i.role) (mode_of verb is)
 
 abbrev pub is_the_mode : Flag → Option Flag → Bool
 is_the_mode flag None = false
@@ -119,6 +127,7 @@ number_at words at = number (word_at words at)
 abbrev pub first_is_good : Flag → List (List ℕ) → ℕ → Bool
 first_is_good At words at = is_aligned (number_at words (at + 1))
 first_is_good Base words at = is_aligned (number_at words (at + 1))
+first_is_good Acknowledge words at = is_aligned (number_at words (at + 1))
 first_is_good Memory words at = is_aligned (number_at words (at + 1))
 first_is_good Rom words at = is_aligned (number_at words (at + 1))
 first_is_good Ram words at = is_aligned (number_at words (at + 1))
@@ -145,7 +154,7 @@ values_fault verb flag words at =
 -- ---- rules
 
 -- an option that depends on another: -o of a library on -e, -at on -aif or -bin; of an image that is made, -reloc on
--- -aif, none beside -scatter takes -base, and none beside -bin or -reloc takes -ram
+-- -aif, -elf on -scatter, none beside -scatter takes -base, and none beside -bin or -reloc takes -ram
 abbrev pub is_allowed : Verb → Option Flag → Bool → Flag → Bool
 is_allowed Library mode moves Output = is_the_mode Extract mode
 is_allowed Run mode moves At = is_the_mode Aif mode || is_the_mode Bin mode
@@ -153,15 +162,17 @@ is_allowed Link mode moves Base = not (is_the_mode Scatter mode)
 is_allowed Build mode moves Base = not (is_the_mode Scatter mode)
 is_allowed Link mode moves Reloc = is_the_mode Aif mode
 is_allowed Build mode moves Reloc = is_the_mode Aif mode
+is_allowed Link mode moves Elf = is_the_mode Scatter mode
+is_allowed Build mode moves Elf = is_the_mode Scatter mode
 is_allowed Link mode moves Ram = not (is_the_mode Bin mode || moves)
 is_allowed Build mode moves Ram = not (is_the_mode Bin mode || moves)
 is_allowed verb mode moves flag = true
 
 -- an option stands once, or sixteen times if it is of banks, and beside no other of which there is one
-abbrev pub is_surplus : List Item → Flag → Bool
-is_surplus before flag =
+abbrev pub is_surplus : Verb → List Item → Flag → Bool
+is_surplus verb before flag =
     if is_bank flag then not (nat_lt (bank_count before) 16)
-    else has flag before || (is_mode flag && is_some (mode_of before))
+    else has flag before || (is_mode verb flag && is_some (mode_of verb before))
 
 -- the most names of a command, where there is a limit
 abbrev pub most_names : Verb → Option Flag → Option ℕ
@@ -174,6 +185,7 @@ most_names Listing mode = Some 1
 most_names Run mode = Some 0
 most_names Link mode = None
 most_names Build mode = None
+most_names InterruptKit mode = Some 0
 
 abbrev pub is_below : ℕ → Option ℕ → Bool
 is_below n None = true
@@ -185,7 +197,7 @@ role_fault verb words mode moves before at Name =
     if is_plain (word_at words at) && is_below (name_count before) (most_names verb mode) then None else Some at
 role_fault verb words mode moves before at Unknown = Some at
 role_fault verb words mode moves before at (Known flag) =
-    if is_allowed verb mode moves flag && not (is_surplus before flag) then values_fault verb flag words at else Some at
+    if is_allowed verb mode moves flag && not (is_surplus verb before flag) then values_fault verb flag words at else Some at
 
 abbrev pub items_fault : Verb → List (List ℕ) → Option Flag → Bool → List Item → List Item → Option ℕ
 items_fault verb words mode moves before [] = None
@@ -218,11 +230,13 @@ names_fault verb mode words items = if must_differ verb mode then repeated words
 abbrev pub needs_mode : Verb → Bool
 needs_mode Assemble = false
 needs_mode Listing = false
+needs_mode InterruptKit = false
 needs_mode other = true
 
 abbrev pub needs_name : Verb → Option Flag → Bool
 needs_name Library (Some Table) = false
 needs_name Run mode = false
+needs_name InterruptKit mode = false
 needs_name verb mode = true
 
 -- -o
@@ -233,6 +247,7 @@ needs_output Listing mode = false
 needs_output Run mode = false
 needs_output Link mode = true
 needs_output Build mode = true
+needs_output InterruptKit mode = true
 
 -- -at
 abbrev pub needs_address : Verb → Option Flag → Bool
@@ -257,5 +272,6 @@ lesser (Some a) (Some b) = Some (min a b)
 -- the first word that breaks a rule behind a command, or the place of what is missing
 abbrev pub verb_fault : Verb → List (List ℕ) → List Item → Option ℕ
 verb_fault verb words items =
-    or_else (lesser (items_fault verb words (mode_of items) (has Reloc items) [] items) (names_fault verb (mode_of items) words items))
-    (if is_complete verb (mode_of items) items then None else Some (length words))
+    let mode = mode_of verb items in
+    or_else (lesser (items_fault verb words mode (has Reloc items) [] items) (names_fault verb mode words items))
+    (if is_complete verb mode items then None else Some (length words))

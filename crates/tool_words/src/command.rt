@@ -23,6 +23,8 @@ pub struct Bank {
 pub enum RunImage {
     /// In the load files of this map.
     Map { file: Text },
+    /// In this ELF executable, which is loaded and entered at its own addresses.
+    Elf { file: Text },
     /// In this ARM image file, which is loaded at an address or, with none, at its own, and entered there.
     Aif { file: Text, at: Option<u32> },
     /// In this file, which is loaded at an address and entered there.
@@ -39,22 +41,38 @@ pub struct RunWords {
     pub steps: u32,
 }
 
-/// The form of an image that is made.
+/// Where the areas of an image that is made are placed.
 #[derive(Debug, Drop)]
-pub enum LinkForm {
-    /// Load files and their map, placed as this scatter file says.
+pub enum LinkPlacement {
+    /// As this scatter file says, with startup code.
     Scatter { file: Text },
-    /// An ARM image file for an address that is a multiple of 4, and whether it can run elsewhere too.
-    Aif { base: u32, relocatable: bool },
-    /// The bytes alone, from an address that is a multiple of 4.
+    /// One behind the other from an address on that is a multiple of 4, without startup code.
     Plain { base: u32 },
+    /// Behind the header of an ARM image file, from an address on that is a multiple of 4; whether the image can run
+    /// elsewhere too.
+    Aif { base: u32, relocatable: bool },
 }
 
-/// What to link: the form of the image, its file or map, one name or more of objects, libraries or sources, and
-/// the banks of memory that the image may use, where any is told (16 at most).
+/// Which files are written of an image that is made.
+#[derive(Clone, Copy, Debug)]
+pub enum Container {
+    /// A file for each load region, and a map.
+    LoadFiles,
+    /// One ELF executable.
+    Elf,
+    /// The bytes alone.
+    Binary,
+    /// An ARM image file.
+    ImageFile,
+}
+
+/// What to link: where the image is placed and what is written of it, the name of its file (of its load files, with
+/// what is put behind it, and of their map), one name or more of objects, libraries or sources, and the banks of memory
+/// that the image may use, where any is told (16 at most).
 #[derive(Debug, Drop)]
 pub struct LinkWords {
-    pub form: LinkForm,
+    pub placement: LinkPlacement,
+    pub container: Container,
     pub output: Text,
     pub names: List<Text>,
     pub ram: Option<List<Bank>>,
@@ -91,6 +109,12 @@ pub enum Command {
     Link(LinkWords),
     /// Assembles sources and links them with objects and libraries.
     Build(LinkWords),
+    /// Writes the object of the interrupt kit, whose handler acknowledges an interrupt by a store to this address, a
+    /// multiple of 4.
+    InterruptKit {
+        output: Text,
+        acknowledge: u32,
+    },
 }
 
 /// Why words ask for nothing.
@@ -115,8 +139,9 @@ impl From<NoMemory> for WordsFault {
 /// The command that the words ask for, or the first word that breaks a rule.
 pub fn read_words(alloc: Global, words: &[String]) -> Result<Command, WordsFault>
     ensures exact { commands.Reads result (commands.command_of (map string_bytes words.now)) }
-    // Banks are whole words that end at 2^32 or below, the addresses of images are multiples of 4, and who
-    // links has names.
+    // Banks are whole words that end at 2^32 or below, the addresses of images and of the acknowledgement are
+    // multiples of 4, who links has names, and a placement comes with its containers alone: a scatter file's with load
+    // files or an ELF executable, each other one with its own.
     ensures good { IfOk result (λ command. commands.IsGood command) }
 {
     match verb_named(first_word(words)) {
@@ -162,7 +187,7 @@ fn verb_fault(
     requires { All (λ i. i.at < length words.now) items.now }
     ensures { IfOk result (λ place. place ≡ rules.verb_fault verb (map string_bytes words.now) items.now) }
 {
-    let mode = mode_of(items);
+    let mode = mode_of(verb, items);
     let moves = has(Flag::Reloc, items);
     let repeated = names_fault(alloc, verb, mode, words, items)?;
     let place = lesser(items_fault(verb, words, mode, moves, items), repeated);
@@ -317,6 +342,10 @@ fn image_of(
         let file = value_of(alloc, words, items, Flag::Map)?;
         return Ok(RunImage::Map { file });
     }
+    if let Some(Flag::Elf) = mode {
+        let file = value_of(alloc, words, items, Flag::Elf)?;
+        return Ok(RunImage::Elf { file });
+    }
     if let Some(Flag::Aif) = mode {
         let file = value_of(alloc, words, items, Flag::Aif)?;
         let at = number_told(words, items, Flag::At);
@@ -327,25 +356,40 @@ fn image_of(
     Ok(RunImage::Binary { file, at })
 }
 
-fn form_of(
+fn placement_of(
     alloc: Global,
     mode: Option<Flag>,
     words: &[String],
     items: &[Item],
-) -> Result<LinkForm, NoMemory>
+) -> Result<LinkPlacement, NoMemory>
     requires { All (λ i. i.at < length words.now) items.now }
-    ensures { IfOk result (λ form. form ≡ commands.form_of mode (map string_bytes words.now) items.now) }
+    ensures { IfOk result (λ placement. placement ≡ commands.placement_of mode (map string_bytes words.now) items.now) }
 {
     if let Some(Flag::Scatter) = mode {
         let file = value_of(alloc, words, items, Flag::Scatter)?;
-        return Ok(LinkForm::Scatter { file });
+        return Ok(LinkPlacement::Scatter { file });
     }
     let base = number_of(words, items, Flag::Base, 0x8000);
     if let Some(Flag::Aif) = mode {
         let relocatable = has(Flag::Reloc, items);
-        return Ok(LinkForm::Aif { base, relocatable });
+        return Ok(LinkPlacement::Aif { base, relocatable });
     }
-    Ok(LinkForm::Plain { base })
+    Ok(LinkPlacement::Plain { base })
+}
+
+fn container_of(mode: Option<Flag>, items: &[Item]) -> Container
+    ensures { result ≡ commands.container_of mode items.now }
+{
+    match mode {
+        Some(Flag::Scatter) => {
+            if has(Flag::Elf, items) {
+                return Container::Elf;
+            }
+            Container::LoadFiles
+        }
+        Some(Flag::Aif) => Container::ImageFile,
+        _ => Container::Binary,
+    }
 }
 
 fn ram_of(alloc: Global, words: &[String], items: &[Item]) -> Result<Option<List<Bank>>, NoMemory>
@@ -368,12 +412,14 @@ fn link_words(
     requires { All (λ i. i.at < length words.now) items.now }
     ensures { IfOk result (λ link. link ≡ commands.link_words mode (map string_bytes words.now) items.now) }
 {
-    let form = form_of(alloc, mode, words, items)?;
+    let placement = placement_of(alloc, mode, words, items)?;
+    let container = container_of(mode, items);
     let output = value_of(alloc, words, items, Flag::Output)?;
     let names = names_in(alloc, words, items)?;
     let ram = ram_of(alloc, words, items)?;
     Ok(LinkWords {
-        form,
+        placement,
+        container,
         output,
         names,
         ram,
@@ -442,9 +488,9 @@ fn verb_command(
     items: &[Item],
 ) -> Result<Command, NoMemory>
     requires { All (λ i. i.at < length words.now) items.now }
-    ensures { IfOk result (λ command. command ≡ commands.verb_command verb (rules.mode_of items.now) (map string_bytes words.now) items.now) }
+    ensures { IfOk result (λ command. command ≡ commands.verb_command verb (rules.mode_of verb items.now) (map string_bytes words.now) items.now) }
 {
-    let mode = mode_of(items);
+    let mode = mode_of(verb, items);
     match verb {
         Verb::Assemble => {
             let source = first_name(alloc, words, items)?;
@@ -464,6 +510,14 @@ fn verb_command(
         Verb::Build => {
             let link = link_words(alloc, mode, words, items)?;
             Ok(Command::Build(link))
+        }
+        Verb::InterruptKit => {
+            let output = value_of(alloc, words, items, Flag::Output)?;
+            let acknowledge = number_of(words, items, Flag::Acknowledge, 0xF000_000C);
+            Ok(Command::InterruptKit {
+                output,
+                acknowledge,
+            })
         }
     }
 }

@@ -21,6 +21,8 @@ pub enum Verb {
     Link,
     /// `build`
     Build,
+    /// `irqkit`
+    InterruptKit,
 }
 
 /// An option of some command.
@@ -56,6 +58,10 @@ pub enum Flag {
     Base,
     /// `-ram`
     Ram,
+    /// `-elf`
+    Elf,
+    /// `-ack`
+    Acknowledge,
 }
 
 /// What a word is to a command.
@@ -106,6 +112,9 @@ pub fn verb_named(word: &[u8]) -> Option<Verb>
     if is(word, b"build") {
         return Some(Verb::Build);
     }
+    if is(word, b"irqkit") {
+        return Some(Verb::InterruptKit);
+    }
     None
 }
 
@@ -142,10 +151,13 @@ fn flag_named(word: &[u8]) -> Option<Flag>
     if is(word, b"-steps") {
         return Some(Flag::Steps);
     }
+    if is(word, b"-ack") {
+        return Some(Flag::Acknowledge);
+    }
     image_flag_named(word)
 }
 
-/// An option of the form and place of an image.
+/// An option of the place and files of an image.
 fn image_flag_named(word: &[u8]) -> Option<Flag>
     ensures { result ≡ items.image_flag_named word.now }
 {
@@ -164,6 +176,9 @@ fn image_flag_named(word: &[u8]) -> Option<Flag>
     if is(word, b"-ram") {
         return Some(Flag::Ram);
     }
+    if is(word, b"-elf") {
+        return Some(Flag::Elf);
+    }
     None
 }
 
@@ -179,10 +194,18 @@ fn has_flag(verb: Verb, flag: Flag) -> bool
         Verb::List => false,
         Verb::Run => matches!(
             flag,
-            Flag::Map | Flag::Aif | Flag::Bin | Flag::At | Flag::Memory | Flag::Rom | Flag::Steps
+            Flag::Map
+                | Flag::Elf
+                | Flag::Aif
+                | Flag::Bin
+                | Flag::At
+                | Flag::Memory
+                | Flag::Rom
+                | Flag::Steps
         ),
         Verb::Link => is_image_flag(flag),
         Verb::Build => is_image_flag(flag),
+        Verb::InterruptKit => matches!(flag, Flag::Output | Flag::Acknowledge),
     }
 }
 
@@ -191,7 +214,14 @@ fn is_image_flag(flag: Flag) -> bool
 {
     matches!(
         flag,
-        Flag::Scatter | Flag::Aif | Flag::Bin | Flag::Reloc | Flag::Base | Flag::Output | Flag::Ram
+        Flag::Scatter
+            | Flag::Aif
+            | Flag::Bin
+            | Flag::Reloc
+            | Flag::Base
+            | Flag::Output
+            | Flag::Ram
+            | Flag::Elf
     )
 }
 
@@ -237,6 +267,7 @@ pub fn value_count(verb: Verb, flag: Flag) -> usize
         Flag::Ram => 2,
         Flag::Aif => form_count(verb),
         Flag::Bin => form_count(verb),
+        Flag::Elf => form_count(verb),
         Flag::Reloc => 0,
         _ => 1,
     }

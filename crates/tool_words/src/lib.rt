@@ -10,5 +10,5 @@ pub mod numerals;
 pub mod rules;
 
 pub use crate::command::{
-    Bank, Command, LinkForm, LinkWords, RunImage, RunWords, WordsFault, read_words,
+    Bank, Command, Container, LinkPlacement, LinkWords, RunImage, RunWords, WordsFault, read_words,
 };

@@ -69,27 +69,30 @@ fn bank_count(items: &[Item]) -> usize
     items.iter().filter(|item| is_bank_role(item.role)).count()
 }
 
-fn is_mode(flag: Flag) -> bool
-    ensures { result ≡ rules.is_mode flag }
+fn is_mode(verb: Verb, flag: Flag) -> bool
+    ensures { result ≡ rules.is_mode verb flag }
 {
-    matches!(
-        flag,
-        Flag::Create
-            | Flag::Table
-            | Flag::Extract
-            | Flag::Map
-            | Flag::Bin
-            | Flag::Scatter
-            | Flag::Aif
-    )
+    match (verb, flag) {
+        (Verb::Run, Flag::Elf) => true,
+        (_, flag) => matches!(
+            flag,
+            Flag::Create
+                | Flag::Table
+                | Flag::Extract
+                | Flag::Map
+                | Flag::Bin
+                | Flag::Scatter
+                | Flag::Aif
+        ),
+    }
 }
 
-fn role_mode(role: Role) -> Option<Flag>
-    ensures { result ≡ rules.role_mode role }
+fn role_mode(verb: Verb, role: Role) -> Option<Flag>
+    ensures { result ≡ rules.role_mode verb role }
 {
     match role {
         Role::Known(flag) => {
-            if is_mode(flag) {
+            if is_mode(verb, flag) {
                 return Some(flag);
             }
             None
@@ -99,12 +102,12 @@ fn role_mode(role: Role) -> Option<Flag>
     }
 }
 
-/// What a library is wanted for, or an image's form: the first option of which there is one.
-pub fn mode_of(items: &[Item]) -> Option<Flag>
-    ensures { result ≡ rules.mode_of items.now }
+/// What a library is wanted for, what is run, or where an image is placed: the first option of which there is one.
+pub fn mode_of(verb: Verb, items: &[Item]) -> Option<Flag>
+    ensures { result ≡ rules.mode_of verb items.now }
 {
     for item in items {
-        let mode = role_mode(item.role);
+        let mode = role_mode(verb, item.role);
         if mode.is_some() {
             return mode;
         }
@@ -186,6 +189,7 @@ fn first_is_good(flag: Flag, words: &[String], at: usize) -> bool
         Flag::Memory => is_aligned(number_at(words, at + 1)),
         Flag::Rom => is_aligned(number_at(words, at + 1)),
         Flag::Base => is_aligned(number_at(words, at + 1)),
+        Flag::Acknowledge => is_aligned(number_at(words, at + 1)),
         Flag::Ram => is_aligned(number_at(words, at + 1)),
         Flag::Steps => is_at_most(1_000_000_000, number_at(words, at + 1)),
         _ => plain_at(words, at + 1),
@@ -244,19 +248,21 @@ fn is_allowed(verb: Verb, mode: Option<Flag>, moves: bool, flag: Flag) -> bool
         (Verb::Build, Flag::Base) => !is_the_mode(Flag::Scatter, mode),
         (Verb::Link, Flag::Reloc) => is_the_mode(Flag::Aif, mode),
         (Verb::Build, Flag::Reloc) => is_the_mode(Flag::Aif, mode),
+        (Verb::Link, Flag::Elf) => is_the_mode(Flag::Scatter, mode),
+        (Verb::Build, Flag::Elf) => is_the_mode(Flag::Scatter, mode),
         (Verb::Link, Flag::Ram) => !(is_the_mode(Flag::Bin, mode) || moves),
         (Verb::Build, Flag::Ram) => !(is_the_mode(Flag::Bin, mode) || moves),
         (_, _) => true,
     }
 }
 
-fn is_surplus(before: &[Item], flag: Flag) -> bool
-    ensures { result ≡ rules.is_surplus before.now flag }
+fn is_surplus(verb: Verb, before: &[Item], flag: Flag) -> bool
+    ensures { result ≡ rules.is_surplus verb before.now flag }
 {
     if is_bank(flag) {
         return bank_count(before) >= 16;
     }
-    has(flag, before) || is_mode(flag) && mode_of(before).is_some()
+    has(flag, before) || is_mode(verb, flag) && mode_of(verb, before).is_some()
 }
 
 fn most_names(verb: Verb, mode: Option<Flag>) -> Option<usize>
@@ -271,6 +277,7 @@ fn most_names(verb: Verb, mode: Option<Flag>) -> Option<usize>
         (Verb::Run, _) => Some(0),
         (Verb::Link, _) => None,
         (Verb::Build, _) => None,
+        (Verb::InterruptKit, _) => Some(0),
     }
 }
 
@@ -303,7 +310,7 @@ fn item_fault(
         }
         Role::Unknown => Some(item.at),
         Role::Known(flag) => {
-            if is_allowed(verb, mode, moves, flag) && !is_surplus(before, flag) {
+            if is_allowed(verb, mode, moves, flag) && !is_surplus(verb, before, flag) {
                 return values_fault(verb, flag, words, item.at);
             }
             Some(item.at)
@@ -344,7 +351,7 @@ ghost use Rattle.std.specs.Prelude.{nat_lt};
 fn needs_mode(verb: Verb) -> bool
     ensures { result ≡ rules.needs_mode verb }
 {
-    !matches!(verb, Verb::Assemble | Verb::List)
+    !matches!(verb, Verb::Assemble | Verb::List | Verb::InterruptKit)
 }
 
 fn needs_name(verb: Verb, mode: Option<Flag>) -> bool
@@ -353,6 +360,7 @@ fn needs_name(verb: Verb, mode: Option<Flag>) -> bool
     match (verb, mode) {
         (Verb::Library, Some(Flag::Table)) => false,
         (Verb::Run, _) => false,
+        (Verb::InterruptKit, _) => false,
         (_, _) => true,
     }
 }
@@ -367,6 +375,7 @@ fn needs_output(verb: Verb, mode: Option<Flag>) -> bool
         Verb::Assemble => true,
         Verb::Link => true,
         Verb::Build => true,
+        Verb::InterruptKit => true,
     }
 }
 

@@ -3,4 +3,4 @@ use Rattle.tool_words.specs.Rules as rules
 use Rattle.tool_words.proofs.rules.mode_of.Given as goal
 
 abbrev pub invariant-loop-item : goal.invariant-loop-item
-invariant-loop-item l = rules.mode_of (drop l.item-index l.items) ≡ rules.mode_of l.items
+invariant-loop-item l = rules.mode_of l.verb (drop l.item-index l.items) ≡ rules.mode_of l.verb l.items
