@@ -1,6 +1,6 @@
 -- Files as a finite map from names to contents, where a store tells them, and what a read or a write says and
 -- leaves. This project's.
-use Rattle.std.specs.Prelude.{◌≡◌, ◌≢◌, ℕ, List, Option, Some, None, ⊤}
+use Rattle.std.specs.Prelude.{◌≡◌, ◌≢◌, ◌≤◌, ◌<◌, ℕ, List, length, Option, Some, None, ⊤}
 use Rattle.std.specs.Ordering.{nat_cmp}
 use Rattle.std.specs.Cmp.Lexicographic.{slice_cmp}
 use Rattle.std.specs.FinMap as map
@@ -19,6 +19,11 @@ content files name = map.get files name
 abbrev pub IsFound : Option Files → List ℕ → List ℕ → Type 0
 IsFound None name bytes = ⊤
 IsFound (Some files) name bytes = content files name ≡ Some bytes
+
+-- a read up to a limit found these bytes, or a file that is longer
+abbrev pub IsFoundUpTo : ℕ → Option Files → List ℕ → Option (List ℕ) → Type 0
+IsFoundUpTo most told name (Some bytes) = IsFound told name bytes × (length bytes ≤ most)
+IsFoundUpTo most told name None = (bytes : List ℕ) × IsFound told name bytes × (most < length bytes)
 
 -- a read found no such file; where nothing is told, only a fault says so
 abbrev pub IsMissing : Option Files → List ℕ → Type 0 → Type 0

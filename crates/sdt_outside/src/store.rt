@@ -2,7 +2,7 @@
 
 ghost use Rattle.std.specs.Prelude.{◌≡◌, ◌≤◌, ◌<◌, ◌^◌, ℕ, Option, Some, None, IfOk, IfErr, OnOk, length};
 ghost use Rattle.sdt_outside.specs.Counts.{Rose};
-ghost use Rattle.sdt_outside.specs.Files.{Files, IsFound, ReadFails, IsWritten, WriteFails};
+ghost use Rattle.sdt_outside.specs.Files.{Files, IsFound, IsFoundUpTo, ReadFails, IsWritten, WriteFails};
 
 use sdt_fault::{Bytes, NoMemory, Text};
 use std::alloc::Global;
@@ -10,6 +10,7 @@ use thiserror::Error;
 
 mod file;
 mod memory;
+mod replacing;
 
 pub use crate::store::file::FileStore;
 pub use crate::store::memory::MemoryStore;
@@ -39,6 +40,20 @@ pub trait Store {
     fn read(&mut self, alloc: Global, name: &Text) -> Result<Bytes, StoreError>
         ensures found { IfOk result (λ bytes. IsFound (files self.old) name.now bytes) }
         ensures bounded { IfOk result (λ bytes. length bytes < 2 ^ 32) }
+        ensures failed { IfErr result (λ e. ReadFails e (files self.old) name.now (Rose (read_faults self.old) (read_faults self.new))) }
+        ensures files { files self.new ≡ files self.old }
+        ensures read_faults { read_faults self.old ≤ read_faults self.new }
+        ensures write_faults { write_faults self.new ≡ write_faults self.old };
+
+    /// The content of a file of at most `most` bytes, or None where it is longer, for which no more is read than
+    /// shows it. It fails as `read` does.
+    fn read_up_to(
+        &mut self,
+        alloc: Global,
+        name: &Text,
+        most: u32,
+    ) -> Result<Option<Bytes>, StoreError>
+        ensures found { IfOk result (IsFoundUpTo most (files self.old) name.now) }
         ensures failed { IfErr result (λ e. ReadFails e (files self.old) name.now (Rose (read_faults self.old) (read_faults self.new))) }
         ensures files { files self.new ≡ files self.old }
         ensures read_faults { read_faults self.old ≤ read_faults self.new }

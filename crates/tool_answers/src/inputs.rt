@@ -2,7 +2,7 @@
 
 ghost use Rattle.std.specs.Prelude.{◌≡◌, ◌≤◌, ◌<◌, ◌^◌, ◌∷◌, [], ℕ, List, All, IfOk, IfErr, length};
 ghost use Rattle.sdt_outside.specs.Counts.{Rose};
-ghost use Rattle.sdt_outside.specs.Files.{IsFound, ReadFails};
+ghost use Rattle.sdt_outside.specs.Files.{IsFound, IsFoundUpTo, ReadFails};
 ghost use Rattle.tool_answers.specs.Inputs.{AreInputs, InputsEnd, named};
 
 use sdt_fault::refusal::Refusal;
@@ -70,6 +70,25 @@ pub fn read_input<S: Store>(alloc: Global, store: &mut S, name: &Text) -> Result
 {
     match store.read(alloc, name) {
         Ok(bytes) => Ok(bytes),
+        Err(error) => Err(end_of(alloc, error, name)),
+    }
+}
+
+/// What a file of at most `most` bytes holds, or None where it is longer.
+pub fn read_input_up_to<S: Store>(
+    alloc: Global,
+    store: &mut S,
+    name: &Text,
+    most: u32,
+) -> Result<Option<Bytes>, InputEnd>
+    ensures found { IfOk result (IsFoundUpTo most (S.files store.old) name.now) }
+    ensures end { IfErr result (λ e. IsEnd e (S.files store.old) name.now (Rose (S.read_faults store.old) (S.read_faults store.new))) }
+    ensures files { S.files store.new ≡ S.files store.old }
+    ensures read_faults { S.read_faults store.old ≤ S.read_faults store.new }
+    ensures write_faults { S.write_faults store.new ≡ S.write_faults store.old }
+{
+    match store.read_up_to(alloc, name, most) {
+        Ok(found) => Ok(found),
         Err(error) => Err(end_of(alloc, error, name)),
     }
 }

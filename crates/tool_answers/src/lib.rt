@@ -6,5 +6,5 @@
 pub mod inputs;
 pub mod outcome;
 
-pub use crate::inputs::{InputEnd, named, read_input, read_inputs};
+pub use crate::inputs::{InputEnd, named, read_input, read_input_up_to, read_inputs};
 pub use crate::outcome::{print, write};

@@ -6,7 +6,7 @@ ghost use Rattle.std.specs.Cmp.Lexicographic.{slice_cmp};
 ghost use Rattle.std.specs.FinMap.{from_entries};
 ghost use Rattle.std.specs.FinMap as map;
 ghost use Rattle.sdt_outside.specs.Counts.{Rose, counted};
-ghost use Rattle.sdt_outside.specs.Files.{Files, IsFound, ReadFails, IsWritten, WriteFails, files_of};
+ghost use Rattle.sdt_outside.specs.Files.{Files, IsFound, IsFoundUpTo, ReadFails, IsWritten, WriteFails, files_of};
 ghost use Rattle.sdt_outside.specs.Memory.{CountsFaults, FailsAt};
 ghost use Rattle.sdt_outside.specs.declared.store.StoreError.TheVariants as error;
 
@@ -60,19 +60,23 @@ fn fails_at(failing: &[u64], calls: u64, faults: u64) -> bool
     failing.iter().any(|number| *number == call)
 }
 
-// A file's content. One of 2^32 bytes or more, which is no file, is not read.
-fn look_up(files: &BTreeMap<Text, Bytes>, alloc: Global, name: &Text) -> Result<Bytes, StoreError>
-    ensures found { IfOk result (λ bytes. IsFound (Some (files_of files.now.entries)) name.now bytes) }
-    ensures bounded { IfOk result (λ bytes. length bytes < 2 ^ 32) }
+// A file's content, if it has at most so many bytes.
+fn look_up(
+    files: &BTreeMap<Text, Bytes>,
+    alloc: Global,
+    name: &Text,
+    most: u32,
+) -> Result<Option<Bytes>, StoreError>
+    ensures found { IfOk result (IsFoundUpTo most (Some (files_of files.now.entries)) name.now) }
     ensures failed { IfErr result (λ e. ReadFails e (Some (files_of files.now.entries)) name.now ⊥) }
 {
     let Some(found) = files.get(name) else {
         return Err(StoreError::Missing);
     };
-    if found.as_slice().len() > u32::MAX as usize {
-        return Err(StoreError::NoMemory);
+    if found.as_slice().len() > most as usize {
+        return Ok(None);
     }
-    Ok(found.try_clone(alloc)?)
+    Ok(Some(found.try_clone(alloc)?))
 }
 
 // Sets a file's content.
@@ -100,9 +104,33 @@ impl Store for MemoryStore {
 
     ghost write_faults = { λ store. store.write_faults };
 
+    /// One of 2^32 bytes or more, which is no file, is not read.
     fn read(&mut self, alloc: Global, name: &Text) -> Result<Bytes, StoreError>
         ensures found { IfOk result (λ bytes. IsFound (Some (files_of self.old.files.entries)) name.now bytes) }
         ensures bounded { IfOk result (λ bytes. length bytes < 2 ^ 32) }
+        ensures failed { IfErr result (λ e. ReadFails e (Some (files_of self.old.files.entries)) name.now (Rose self.old.read_faults self.new.read_faults)) }
+        ensures files { Some (files_of self.new.files.entries) ≡ Some (files_of self.old.files.entries) }
+        ensures read_faults { self.old.read_faults ≤ self.new.read_faults }
+        ensures write_faults { self.new.write_faults ≡ self.old.write_faults }
+
+        ensures fails { IsErrOf result error.Failed ↔ FailsAt self.old.failing.items self.old.calls self.old.read_faults }
+        ensures counts { CountsFaults result self.old.read_faults self.new.read_faults }
+        ensures calls { self.new.calls ≡ counted self.old.calls }
+        ensures failing { self.new.failing.items ≡ self.old.failing.items }
+    {
+        match self.read_up_to(alloc, name, u32::MAX)? {
+            Some(bytes) => Ok(bytes),
+            None => Err(StoreError::NoMemory),
+        }
+    }
+
+    fn read_up_to(
+        &mut self,
+        alloc: Global,
+        name: &Text,
+        most: u32,
+    ) -> Result<Option<Bytes>, StoreError>
+        ensures found { IfOk result (IsFoundUpTo most (Some (files_of self.old.files.entries)) name.now) }
         ensures failed { IfErr result (λ e. ReadFails e (Some (files_of self.old.files.entries)) name.now (Rose self.old.read_faults self.new.read_faults)) }
         ensures files { Some (files_of self.new.files.entries) ≡ Some (files_of self.old.files.entries) }
         ensures read_faults { self.old.read_faults ≤ self.new.read_faults }
@@ -119,7 +147,7 @@ impl Store for MemoryStore {
             self.read_faults += 1;
             return Err(StoreError::Failed);
         }
-        look_up(&self.files, alloc, name)
+        look_up(&self.files, alloc, name, most)
     }
 
     fn write(&mut self, alloc: Global, name: &Text, bytes: &[u8]) -> Result<(), StoreError>
