@@ -27,7 +27,8 @@ use Rattle.tool_library.specs.declared.linkables.Linkable.{Linkable}
 use Rattle.tool_library.specs.declared.linkables.Linkable.TheVariants as input
 use Rattle.sdt_toolkit.specs.Inputs.{InputsAre, archives_among, is_source_name, objects_among}
 use Rattle.sdt_toolkit.specs.Links.{IsAskedAs, LinksTo, files_read, image_files, inputs_in, outputs, text_in}
-use Rattle.sdt_toolkit.specs.Plans.{IsPlacedAs, plan_at, values_by}
+use Rattle.link_laws.specs.Plans.{values_by}
+use Rattle.sdt_toolkit.specs.Plans.{IsPlacedAs, plan_at}
 use Rattle.sdt_toolkit.specs.Reads.{Reads}
 use Rattle.sdt_toolkit.specs.Starting.{FitsAt}
 
