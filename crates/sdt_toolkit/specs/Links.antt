@@ -21,7 +21,11 @@ use Rattle.link_model.specs.declared.images.ImageKind.TheVariants as shape
 use Rattle.link_model.specs.declared.images.LoadRegion.{LoadRegion}
 use Rattle.link_model.specs.declared.selection.Named.{Named}
 use Rattle.link_model.specs.Chosen.{AreLinked}
+use Rattle.boot_code.specs.Boots.{ByteMap}
+use Rattle.place_model.specs.declared.scatter.Kind.{Kind}
 use Rattle.place_model.specs.declared.scatter.Kind.TheVariants as kind
+use Rattle.place_model.specs.declared.scatter.Scatter.{Scatter}
+use Rattle.scatter_text.specs.Reading.{scatter_of}
 use Rattle.armlink_core.specs.Images.{linking, scatter_linking}
 use Rattle.bin_image.specs.declared.records.OutFile.{OutFile}
 use Rattle.bin_image.specs.Files.{files_of}
@@ -35,7 +39,7 @@ use Rattle.tool_library.specs.declared.linkables.Linkable.{Linkable}
 use Rattle.tool_run.specs.Runs.{AreRanges}
 use Rattle.sdt_toolkit.specs.Inputs.{InputsAre, IsGot, objects_among, archives_among}
 use Rattle.sdt_toolkit.specs.Reads.{Reads, HasFailed, reads_of}
-use Rattle.sdt_toolkit.specs.Starting.{Loads, Starts, StartsAsAif}
+use Rattle.sdt_toolkit.specs.Plans.{IsPlacedAs}
 
 -- ---- what is read: the scatter file first, if there is one, and then the names
 
@@ -84,18 +88,26 @@ LinksTo (form.Scatter file) text banks os image = ScattersTo text banks os image
 LinksTo (form.Aif base relocatable) text banks os image = AsAif base relocatable banks os image
 LinksTo (form.Plain base) text banks os image = image ≡ linking (kind.Plain base) None os
 
--- in memory an image shows the objects, and a scatter image or an ARM image file starts
-abbrev pub IsInMemory : LinkForm → List (Named Object) → Image → Type 0
-IsInMemory (form.Scatter file) os i = Starts os i
-IsInMemory (form.Aif base relocatable) os i = StartsAsAif relocatable os i
-IsInMemory (form.Plain base) os i = Loads os i
+-- the kind of image that the words ask for, by the scatter file's text, and the ranges that it may write
+abbrev pub IsAskedAs : LinkForm → List ℕ → Option (List Bank) → Kind → Option (List Range32) → Type 0
+IsAskedAs (form.Scatter file) text banks k ram = (s : Scatter) × (scatter_of text ≡ Ok s) × (k ≡ kind.Scatter s) × IsRam banks ram
+IsAskedAs (form.Aif base relocatable) text banks k ram = (k ≡ kind.Aif base relocatable) × IsRam banks ram
+IsAskedAs (form.Plain base) text banks k ram = (k ≡ kind.Plain base) × (ram ≡ None)
+
+-- its objects were placed by one plan, with a view wherever the image is put
+pub record IsInMemory (f : LinkForm) (text : List ℕ) (banks : Option (List Bank)) (os : List (Named Object)) (i : Image) : Type 0 where
+  pub shape : Kind
+  pub ram : Option (List Range32)
+  pub asked : IsAskedAs f text banks shape ram
+  pub views : ℕ → ByteMap
+  pub placed : IsPlacedAs shape ram os i views
 
 -- the image of inputs: of the objects among them, and the members of the libraries among them that are needed
 pub record ImageIs (f : LinkForm) (text : List ℕ) (banks : Option (List Bank)) (inputs : List (Named Linkable)) (image : Result Image Refusal) : Type 0 where
   pub objects : List (Named Object)
   pub linked : AreLinked (objects_among inputs) (archives_among inputs) objects
   pub links : LinksTo f text banks objects image
-  pub memory : (i : Image) → image ≡ Ok i → IsInMemory f objects i
+  pub memory : (i : Image) → image ≡ Ok i → IsInMemory f text banks objects i
 
 abbrev pub IsScatterImage : List (Named Object) → List (Named Archive) → List ℕ → Option (List Bank) → Result Image Refusal → Type 0
 IsScatterImage objects archives text banks image = (os : List (Named Object)) × AreLinked objects archives os × ScattersTo text banks os image
