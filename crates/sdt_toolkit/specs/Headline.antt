@@ -25,6 +25,7 @@ use Rattle.tool_answers.specs.Inputs.{inputs_of}
 use Rattle.tool_answers.specs.Outcomes.{written}
 use Rattle.tool_library.specs.declared.linkables.Linkable.{Linkable}
 use Rattle.tool_library.specs.declared.linkables.Linkable.TheVariants as input
+use Rattle.sdt_toolkit.specs.Containers.{FilesHold}
 use Rattle.sdt_toolkit.specs.Inputs.{InputsAre, archives_among, is_source_name, objects_among}
 use Rattle.sdt_toolkit.specs.Links.{IsAskedAs, LinksTo, files_read, image_files, inputs_in, outputs, text_in}
 use Rattle.link_laws.specs.Plans.{values_by}
@@ -32,8 +33,8 @@ use Rattle.sdt_toolkit.specs.Plans.{IsPlacedAs, plan_at}
 use Rattle.sdt_toolkit.specs.Reads.{Reads}
 use Rattle.sdt_toolkit.specs.Starting.{FitsAt}
 
--- of the inputs that were read, the linked objects were placed by one plan and make the image, and its files were written in
--- order
+-- of the inputs that were read, the linked objects were placed by one plan and make the image, and its files, which hold it, were
+-- written in order
 pub record IsLinkedInto (sources : Bool) (w : LinkWords) (before : Files) (after : Option Files) (image : Image) (views : ℕ → ByteMap) : Type 0 where
   pub reads : Reads
   pub contents : List (List ℕ)
@@ -43,12 +44,13 @@ pub record IsLinkedInto (sources : Bool) (w : LinkWords) (before : Files) (after
   pub ram : Option (List Range32)
   pub read : inputs_of before (files_read w) ≡ Ok contents
   pub told : reads.told ≡ Some before
-  pub judged : InputsAre reads sources w.names (inputs_in w.form contents) (Ok inputs)
+  pub judged : InputsAre reads sources w.names (inputs_in w.placement contents) (Ok inputs)
   pub linked : AreLinked (objects_among inputs) (archives_among inputs) objects
-  pub made : LinksTo w.form (text_in w.form contents) w.ram objects (Ok image)
-  pub left : after ≡ Some (written before (outputs (image_files w.output image)))
-  pub asked : IsAskedAs w.form (text_in w.form contents) w.ram shape ram
+  pub made : LinksTo w.placement (text_in w.placement contents) w.ram objects (Ok image)
+  pub left : after ≡ Some (written before (outputs (image_files w.container w.output image)))
+  pub asked : IsAskedAs w.placement (text_in w.placement contents) w.ram shape ram
   pub placed : IsPlacedAs shape ram objects image views
+  pub holds : FilesHold w.container w.output image views
 
 -- ---- statements
 
