@@ -1,11 +1,13 @@
 -- Answers to `asm`, by its ends.
-use Rattle.std.proofs.Common.{◌≡◌, inl, inr, ℕ, List, [], ◌∷◌, Option, Some, None, Result, Ok, Err, refl, sym, ap, subst}
+use Rattle.std.proofs.Common.{◌≡◌, inl, inr, ℕ, ◌<◌, List, [], ◌∷◌, length, Option, Some, None, Result, Ok, Err, refl, sym, ap, subst}
 use Rattle.sdt_fault.specs.declared.answer.Answer.{Answer}
 use Rattle.sdt_fault.specs.declared.answer.Answer.TheVariants as answer
 use Rattle.sdt_fault.specs.declared.answer.Fault.{Fault}
 use Rattle.sdt_fault.specs.declared.answer.Fault.TheVariants as fault
 use Rattle.sdt_fault.specs.declared.refusal.Refusal.{Refusal}
-use Rattle.sdt_fault.specs.declared.refusal.Refusal.TheVariants.{Missing}
+use Rattle.sdt_fault.specs.declared.kinds.Quantity.TheVariants.{SourceBytes}
+use Rattle.sdt_fault.specs.declared.refusal.Refusal.TheVariants.{Missing, TooLarge}
+use Rattle.armasm_core.specs.Assembling.{most_bytes}
 use Rattle.sdt_outside.specs.Counts.{Rose}
 use Rattle.sdt_outside.specs.Files.{Files, IsFound}
 use Rattle.sdt_outside.specs.Sinks.{Got}
@@ -34,6 +36,13 @@ refused (fault.Refused r) name output text o found h left =
     (Err r, source_asks (reads_of o) name output text (Err r) found (text_refused (reads_of o) name output text r h), (refl, left))
 refused (fault.ReadFault q) name output text o found h left = (h.0, inr (text, found, h.1), left)
 refused fault.NoMemory name output text o found h left = left
+
+-- a source that is too long, whatever it holds
+pub too_long : (name output text : List ℕ) (o : Outside) → IsFound o.before name text → most_bytes < length text → IsLeft o
+    → AssemblyAnswers name output o (fault_answer (fault.Refused (TooLarge SourceBytes most_bytes)))
+too_long name output text o found long left =
+    refused (fault.Refused (TooLarge SourceBytes most_bytes)) name output text o found
+    (record { made = Err (TooLarge SourceBytes most_bytes); assembled = inl (long, refl); caused = tt; sound = λ object e. absurd cc; spelled = refl }) left
 
 -- what some text asks for
 abbrev OfText : Reads → List ℕ → List ℕ → Result Outcome Refusal → Type 0

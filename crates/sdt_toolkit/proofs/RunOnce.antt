@@ -1,5 +1,5 @@
 -- Words, files and devices decide what `run` answers and what it leaves.
-use Rattle.std.proofs.Common.{◌≡◌, ◌≢◌, ℕ, ◌<◌, ◌≤◌, ◌==◌, Bool, true, false, List, [], ◌∷◌, ◌++◌, length, map, Option, Some, None, Result, Ok, Err, ◌⊎◌, inl, inr, refl, sym, ap, ◌∙◌, subst, arith}
+use Rattle.std.proofs.Common.{◌≡◌, ◌≢◌, ℕ, zero, suc, ◌<◌, ◌≤◌, ◌==◌, Bool, true, false, List, [], ◌∷◌, ◌++◌, length, map, take, drop, Option, Some, None, Result, Ok, Err, ◌⊎◌, inl, inr, refl, sym, ap, ◌∙◌, subst, arith}
 use Rattle.std.specs.Prelude.{MatchBool, slice_index}
 use Rattle.std.specs.List.{AllByRecursion}
 use Rattle.std.proofs.lemmas.Bool.Decides.{eqb_tells}
@@ -40,25 +40,23 @@ use Rattle.chunk_file.proofs.Loops.{bind_ok}
 use Rattle.aif_image.specs.Reading.{aif_of}
 use Rattle.bin_image.specs.declared.records.MapLoad.{MapLoad}
 use Rattle.bin_image.specs.Reading.{map_of}
+use Rattle.elf_image.specs.declared.records.Segment.{Segment}
+use Rattle.elf_image.specs.Reading.{elf_of}
 use Rattle.tool_answers.specs.Inputs.{and_others, found_or, input_of, inputs_of}
 use Rattle.tool_answers.specs.Outcomes.{Outside}
 use Rattle.tool_words.specs.declared.command.Bank.{Bank}
-use Rattle.tool_words.specs.declared.command.Command.{Command}
 use Rattle.tool_words.specs.declared.command.Command.TheVariants as command
 use Rattle.tool_words.specs.declared.command.RunImage.{RunImage}
 use Rattle.tool_words.specs.declared.command.RunImage.TheVariants as image
 use Rattle.tool_words.specs.declared.command.RunWords.{RunWords}
-use Rattle.tool_words.specs.declared.items.Item.{Item}
-use Rattle.tool_words.specs.declared.items.Verb.{Verb}
-use Rattle.tool_words.specs.Commands.{IsBank, IsGood, command_of, unless, verb_command, verb_words}
-use Rattle.tool_words.specs.Items.{items_of, verb_named, word_at}
-use Rattle.tool_words.specs.Rules.{mode_of, verb_fault}
-use Rattle.tool_words.proofs.GoodLemmas.{good_words}
+use Rattle.tool_words.specs.Commands.{IsBank, command_of}
 use Rattle.tool_run.specs.Aifs.{aif_at, base_for, loaded_aif, placed_aif}
+use Rattle.tool_run.specs.Elfs.{elf_image, load_of, loaded_elf}
 use Rattle.tool_run.specs.Ends.{named_by, stop_answer}
 use Rattle.tool_run.specs.Images.{IsRead, all_named, binary_image, files_in, front_of, image_of, lengths_judged, loaded_image, loads_of, map_image, mapped_image, unnamed}
 use Rattle.tool_run.specs.Runs.{AreBanks, AreRanges, HasRun, IsRefusal, IsStopped, IsUntouched, Ran, RunSays}
 use Rattle.sdt_toolkit.specs.Runs.{HoldBytes, IsDecided, OneRun}
+use Rattle.sdt_toolkit.proofs.CommandLemmas.{good_command}
 use Rattle.sdt_toolkit.proofs.LinkOnce.{first_same, ranges_once}
 use Rattle.sdt_toolkit.proofs.RunCommands.{same_image}
 use Rattle.sdt_toolkit.proofs.RunLoads.{loaded_bytes}
@@ -95,6 +93,21 @@ loads_bytes [] contents h = tt
 loads_bytes (l ∷ ls) [] h = tt
 loads_bytes (l ∷ ls) (bytes ∷ contents) h = (h.0, loads_bytes ls contents h.1)
 
+drop_bytes : (n : ℕ) (xs : List ℕ) → AreBytes xs → AreBytes (drop n xs)
+drop_bytes zero xs h = h
+drop_bytes (suc n) [] h = h
+drop_bytes (suc n) (x ∷ xs) h = drop_bytes n xs (λ i. h (suc i))
+
+take_bytes : (n : ℕ) (xs : List ℕ) → AreBytes xs → AreBytes (take n xs)
+take_bytes zero xs h i = omega arith
+take_bytes (suc n) [] h i = omega arith
+take_bytes (suc n) (x ∷ xs) h zero = h zero
+take_bytes (suc n) (x ∷ xs) h (suc i) = take_bytes n xs (λ k. h (suc k)) i
+
+segments_bytes : (b : List ℕ) → AreBytes b → (ss : List Segment) → OfBytes (map (load_of b) ss)
+segments_bytes b h [] = tt
+segments_bytes b h (s ∷ ss) = (take_bytes s.file_size (drop s.offset b) (drop_bytes s.offset b h), segments_bytes b h ss)
+
 made_bytes : (x y : Image) → ◌≡◌ {A = Result Image Refusal} (Ok x) (Ok y) → OfBytes x.loads → OfBytes y.loads
 made_bytes x y h bytes = let same : x ≡ y = cc in subst (λ (i : Image). OfBytes i.loads) same bytes
 
@@ -107,6 +120,10 @@ image_bytes files hold (image.Aif file at) i h =
     let (a, is_aif, based) = bind_ok (named_by file (aif_of bytes)) (λ a. placed_aif file at bytes a) i placed in
     let (base, is_base, made) = bind_ok (base_for file at a) (λ base. Ok (loaded_aif base a bytes)) i based in
     made_bytes (loaded_aif base a bytes) i made (input_bytes files hold file bytes read, tt)
+image_bytes files hold (image.Elf file) i h =
+    let (bytes, read, loaded) = bind_ok (input_of files file) (λ bytes. elf_image file bytes) i h in
+    let (e, is_elf, made) = bind_ok (named_by file (elf_of bytes)) (λ e. Ok (loaded_elf bytes e)) i loaded in
+    made_bytes (loaded_elf bytes e) i made (segments_bytes bytes (input_bytes files hold file bytes read) e.segments)
 image_bytes files hold (image.Map file) i h =
     let (text, read, mapped) = bind_ok (input_of files file) (λ text. named_by file (map_of text) >>= λ m. mapped_image m files) i h in
     let (m, is_map, filed) = bind_ok (named_by file (map_of text)) (λ m. mapped_image m files) i mapped in
@@ -150,20 +167,9 @@ all_whole [] [] a b = ((refl, refl), tt)
 all_whole [] (r ∷ rom) a b = both_whole [] (r ∷ rom) a b
 all_whole (m ∷ memory) rom a b = both_whole (m ∷ memory) rom a b
 
--- what words ask for is good
-unless_good : (place : Option ℕ) (c d : Command) → (place ≡ None → IsGood c) → unless place c ≡ Ok d → IsGood d
-unless_good None c d good h = let same : c ≡ d = cc in subst IsGood same (good refl)
-unless_good (Some place) c d good h = absurd cc
-
-verb_good : (verb : Option Verb) (words : List (List ℕ)) (c : Command) → verb_words verb words ≡ Ok c → IsGood c
-verb_good None words c h = absurd cc
-verb_good (Some verb) words c h =
-    let items : List Item = items_of verb words in
-    unless_good (verb_fault verb words items) (verb_command verb (mode_of items) words items) c (good_words verb words items) h
-
 banks_whole : (words : List (List ℕ)) (w : RunWords) (banks : List MemoryBank) → command_of words ≡ Ok (command.Run w) → AreBanks w banks → AreWholeBanks banks
 banks_whole words w banks h are =
-    let (placed, memory, rom) = verb_good (verb_named (word_at words 0)) words (command.Run w) h in
+    let (placed, memory, rom) = good_command words (command.Run w) h in
     subst AreWholeBanks (sym are.banks_are) (all_whole are.memory are.rom (told_whole w.memory are.memory are.memory_told memory) (told_whole w.rom are.rom are.rom_told rom))
 
 -- ---- what a run begins with is one
@@ -178,9 +184,9 @@ core_once r r' high high' r13 r13' r14 r14' cpsr cpsr' spsr spsr' a b c d e f = 
 zeros_once : (xs ys : List ℕ) (n : ℕ) → length xs ≡ n → length ys ≡ n → ((k : ℕ) → slice_index xs k ≡ 0) → ((k : ℕ) → slice_index ys k ≡ 0) → xs ≡ ys
 zeros_once xs ys n e f x y = same_number_lists xs ys (e ∙ sym f) (λ k lt. x k ∙ sym (y k))
 
-reset_once : (pc : ℕ) (c d : ArmState) → IsReset pc c → IsReset pc d → c ≡ d
+reset_once : (pc : ℕ) (thumb : Bool) (c d : ArmState) → IsReset pc thumb c → IsReset pc thumb d → c ≡ d
 unfolding register core_of
-reset_once pc c d x y =
+reset_once pc thumb c d x y =
     core_once c.r d.r c.banks.high d.banks.high c.banks.r13 d.banks.r13 c.banks.r14 d.banks.r14 c.cpsr d.cpsr c.spsr d.spsr
     (same_number_lists c.r d.r (x.valid.visible.count ∙ sym y.valid.visible.count) (λ k lt. visible k (eqb_tells k 15)))
     (zeros_once c.banks.high d.banks.high 5 x.valid.high.count y.valid.high.count x.high y.high)
@@ -223,7 +229,7 @@ module _ (law : BusRunIsOne) (banks : List MemoryBank) (whole : AreWholeBanks ba
       (subst (λ (bs : List MemoryBank). IsRoomy bs s.devices i.needs) (sym b) (subst (λ (ds : List Seat). IsRoomy banks ds i.needs) (sym d) roomy))
       (subst AreWholeBanks (sym b) whole) (subst AreWholeSeats (sym d) placed) o.used (o.frames ∙ ap frames_of (sym b))
 
-  valid : (s : State) (core : ArmState) → IsOpening banks i seats s → IsReset i.start core → IsValidState (over core s)
+  valid : (s : State) (core : ArmState) → IsOpening banks i seats s → IsReset i.start i.thumb core → IsValidState (over core s)
   valid s core o reset = record {
     core = reset.valid;
     memory = λ x. subst (λ (m : Bytes). m x < 256) (sym o.memory) (loaded_bytes (λ a. 0) i.loads (λ y. omega arith) bytes x);
@@ -236,7 +242,7 @@ module _ (law : BusRunIsOne) (banks : List MemoryBank) (whole : AreWholeBanks ba
       let (text', ended') = y.is_run.runs in
       let (run, got) = unsunk (is_sink why) _ _ e ended in
       let (run', got') = unsunk (is_sink why') _ _ e' ended' in
-      let core = reset_once i.start y.is_run.core x.is_run.core y.is_run.reset x.is_run.reset in
+      let core = reset_once i.start i.thumb y.is_run.core x.is_run.core y.is_run.reset x.is_run.reset in
       let begin = opening_once banks i seats y.begin x.begin y.opening x.opening in
       let run1 = subst (λ (c : ArmState). Runs most c y.begin why' y.is_run.made text' y.is_run.core' y.is_run.end) core run' in
       let run2 = subst (λ (s : State). Runs most x.is_run.core s why' y.is_run.made text' y.is_run.core' y.is_run.end) begin run1 in

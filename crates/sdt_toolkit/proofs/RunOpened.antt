@@ -90,13 +90,13 @@ module _ {i : Image} {written : ℕ → Bool} {s : State} (o : IsOpened i writte
   bank_there x e = needed_bank s.contents.banks (needs_of i) o.roomy.room x e
 
   module _ {view : ByteMap} (r : Reaches i view written) where
-    pub valid : (core : ArmState) → IsReset i.start core → IsValidState (over core s)
+    pub valid : (core : ArmState) → IsReset i.start false core → IsValidState (over core s)
     valid core reset = record {
       core = reset.valid;
       memory = λ x. subst (λ (m : Bytes). m x < 256) (sym o.memory) (loaded_bytes (λ a. 0) (map load_of i.loads) (λ y. omega arith) (all_map (λ (l : Load). AreBytes l.bytes) load_of i.loads r.can.bytes) x);
     }
 
-    pub can_start : (core : ArmState) → IsReset i.start core → CanStart (map_of (segments_of i)) view written i.start (board_of s) (over core s)
+    pub can_start : (core : ArmState) → IsReset i.start false core → CanStart (map_of (segments_of i)) view written i.start (board_of s) (over core s)
     unfolding board_of
     can_start core reset = record {
       valid = valid core reset;

@@ -145,7 +145,7 @@ module _ {i : Image} {view : ByteMap} {written : ℕ → Bool} {s : State} (o : 
     pub given : AreSteps (board_of s) (over core s) (given_by s (accesses_of steps)) steps
     pub uses : EachStep (StoresAreUsed s.contents) (accesses_of steps)
 
-  pub startup : (core : ArmState) → IsReset i.start core → (steps : List Stepped) × IsStartup core steps
+  pub startup : (core : ArmState) → IsReset i.start false core → (steps : List Stepped) × IsStartup core steps
   startup core reset =
       let (n, few, booted) = r.boots (board_of s) (over core s) (can_start o r core reset) in
       let (steps, b) = booted (lines_for n s.devices) in

@@ -88,7 +88,7 @@ record IsQuiet (core : ArmState) (s : State) (core' : ArmState) (s' : State) (st
   pub touches : touches_of s'.devices ≡ touches_of s.devices
 
 module _ (one : BusRunIsOne) (once : MadeStepsAreOne) {i : Image} {view : ByteMap} {written : ℕ → Bool} {s : State} (o : IsOpened i written s)
-    (r : Reaches i view written) (core : ArmState) (reset : IsReset i.start core) (steps : List Stepped) (p : IsStartup o r core steps) where
+    (r : Reaches i view written) (core : ArmState) (reset : IsReset i.start false core) (steps : List Stepped) (p : IsStartup o r core steps) where
   -- a run of no more steps than the startup's
   quiet : (most : ℕ) (why : Stop) (made : ℕ) (text : List ℕ) (core' : ArmState) (s' : State) → Runs most core s why made text core' s' → most ≤ length steps → IsQuiet core s core' s' steps most why made text
   quiet most why made text core' s' run le =

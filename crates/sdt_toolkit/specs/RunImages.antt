@@ -1,5 +1,6 @@
 -- What a run makes of a scatter image: the image that its files give, and which of its addresses are to be memory; and what
 -- it asks of the image for that. This project's.
+use Rattle.std.proofs.lemmas.Bool.{false≢true}
 use Rattle.std.specs.Prelude.{◌≡◌, ℕ, ◌+◌, ◌%◌, ◌^◌, ◌<◌, Bool, true, false, List, ◌++◌, length, map, slice_index, Some}
 use Rattle.std.specs.List.{list_any, AllByRecursion}
 use Rattle.sdt_outside.specs.Files.{Files, content}
@@ -33,7 +34,13 @@ abbrev pub needs_of : Image → List Need
 needs_of i = map load_need i.loads ++ map region_need i.regions
 
 abbrev pub run_image : Image → RunImage
-run_image i = record { loads = map load_of i.loads; needs = needs_of i; start = i.start }
+run_image i = record {
+  loads = map load_of i.loads;
+  needs = needs_of i;
+  start = i.start;
+  thumb = false;
+  even = λ e. absurd (false≢true e);
+}
 
 -- a load or an execution range has the address
 abbrev pub is_needed : List Need → ℕ → Bool

@@ -1,7 +1,10 @@
 //! The command.
 
 ghost use Rattle.std.specs.Prelude.{◌≡◌, ◌<◌, ◌≤◌, ◌^◌, IfOk, length};
-ghost use Rattle.armasm_core.specs.Assembling.{MayGet};
+ghost use Rattle.armasm_core.specs.Assembling.{MayGet, most_bytes};
+ghost use Rattle.sdt_fault.specs.declared.answer.Fault.TheVariants as fault;
+ghost use Rattle.sdt_fault.specs.declared.kinds.Quantity.TheVariants.{SourceBytes};
+ghost use Rattle.sdt_fault.specs.declared.refusal.Refusal.TheVariants.{TooLarge};
 ghost use Rattle.sdt_toolkit.specs.Reads.{Told};
 ghost use Rattle.sdt_toolkit.specs.Sources.{AssemblyAnswersOver, Spells};
 
@@ -10,10 +13,12 @@ use aof_object::write_object;
 use armasm_core::assemble;
 use chunk_file::size_law;
 use sdt_fault::answer::{Answer, Fault};
+use sdt_fault::kinds::Quantity;
+use sdt_fault::refusal::Refusal;
 use sdt_fault::{Bytes, Text};
 use sdt_outside::Store;
 use std::alloc::Global;
-use tool_answers::{read_input, write};
+use tool_answers::{read_input_up_to, write};
 use tool_library::ends::{end_answer, fault_answer};
 
 /// The object file of a source's text, with the files that its GETs name.
@@ -36,13 +41,26 @@ fn object_file<S: Store>(
     write_object(alloc, &object)
 }
 
+/// The most bytes of a source; a longer file is not read to its end.
+const MOST_BYTES: u32 = 1 << 24;
+
+fn too_large() -> Fault
+    ensures { result ≡ fault.Refused (TooLarge SourceBytes most_bytes) }
+{
+    Fault::Refused(Refusal::TooLarge {
+        quantity: Quantity::SourceBytes,
+        limit: u64::from(MOST_BYTES),
+    })
+}
+
 /// Writes the object of a source.
 pub fn assemble_file<S: Store>(alloc: Global, store: &mut S, source: &Text, output: Text) -> Answer
     ensures { AssemblyAnswersOver source.now output (S.files store.old) (S.files store.new) (S.read_faults store.old) (S.read_faults store.new)
         (S.write_faults store.old) (S.write_faults store.new) result }
 {
-    let text = match read_input(alloc, store, source) {
-        Ok(text) => text,
+    let text = match read_input_up_to(alloc, store, source, MOST_BYTES) {
+        Ok(Some(text)) => text,
+        Ok(None) => return fault_answer(too_large()),
         Err(end) => return end_answer(end),
     };
     match object_file(alloc, store, source, text.as_slice()) {
