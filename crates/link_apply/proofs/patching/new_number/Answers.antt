@@ -1,15 +1,13 @@
 use Rattle.std.proofs.Common.{◌≡◌, ◌+◌, ◌^◌, ◌<◌, ap, subst, ◌∙◌}
 use Rattle.patch_model.specs.Fields.{field_of, kind_of, number_in, size_of}
 use Rattle.link_apply.specs.Judged.{number_with}
-use Rattle.link_apply.specs.Starts.{kind_by}
 use Rattle.link_apply.specs.Targets.{way_by}
 use Rattle.link_apply.proofs.JudgeLemmas.{numbered}
-use Rattle.link_apply.proofs.OverlapLemmas.{coded}
 use Rattle.link_apply.proofs.patching.new_number.Goals as goal
 
 pub returns : goal.returns
 returns c =
-    let kind : kind_by c.kind_of.result ≡ kind_of c.args.reloc = ap kind_by c.kind_of.ensures ∙ coded (kind_of c.args.reloc) in
+    let kind : c.kind.result ≡ kind_of c.args.reloc = c.kind.ensures in
     record {
       value = λ p region values number own there sound leads goes.
           let place = c.place_of.ensures in
