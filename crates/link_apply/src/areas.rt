@@ -33,7 +33,7 @@ use std::alloc::Global;
 fn start_at(starts: &IndexMap<u64, Start>, reloc: Reloc) -> Option<Start>
     ensures { result ≡ get nat_eq starts.now (field_of reloc).place }
 {
-    starts.get(&(reloc.field().place as u64)).copied()
+    starts.get(&u64::from(reloc.field().place)).copied()
 }
 
 /// What the field of a relocation is to hold, or the relocation's flaw, by how its branch goes.

@@ -18,7 +18,8 @@ use indexmap::IndexMap;
 pub fn is_outside_of(bytes: &[u8], reloc: Reloc) -> bool
     ensures { result ≡ is_outside bytes.now (field_of reloc) }
 {
-    let end = reloc.field().place as u64 + reloc.kind().size() as u64;
+    let field = reloc.field();
+    let end = u64::from(field.place) + u64::from(field.kind.size());
     (bytes.len() as u64) < end
 }
 

@@ -70,6 +70,7 @@ pub fn is_overlapping(starts: &IndexMap<u64, Start>, start: Start, reloc: Reloc)
         → AreStarts values relocs starts.now
         → result ≡ list_any (λ q. overlaps (field_of q) (field_of reloc)) relocs }
 {
-    let size = reloc.kind().size() as u64;
-    is_crowded_at(starts, reloc.field().place as u64, size, start.is_mixed)
+    let field = reloc.field();
+    let size = u64::from(field.kind.size());
+    is_crowded_at(starts, u64::from(field.place), size, start.is_mixed)
 }

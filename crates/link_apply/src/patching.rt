@@ -69,8 +69,9 @@ pub fn new_number(start: Start, base: u64, area: &Area, reloc: Reloc, detour: De
     ensures bound { result < 256 ^ kind_size (field_kind reloc) }
 {
     let word = number_of(area.bytes.as_slice(), reloc);
-    let at = base + reloc.field().place as u64;
-    number_by(reloc.kind(), at, word, sums_of(start, base), detour)
+    let field = reloc.field();
+    let at = base + u64::from(field.place);
+    number_by(field.kind, at, word, sums_of(start, base), detour)
 }
 
 fn is_thumb(kind: FieldKind) -> bool
@@ -99,7 +100,8 @@ pub fn target_at(
         → IsWay (values_by bases symbols.now) base number area.now reloc (way_by result) }
 {
     let word = number_of(area.bytes.as_slice(), reloc);
-    let at = base + reloc.field().place as u64;
-    let thumb = is_thumb(reloc.kind());
+    let field = reloc.field();
+    let at = base + u64::from(field.place);
+    let thumb = is_thumb(field.kind);
     target_by(symbols, thumb, at, word, sums_of(start, base), start.symbol)
 }

@@ -99,7 +99,8 @@ pub fn number_of(bytes: &[u8], reloc: Reloc) -> u32
     requires { is_outside bytes.now (field_of reloc) ≡ false }
     ensures { result ≡ number_in bytes.now (field_of reloc) }
 {
-    number_at(bytes, reloc.field().place as usize, reloc.kind())
+    let field = reloc.field();
+    number_at(bytes, field.place as usize, field.kind)
 }
 
 /// Of a relocation of an area of a number at a base. `start` is what the area's relocations do where its field
@@ -130,8 +131,9 @@ pub fn flaw_of_relocation(
         return Some(Flaw::Form);
     }
     let word = number_of(area.bytes.as_slice(), reloc);
-    let at = base + reloc.field().place as u64;
+    let field = reloc.field();
+    let at = base + u64::from(field.place);
     let sums = sums_of(start, base);
     let only = is_only_at(start, reloc);
-    flaw_of_field(reloc.kind(), at, word, sums, only, detour)
+    flaw_of_field(field.kind, at, word, sums, only, detour)
 }

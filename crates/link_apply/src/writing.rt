@@ -24,7 +24,8 @@ fn put_field(bytes: &mut [u8], relocs: &[Reloc], numbers: &[u32], i: usize)
         (bytes_of (get_or numbers.now i 0) (size_of (field_kind r))) }
 {
     let reloc = relocs[i];
-    put_number(bytes, reloc.field().place as usize, reloc.kind(), numbers[i]);
+    let field = reloc.field();
+    put_number(bytes, field.place as usize, field.kind, numbers[i]);
 }
 
 /// Writes the number of each field. Relocations of one field have the same number.
