@@ -19,7 +19,7 @@ use crate::judging::is_outside_of;
 use crate::patching::new_number;
 use crate::relocations::{Detour, flaw_of_relocation};
 use crate::sites::{Known, Site};
-use crate::starts::{Start, place_of};
+use crate::starts::Start;
 use crate::telling::refusal_of;
 use crate::writing::put_numbers;
 use aof_object::{Object, Reloc};
@@ -33,7 +33,7 @@ use std::alloc::Global;
 fn start_at(starts: &IndexMap<u64, Start>, reloc: Reloc) -> Option<Start>
     ensures { result ≡ get nat_eq starts.now (field_of reloc).place }
 {
-    starts.get(&(place_of(reloc) as u64)).copied()
+    starts.get(&u64::from(reloc.field().place)).copied()
 }
 
 /// What the field of a relocation is to hold, or the relocation's flaw, by how its branch goes.

@@ -35,7 +35,7 @@ fn piece_of(
         (site_piece known.now site.now)) }
 {
     let bytes = patched(alloc, known, site, object)?;
-    if site.area.attributes / 0x1000 % 2 == 1 {
+    if site.area.flags().is_zero_initialised() {
         return Ok(None);
     }
     Ok(Some(RegionPiece {

@@ -31,10 +31,10 @@ pub struct Supply<'a> {
 fn asked_by(supply: &Supply, symbol: &Symbol) -> Option<usize>
     ensures { result ≡ asked (supply_of supply.now) symbol.now }
 {
-    if symbol.attributes % 4 != 2 {
+    if !symbol.flags().is_reference() {
         return None;
     }
-    if symbol.attributes / 16 % 2 != 0 {
+    if symbol.flags().is_weak() {
         return None;
     }
     if find(&supply.defined, symbol.name.as_slice()).is_some() {

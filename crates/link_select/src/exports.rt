@@ -29,7 +29,7 @@ fn put_export<'a>(
 ) -> Result<(), NoMemory>
     ensures { OnOk result ((q : List ℕ) → number_in index.new q ≡ (if is_exported symbol.now.attributes && bytes_eq symbol.now.name q then Some number else number_in index.old q)) }
 {
-    if symbol.attributes % 4 == 3 {
+    if symbol.flags().is_exported() {
         put(index, symbol.name.as_slice(), number)?;
     }
     Ok(())
@@ -112,7 +112,7 @@ fn clash_of(
     requires { IsIndexOf first (objects_in (drop first objects.now)) index.now }
     ensures { IfOk result (λ refusal. refusal ≡ clash name.now (drop first objects.now) symbol.now) }
 {
-    if symbol.attributes % 4 != 3 {
+    if !symbol.flags().is_exported() {
         return Ok(None);
     }
     let Some(number) = find(index, symbol.name.as_slice()) else {

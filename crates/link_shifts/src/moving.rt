@@ -22,8 +22,8 @@ pub fn names_moving(image: &Image<'_>, object: u32, reloc: Reloc) -> bool
     requires { Tells image.now }
     ensures { result ≡ names_moving (link_of image.now.linked.now) image.now.placement.now object reloc }
 {
-    if reloc.word / 0x800_0000 % 2 != 1 {
-        return true;
+    match reloc.symbol() {
+        None => true,
+        Some(number) => is_moving(&image.names, object, number),
     }
-    is_moving(&image.names, object, reloc.word % 0x100_0000)
 }

@@ -45,7 +45,7 @@ fn is_symbol_moving(known: &Known, symbol: Option<&Symbol>) -> bool
     let Some(symbol) = symbol else {
         return false;
     };
-    if symbol.attributes % 2 == 1 {
+    if symbol.flags().is_definition() {
         return is_in_area(Some(symbol));
     }
     is_name_moving(known, symbol.name.as_slice())

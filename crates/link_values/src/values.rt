@@ -5,7 +5,6 @@ ghost use Rattle.link_model.specs.Members.{link_of, objects_in};
 ghost use Rattle.link_model.specs.Meaning.{symbol_of};
 ghost use Rattle.link_model.specs.RegionValues.{numbers_by};
 ghost use Rattle.link_model.specs.Values.{home_area as home, meant_of, unplaced as alone};
-ghost use Rattle.aof_object.specs.Checks.{is_placed as placed};
 ghost use Rattle.link_values.specs.Bases.{base_of, AreBases};
 ghost use Rattle.link_values.specs.Values.{meant, of_region, known_value, all_values, value_in, AreValues, Knows};
 
@@ -68,19 +67,10 @@ pub fn gathered<'a>(
     })
 }
 
-fn is_placed(symbol: &Symbol) -> bool
-    ensures { result ≡ placed symbol.now.attributes }
-{
-    if symbol.attributes % 2 != 1 {
-        return false;
-    }
-    symbol.attributes / 4 % 2 == 0
-}
-
 pub fn home_area(symbol: &Symbol) -> Option<u32>
     ensures { result ≡ home symbol.now }
 {
-    if !is_placed(symbol) {
+    if !symbol.flags().is_placed() {
         return None;
     }
     symbol.area
@@ -101,8 +91,8 @@ fn unplaced(number: u64) -> SymbolValue
 fn own_value(bases: &AreaBases, object: u32, symbol: &Symbol) -> Result<SymbolValue, NoMemory>
     ensures { IfOk result (λ v. meant v ≡ meant_of (base_of bases.now) object (Some symbol.now)) }
 {
-    let thumb = symbol.attributes / 0x1000 % 2 == 1;
-    let datum = symbol.attributes / 0x100 % 2 == 1;
+    let thumb = symbol.flags().is_thumb();
+    let datum = symbol.flags().is_datum();
     let Some(area) = home_area(symbol) else {
         return Ok(SymbolValue {
             number: symbol.value as u64,
@@ -151,7 +141,7 @@ fn value_of_region(number: Option<u64>) -> SymbolValue
 fn value_of(known: &Known, object: u32, symbol: &Symbol) -> Result<SymbolValue, NoMemory>
     ensures { IfOk result (λ v. meant v ≡ known_value known.now object symbol.now) }
 {
-    if symbol.attributes % 2 == 1 {
+    if symbol.flags().is_definition() {
         return own_value(known.bases, object, symbol);
     }
     let name = symbol.name.as_slice();

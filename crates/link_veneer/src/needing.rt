@@ -5,15 +5,15 @@ ghost use Rattle.patch_model.specs.Patched.{ahead, is_branch as reads_as_branch,
 ghost use Rattle.link_model.specs.Members.{link_of};
 ghost use Rattle.link_model.specs.Veneers.{needed_by, needed_in, IsIn};
 ghost use Rattle.link_veneer.specs.Fields.{AreMarks};
-ghost use Rattle.link_veneer.specs.Index.{IsIndexOf};
+ghost use Rattle.link_values.specs.Index.{IsIndexOf};
 ghost use Rattle.link_veneer.specs.Needing.{led, led_from, veneer_to, with_all, with_one};
 
-use crate::definitions::Defined;
-use crate::fields::{is_alone, is_branch, marks_of, place};
+use crate::fields::{is_alone, is_branch, marks_of};
 use crate::targets::{Target, named_target};
 use aof_object::{Area, Reloc};
 use indexmap::{IndexMap, IndexSet};
 use link_model::{AreaName, Linked, Veneer};
+use link_values::Defined;
 use sdt_fault::NoMemory;
 use sdt_word::word_at;
 use std::alloc::Global;
@@ -85,8 +85,8 @@ fn led_by(
     ensures { result ≡ led (link_of linked.now) region object bytes.now reloc }
 {
     let thumb = reloc.offset % 2 == 1;
-    let far = distance(bytes, thumb, place(reloc))?;
-    let to = named_target(linked, index, object, reloc.word % 0x100_0000)?;
+    let far = distance(bytes, thumb, reloc.field().place)?;
+    let to = named_target(linked, index, object, reloc.number())?;
     led_to(region, thumb, far, to)
 }
 
