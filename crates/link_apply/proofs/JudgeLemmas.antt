@@ -9,7 +9,7 @@ use Rattle.patch_model.specs.Fields.{Kind, Byte, Half, Word, Branch, Values, fie
 use Rattle.patch_model.specs.Patched.{Way, way_of}
 use Rattle.link_model.specs.declared.placing.Placement.{Placement}
 use Rattle.link_model.specs.Veneers.{IsIn}
-use Rattle.link_apply.specs.declared.flaws.Flaw.TheVariants.{Form}
+use Rattle.link_apply.specs.declared.flaws.Flaw.TheVariants.{Malformed}
 use Rattle.link_apply.specs.declared.judging.Sums.{Sums}
 use Rattle.link_apply.specs.declared.starts.Start.{Start}
 use Rattle.link_apply.specs.Flaws.{overlaps, is_of_itself, is_based, is_outside, has_bad_field, is_only, unless, value_flaw, flaw_of}
@@ -51,7 +51,7 @@ judged p values region base area a r s sums way own there sound tells goes =
     let alone = alone_is values a.relocs (field_of r) s there unmixed kind in
     (λ i. flaw_by p region (base + (field_of r).place) (number_in a.bytes (field_of r)) (more i) (less i) (is_relative r && alone i) way (kind_of r))
     ∙ valued p values region base a r way (kind_of r) (directives a.relocs (field_of r)) (λ t e. goes t e sound)
-    ∙ ap (λ (b : Bool). unless Form b (value_flaw p values region base a r (kind_of r) (directives a.relocs (field_of r)))) (sym sound)
+    ∙ ap (λ (b : Bool). unless Malformed b (value_flaw p values region base a r (kind_of r) (directives a.relocs (field_of r)))) (sym sound)
 
 -- ---- what a field is to hold
 

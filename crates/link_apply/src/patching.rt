@@ -14,10 +14,8 @@ use crate::judging::{Sums, sums_of};
 use crate::numbers::total;
 use crate::relocations::{Detour, number_of};
 use crate::starts::Start;
-use crate::targets::Target;
 use crate::ways::{target_by, turned_word};
 use aof_object::{Area, FieldKind, Reloc};
-use link_values::SymbolValue;
 
 /// The branch of a word at an address with the displacement that it is to have.
 fn branch_with(thumb: bool, at: u64, word: u32, sums: Sums, detour: Detour) -> u32
@@ -90,7 +88,7 @@ pub fn target_at(
     base: u64,
     area: &Area,
     reloc: Reloc,
-) -> Option<Target>
+) -> Option<BranchTarget>
     requires symbols { AreBelow symbols.now }
     requires inside { is_outside area.now.bytes (field_of reloc) ≡ false }
     requires base { base < 2 ^ 33 }
@@ -105,3 +103,5 @@ pub fn target_at(
     let thumb = is_thumb(field.kind);
     target_by(symbols, thumb, at, word, sums_of(start, base), start.symbol)
 }
+
+use link_values::{BranchTarget, SymbolValue};

@@ -15,15 +15,15 @@ use crate::flaws::{Flaw, flaw_of_byte, flaw_of_half};
 use crate::judging::{Sums, is_bad_field, sums_of};
 use crate::numbers::{is_branch_word, total};
 use crate::starts::Start;
-use crate::targets::Target;
 use crate::ways::flaw_of_way;
 use aof_object::{Area, FieldKind, Reloc};
 use indexmap::IndexMap;
+use link_values::BranchTarget;
 
 /// How a branch goes: to its target by a veneer, which is missing where it has no address.
 #[derive(Clone, Copy)]
 pub struct Detour {
-    pub target: Option<Target>,
+    pub target: Option<BranchTarget>,
     pub veneer: Option<u32>,
     /// The target's address.
     pub goal: u64,
@@ -46,10 +46,10 @@ fn flaw_of_branch(
         → result ≡ flaw_by p region at word sums.more sums.less only (way_by detour.target) (Branch thumb) }
 {
     if !only {
-        return Some(Flaw::Form);
+        return Some(Flaw::Malformed);
     }
     if !is_branch_word(thumb, word) {
-        return Some(Flaw::Form);
+        return Some(Flaw::Malformed);
     }
     flaw_of_way(
         thumb,
@@ -128,7 +128,7 @@ pub fn flaw_of_relocation(
         → result ≡ flaw_of p values region base number area.now reloc }
 {
     if is_bad_field(starts, start, number, area, reloc) {
-        return Some(Flaw::Form);
+        return Some(Flaw::Malformed);
     }
     let word = number_of(area.bytes.as_slice(), reloc);
     let field = reloc.field();

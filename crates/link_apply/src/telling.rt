@@ -41,17 +41,17 @@ pub fn refusal_of(
     let place = area.name.try_clone(alloc)?;
     let offset = reloc.field().place;
     Ok(match flaw {
-        Flaw::Form => Refusal::BadRelocation {
+        Flaw::Malformed => Refusal::BadRelocation {
             object: name,
             area: place,
             offset,
         },
-        Flaw::Sum => Refusal::FieldOverflow {
+        Flaw::Overflow => Refusal::FieldOverflow {
             object: name,
             area: place,
             offset,
         },
-        Flaw::Distance => Refusal::Unreachable {
+        Flaw::OutOfReach => Refusal::Unreachable {
             object: name,
             area: place,
             offset,

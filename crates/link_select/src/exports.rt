@@ -13,7 +13,7 @@ ghost use Rattle.link_select.specs.Places.{places_from};
 ghost use Rattle.link_select.specs.Exports.{clash, duplicate};
 
 use crate::index::{find, put};
-use crate::members::{Place, symbols_of_member};
+use crate::members::{MemberPlace, symbols_of_member};
 use alf_archive::Archive;
 use aof_object::{Object, Symbol};
 use indexmap::IndexMap;
@@ -78,7 +78,7 @@ pub fn index_objects<'a>(
 pub fn index_members<'a>(
     alloc: Global,
     archives: &'a [Named<Archive>],
-    places: &[Place],
+    places: &[MemberPlace],
 ) -> Result<IndexMap<&'a [u8], usize>, NoMemory>
     requires { places.now ≡ places_from 0 archives.now }
     ensures { IfOk result (λ index. IsIndexOf 0 (objects_in (members_of archives.now)) index) }

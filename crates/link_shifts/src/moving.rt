@@ -7,14 +7,14 @@ ghost use Rattle.link_shifts.specs.Tells.{Tells};
 
 use aof_object::Reloc;
 use link_model::{Linked, Placement};
-use link_values::{Known, is_moving};
+use link_values::{SymbolContext, is_moving};
 
 /// A link with its placement, and what these tell of names and addresses.
 #[derive(Drop)]
 pub struct Image<'a> {
     pub linked: &'a Linked,
     pub placement: &'a Placement,
-    pub names: Known<'a>,
+    pub names: SymbolContext<'a>,
 }
 
 /// Whether what a relocation of an object names moves with the image.

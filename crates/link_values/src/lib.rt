@@ -16,4 +16,6 @@ pub use crate::moving::is_moving;
 pub use crate::names::find;
 pub use crate::objects::{area_at, sum, symbol_at};
 pub use crate::regions::region_numbers;
-pub use crate::values::{Known, Place, SymbolValue, gathered, symbol_values, value_at};
+pub use crate::values::{
+    AreaOffset, BranchTarget, SymbolContext, SymbolValue, gathered, symbol_values, value_at,
+};

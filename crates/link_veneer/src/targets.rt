@@ -10,19 +10,11 @@ ghost use Rattle.link_veneer.specs.Targets.{target_of, target_of_symbol};
 
 use aof_object::{Object, Symbol};
 use indexmap::IndexMap;
-use link_model::{AreaName, Linked, Named};
-use link_values::{Defined, find, symbol_at};
-
-/// A place in an area, and whether it is of Thumb code.
-#[derive(Clone, Copy)]
-pub struct Target {
-    pub area: AreaName,
-    pub offset: u32,
-    pub thumb: bool,
-}
+use link_model::{Linked, Named};
+use link_values::{AreaOffset, BranchTarget, Defined, find, symbol_at};
 
 /// Where a definition stands, if it stands in an area.
-fn place_of_symbol(object: u32, symbol: &Symbol) -> Option<Target>
+fn place_of_symbol(object: u32, symbol: &Symbol) -> Option<BranchTarget>
     ensures { result ≡ target_of_symbol object symbol.now }
 {
     if !symbol.flags().is_placed() {
@@ -30,15 +22,18 @@ fn place_of_symbol(object: u32, symbol: &Symbol) -> Option<Target>
     }
     match symbol.area {
         None => None,
-        Some(area) => Some(Target {
-            area: AreaName { object, area },
-            offset: symbol.value,
+        Some(area) => Some(BranchTarget {
+            place: AreaOffset {
+                object,
+                area,
+                offset: symbol.value,
+            },
             thumb: symbol.flags().is_thumb(),
         }),
     }
 }
 
-fn place_at(objects: &[Named<Object>], object: u32, number: u32) -> Option<Target>
+fn place_at(objects: &[Named<Object>], object: u32, number: u32) -> Option<BranchTarget>
     ensures { result ≡ option_and_then (target_of_symbol object) (symbol_of
         (objects_in objects.now) object number) }
 {
@@ -54,7 +49,7 @@ pub fn named_target(
     index: &IndexMap<&[u8], Defined>,
     object: u32,
     number: u32,
-) -> Option<Target>
+) -> Option<BranchTarget>
     requires { IsIndexOf linked.now.definitions index.now }
     ensures { result ≡ target_of ((values_apart (link_of linked.now) object).symbol number) }
 {
