@@ -13,6 +13,7 @@ use crate::flaws::{Flaw, flaw_of_detour, flaw_of_direct};
 use crate::judging::Sums;
 use crate::numbers::{ahead, middle, span, total, with_span};
 use crate::targets::target_of;
+use link_values::{BranchTarget, SymbolValue};
 
 /// What is wrong with the branch of a word at an address, by the veneer of its target and the target's address.
 pub fn flaw_of_way(
@@ -89,4 +90,3 @@ pub fn target_by(
     target_of(thumb, reach, sums.more, sums.less, *found)
 }
 
-use link_values::{BranchTarget, SymbolValue};
