@@ -3,7 +3,6 @@
 -- Loading; ELF for the ARM Architecture: bit 0 of the entry tells the state; that a segment whose bytes are fewer than its
 -- memory gets no zeros, since memory is 0 before anything is loaded, is this project's). `ElfLoadLaw` says that memory then
 -- holds what the file loads (`elf_load`).
-use Rattle.std.proofs.Common.{arith}
 use Rattle.std.specs.Prelude.{◌≡◌, ℕ, ◌-◌, ◌%◌, ◌==◌, List, map, take, drop, unwrap_or, Result, Ok}
 use Rattle.sdt_fault.specs.declared.refusal.Refusal.{Refusal}
 use Rattle.chunk_file.specs.Reading.{◌>>=◌}
@@ -16,6 +15,7 @@ use Rattle.run_opening.specs.declared.image.Image.{Image}
 use Rattle.run_opening.specs.declared.image.Load.{Load}
 use Rattle.run_opening.specs.declared.image.Need.{Need}
 use Rattle.run_opening.specs.Openings.{loaded}
+use Rattle.run_opening.proofs.EvenLemmas.{even_below}
 use Rattle.tool_run.specs.Ends.{named_by}
 
 -- the file's bytes of a segment, at its address
@@ -36,7 +36,7 @@ loaded_elf b e = record {
   needs = map need_of e.segments;
   start = e.entry - e.entry % 2;
   thumb = e.entry % 2 == 1;
-  even = λ thumb. omega arith;
+  even = λ thumb. even_below e.entry;
 }
 
 -- the image, or the first check of the file that fails
