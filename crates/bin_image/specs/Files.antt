@@ -1,9 +1,8 @@
--- The files of a linked image: its bytes alone, or one file for each load region and then the map. Where an address
+-- The files of a linked image: one file for each load region and then the map, or its bytes alone. Where an address
 -- is 2^32, as an empty region's may be, the map writes 0. This project's.
 use Rattle.std.specs.Prelude.{ℕ, ◌%◌, ◌^◌, ◌<◌, List, [], ◌∷◌, ◌++◌, length, map, codes}
+use Rattle.std.specs.List.{flat_map}
 use Rattle.link_model.specs.declared.images.Image.{Image}
-use Rattle.link_model.specs.declared.images.ImageKind.{ImageKind}
-use Rattle.link_model.specs.declared.images.ImageKind.TheVariants as form
 use Rattle.link_model.specs.declared.images.LoadRegion.{LoadRegion}
 use Rattle.link_model.specs.declared.placing.Region.{Region}
 use Rattle.bin_image.specs.declared.records.OutFile.{OutFile}
@@ -49,21 +48,19 @@ pub record IsMapped (r : Region) : Type 0 where
   pub length : r.length < 2 ^ 32
   pub zero : r.zero < 2 ^ 32
 
--- ---- the files, in the order in which they are written
+-- ---- a file for each load region, and the map behind them
 
 abbrev pub load_file : List ℕ → LoadRegion → OutFile
 load_file out l = record { name = load_name out l.name; bytes = l.bytes }
 
-abbrev pub plain_file : List ℕ → LoadRegion → OutFile
-plain_file out l = record { name = out; bytes = l.bytes }
-
 abbrev pub map_file : Image → List ℕ → OutFile
 map_file i out = record { name = map_name out; bytes = map_text (map_of i out) }
 
-abbrev pub files_by : ImageKind → Image → List ℕ → List OutFile
-files_by form.Scatter i out = map (load_file out) i.loads ++ map_file i out ∷ []
-files_by form.Plain i out = map (plain_file out) i.loads
-files_by (form.Aif relocatable) i out = []
+abbrev pub load_files : Image → List ℕ → List OutFile
+load_files i out = map (load_file out) i.loads ++ map_file i out ∷ []
 
-abbrev pub files_of : Image → List ℕ → List OutFile
-files_of i out = files_by i.kind i out
+-- ---- the bytes alone
+
+-- of all load regions, in order
+abbrev pub binary_file : Image → List ℕ
+binary_file i = flat_map (λ l. l.bytes) i.loads

@@ -1,15 +1,14 @@
 //! The files of a linked image.
 
 ghost use Rattle.std.specs.Prelude.{◌≡◌, ◌<◌, ◌%◌, ◌^◌, ◌++◌, IfOk, length, map, codes};
-ghost use Rattle.std.specs.List.{AllByRecursion};
-ghost use Rattle.bin_image.specs.Files.{files_by, files_of, load_file, load_name, plain_file};
+ghost use Rattle.std.specs.List.{AllByRecursion, flat_map};
+ghost use Rattle.bin_image.specs.Files.{binary_file, load_file, load_files, load_name};
 ghost use Rattle.bin_image.specs.Files.{map_file, map_load, map_of, map_region, IsMapped};
-ghost use Rattle.link_model.specs.declared.images.ImageKind.TheVariants as form;
 
 use crate::records::{MapFile, MapLoad, MapRegion, OutFile};
 use crate::writing::write_map;
-use link_model::{Image, ImageKind, LoadRegion, Region};
-use sdt_fault::{List, NoMemory, Text};
+use link_model::{Image, LoadRegion, Region};
+use sdt_fault::{Bytes, List, NoMemory, Text};
 use std::alloc::Global;
 
 fn joined(alloc: Global, first: &Text, rest: &[u8]) -> Result<Text, NoMemory>
@@ -110,7 +109,7 @@ fn map_file(alloc: Global, image: &Image, out: &Text) -> Result<OutFile, NoMemor
     })
 }
 
-// ---- the files
+// ---- a file for each load region
 
 fn load_file(alloc: Global, out: &Text, load: &LoadRegion) -> Result<OutFile, NoMemory>
     ensures { IfOk result (λ f. f ≡ load_file out.now load.now) }
@@ -121,7 +120,7 @@ fn load_file(alloc: Global, out: &Text, load: &LoadRegion) -> Result<OutFile, No
     })
 }
 
-fn load_files(alloc: Global, out: &Text, loads: &[LoadRegion]) -> Result<Vec<OutFile>, NoMemory>
+fn region_files(alloc: Global, out: &Text, loads: &[LoadRegion]) -> Result<Vec<OutFile>, NoMemory>
     ensures { IfOk result (λ fs. fs.items ≡ map (load_file out.now) loads.now) }
 {
     let mut files = Vec::new(alloc);
@@ -131,55 +130,34 @@ fn load_files(alloc: Global, out: &Text, loads: &[LoadRegion]) -> Result<Vec<Out
     Ok(files)
 }
 
-fn plain_file(alloc: Global, out: &Text, load: &LoadRegion) -> Result<OutFile, NoMemory>
-    ensures { IfOk result (λ f. f ≡ plain_file out.now load.now) }
-{
-    Ok(OutFile {
-        name: out.try_clone(alloc)?,
-        bytes: load.bytes.try_clone(alloc)?,
-    })
-}
-
-fn plain_files(alloc: Global, out: &Text, loads: &[LoadRegion]) -> Result<Vec<OutFile>, NoMemory>
-    ensures { IfOk result (λ fs. fs.items ≡ map (plain_file out.now) loads.now) }
-{
-    let mut files = Vec::new(alloc);
-    for load in loads {
-        files.push(plain_file(alloc, out, load)?)?;
-    }
-    Ok(files)
-}
-
-fn scatter_files(alloc: Global, image: &Image, out: &Text) -> Result<Vec<OutFile>, NoMemory>
+/// The files of a scatter image in the order in which they are written: one for each load region, whose name is `out`, a
+/// dot and the region's name, and then the map, `out` and `.map`.
+pub fn load_files(alloc: Global, image: &Image, out: &Text) -> Result<List<OutFile>, NoMemory>
     requires loads { AllByRecursion (λ l. length l.bytes < 2 ^ 32) image.now.loads }
     requires regions { AllByRecursion IsMapped image.now.regions }
-    ensures { IfOk result (λ fs. fs.items ≡ files_by form.Scatter image.now out.now) }
+    ensures exact { IfOk result (λ files. files ≡ load_files image.now out.now) }
 {
-    let mut files = load_files(alloc, out, image.loads.as_slice())?;
+    let mut files = region_files(alloc, out, image.loads.as_slice())?;
     files.push(map_file(alloc, image, out)?)?;
-    Ok(files)
-}
-
-fn files_in_order(alloc: Global, image: &Image, out: &Text) -> Result<Vec<OutFile>, NoMemory>
-    requires loads { AllByRecursion (λ l. length l.bytes < 2 ^ 32) image.now.loads }
-    requires regions { AllByRecursion IsMapped image.now.regions }
-    ensures { IfOk result (λ fs. fs.items ≡ files_of image.now out.now) }
-{
-    match image.kind {
-        ImageKind::Scatter => scatter_files(alloc, image, out),
-        ImageKind::Plain => plain_files(alloc, out, image.loads.as_slice()),
-        ImageKind::Aif { .. } => Ok(Vec::new(alloc)),
-    }
-}
-
-/// The files of an image that is no ARM image file, in the order in which they are written. `out` is the name of the
-/// one file of the bytes alone; a scatter image has a file for each load region, whose name is `out`, a dot and the
-/// region's name, and then its map, `out` and `.map`.
-pub fn make_bins(alloc: Global, image: &Image, out: &Text) -> Result<List<OutFile>, NoMemory>
-    requires loads { AllByRecursion (λ l. length l.bytes < 2 ^ 32) image.now.loads }
-    requires regions { AllByRecursion IsMapped image.now.regions }
-    ensures exact { IfOk result (λ files. files ≡ files_of image.now out.now) }
-{
-    let files = files_in_order(alloc, image, out)?;
     Ok(List::from_vec(files))
+}
+
+// ---- the bytes alone
+
+fn loaded_bytes(alloc: Global, loads: &[LoadRegion]) -> Result<Vec<u8>, NoMemory>
+    ensures { IfOk result (λ bytes. bytes.items ≡ flat_map (λ l. l.bytes) loads.now) }
+{
+    let mut bytes = Vec::new(alloc);
+    for load in loads {
+        bytes.extend_from_slice(load.bytes.as_slice())?;
+    }
+    Ok(bytes)
+}
+
+/// The file of the bytes alone: those of the load regions, one behind the other.
+pub fn make_binary(alloc: Global, image: &Image) -> Result<Bytes, NoMemory>
+    ensures exact { IfOk result (λ bytes. bytes ≡ binary_file image.now) }
+{
+    let bytes = loaded_bytes(alloc, image.loads.as_slice())?;
+    Ok(Bytes::from_vec(bytes))
 }

@@ -10,7 +10,7 @@ mod reading;
 mod records;
 mod writing;
 
-pub use crate::files::make_bins;
+pub use crate::files::{load_files, make_binary};
 pub use crate::laws::{first_wrong_law, map_law, one_record, spelling_law};
 pub use crate::reading::read_map;
 pub use crate::records::{MapFile, MapLoad, MapRegion, OutFile};

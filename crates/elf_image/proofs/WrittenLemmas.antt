@@ -65,6 +65,15 @@ headers_length offset (l ∷ ls) =
     let f = length-append (load_words offset l) (loads_words (offset + length l.bytes) ls) in
     omega (arith, e, f)
 
+-- how many bytes the file has
+pub file_length : (i : Image) → length (elf_file i) ≡ file_size i.loads
+file_length i =
+    let words = words_length (elf_words i.start i.loads) in
+    let rows = length-append (header_words i.start (length i.loads)) (loads_words (first_offset (length i.loads)) i.loads) in
+    let headers = headers_length (first_offset (length i.loads)) i.loads in
+    let whole = length-append (bytes_of_words (elf_words i.start i.loads)) (loads_bytes i.loads) in
+    omega (arith, words, rows, headers, whole)
+
 apart_segments : (l : LoadRegion) (o offset : ℕ) (before : List LoadRegion) → AllByRecursion (AreApart l) before → AllByRecursion (IsApart (load_segment o l)) (segments_from offset before)
 apart_segments l o offset [] h = tt
 apart_segments l o offset (x ∷ xs) h = (h.0, apart_segments l o (offset + length x.bytes) xs h.1)

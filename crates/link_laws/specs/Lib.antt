@@ -1,4 +1,5 @@
 pub mod Placing
+pub mod Plans
 pub mod Laws
 pub mod Joins
 pub mod AifJoins

@@ -1,38 +1,43 @@
 -- A build asks for what the link of its objects asks for.
-use Rattle.std.proofs.Common.{◌≡◌, ℕ, suc, List, [], ◌∷◌, ◌++◌, map, slice_get, Bool, true, false, cond, Option, Some, None, Result, Ok, Err, refl, sym, ap, ◌∙◌, subst}
+use Rattle.std.proofs.Common.{◌≡◌, ℕ, suc, ◌%◌, List, [], ◌∷◌, ◌++◌, map, Bool, true, false, cond, Option, Some, None, Result, Ok, Err, refl, sym, ap, ◌∙◌, subst}
 use Rattle.std.proofs.lemmas.List.{map-append}
-use Rattle.std.proofs.lemmas.Option.{slice_get-map}
 use Rattle.std.specs.List.{AllByRecursion, filter_map, flat_map}
-use Rattle.std.specs.Option.{option_map}
+use Rattle.sdt_word.specs.declared.ranges.Range32.{Range32}
 use Rattle.sdt_fault.specs.declared.refusal.Refusal.{Refusal}
 use Rattle.sdt_outside.specs.Files.{Files, content}
 use Rattle.chunk_file.specs.Reading.{◌>>=◌}
 use Rattle.aof_object.specs.declared.records.Object.{Object}
 use Rattle.alf_archive.specs.declared.records.Member.{Member}
-use Rattle.boot_code.specs.Boots.{ByteMap}
 use Rattle.aof_object.specs.Spelling.{written}
+use Rattle.aof_object.specs.Validity.{IsValid}
 use Rattle.armasm_core.specs.Assembling.{AssembledFrom, OneAssembly}
 use Rattle.link_model.specs.declared.images.Image.{Image}
 use Rattle.link_model.specs.declared.selection.Named.{Named}
 use Rattle.link_model.specs.Chosen.{AreChosen, AreLinked, taken}
 use Rattle.link_model.specs.Members.{members_of, named_member, objects_in}
 use Rattle.armlink_core.specs.Laws.{AreAlike, NamelessImages, NamelessScatters, unnamed}
+use Rattle.place_model.specs.declared.scatter.Kind.{Kind}
 use Rattle.place_model.specs.declared.scatter.Kind.TheVariants as kind
+use Rattle.place_model.specs.Assignment.{description}
 use Rattle.bin_image.specs.declared.records.OutFile.{OutFile}
 use Rattle.tool_words.specs.declared.command.Bank.{Bank}
-use Rattle.tool_words.specs.declared.command.LinkForm.{LinkForm}
-use Rattle.tool_words.specs.declared.command.LinkForm.TheVariants as form
+use Rattle.tool_words.specs.declared.command.Container.{Container}
+use Rattle.tool_words.specs.declared.command.LinkPlacement.{LinkPlacement}
+use Rattle.tool_words.specs.declared.command.LinkPlacement.TheVariants as placement
 use Rattle.tool_words.specs.declared.command.LinkWords.{LinkWords}
+use Rattle.tool_words.specs.Commands.{IsBased}
 use Rattle.tool_answers.specs.Inputs.{and_others, found_or, input_of, inputs_of}
 use Rattle.tool_answers.specs.Outcomes.{Outcome}
 use Rattle.tool_library.specs.declared.linkables.Linkable.{Linkable}
 use Rattle.tool_library.specs.declared.linkables.Linkable.TheVariants as input
 use Rattle.sdt_toolkit.specs.Builds.{BuildsAreLinks, SpelledAreObjectFiles, HasItsDescription, HasItsFile, link_name, link_words}
 use Rattle.sdt_toolkit.specs.Inputs.{Behind, InputIs, InputsAre, NamedIs, archives_among, is_source_name, module_of, named, object_name, objects_among}
-use Rattle.sdt_toolkit.specs.Links.{AsAif, FilesAsk, ImageIs, InputsMake, IsInMemory, LinkAsks, LinksTo, ReadAsks, ScattersTo, filed, files_read, inputs_in, read_by, text_in, writes_all}
+use Rattle.sdt_toolkit.specs.Links.{AsAif, FilesAsk, ImageIs, InputsMake, IsAskedAs, LinkAsks, LinksTo, ReadAsks, ScattersTo, filed, files_read, inputs_in, read_by, text_in, writes_all}
 use Rattle.sdt_toolkit.specs.Reads.{Reads}
 use Rattle.sdt_toolkit.specs.Sources.{IsObjectOf}
-use Rattle.sdt_toolkit.specs.Starting.{AreShownIn, IsShownIn}
+use Rattle.sdt_toolkit.specs.Plans.{ImagesArePlaced}
+use Rattle.sdt_toolkit.specs.Starting.{AreSound, HasBytes}
+use Rattle.sdt_toolkit.proofs.ImageLemmas.{image_is}
 use Rattle.sdt_toolkit.proofs.BuildLemmas.{IsFor, OneOf, built_as, linked_as, same_module}
 
 abbrev Inputs : Type 0
@@ -83,6 +88,15 @@ values_bare : (os : List (Named Object)) → objects_in os ≡ map (λ (q : List
 values_bare [] = refl
 values_bare (o ∷ os) = ap (λ (vs : List Object). o.value ∷ vs) (values_bare os)
 
+-- what holds of each value, and what holds of the values
+each_value : (P : Object → Type 0) (os : List (Named Object)) → AllByRecursion (λ o. P o.value) os → AllByRecursion P (objects_in os)
+each_value P [] all = tt
+each_value P (o ∷ os) all = (all.0, each_value P os all.1)
+
+values_each : (P : Object → Type 0) (os : List (Named Object)) → AllByRecursion P (objects_in os) → AllByRecursion (λ o. P o.value) os
+values_each P [] all = tt
+values_each P (o ∷ os) all = (all.0, values_each P os all.1)
+
 same_values : (os ps : List (Named Object)) → AreAlike os ps → objects_in os ≡ objects_in ps
 same_values os ps alike = values_bare os ∙ ap (map (λ (q : List ℕ × Object). q.1)) alike ∙ sym (values_bare ps)
 
@@ -131,41 +145,36 @@ module _ (images : NamelessImages) (scatters : NamelessScatters) where
       → AsAif base relocatable banks os (Ok i) → AsAif base relocatable banks ps (Ok i)
   aif_alike base relocatable banks os ps i alike h = (h.0, h.1, sym (images (kind.Aif base relocatable) h.0 os ps i alike (sym h.2)))
 
-  links_alike : (f : LinkForm) (text : List ℕ) (banks : Option (List Bank)) (os ps : List (Named Object)) (i : Image) → AreAlike os ps
+  links_alike : (f : LinkPlacement) (text : List ℕ) (banks : Option (List Bank)) (os ps : List (Named Object)) (i : Image) → AreAlike os ps
       → LinksTo f text banks os (Ok i) → LinksTo f text banks ps (Ok i)
-  links_alike (form.Scatter file) text banks os ps i alike h = scattered_alike text banks os ps i alike h
-  links_alike (form.Aif base relocatable) text banks os ps i alike h = aif_alike base relocatable banks os ps i alike h
-  links_alike (form.Plain base) text banks os ps i alike h = sym (images (kind.Plain base) None os ps i alike (sym h))
+  links_alike (placement.Scatter file) text banks os ps i alike h = scattered_alike text banks os ps i alike h
+  links_alike (placement.Aif base relocatable) text banks os ps i alike h = aif_alike base relocatable banks os ps i alike h
+  links_alike (placement.Plain base) text banks os ps i alike h = sym (images (kind.Plain base) None os ps i alike (sym h))
 
-shown_alike : (view : ByteMap) (os ps : List (Named Object)) → AreAlike os ps → AreShownIn view os → AreShownIn view ps
-shown_alike view os ps alike shown k p at =
-    let found : option_map (λ (o : Named Object). o.value) (slice_get os k) ≡ Some p.value =
-    sym (slice_get-map (λ (o : Named Object). o.value) os k) ∙ ap (λ (vs : List Object). slice_get vs k) (same_values os ps alike)
-    ∙ slice_get-map (λ (o : Named Object). o.value) ps k ∙ ap (option_map (λ (o : Named Object). o.value)) at in
-    by (slice_get os k) refl found
-  where
-    by : (o : Option (Named Object)) → slice_get os k ≡ o → option_map (λ (o : Named Object). o.value) o ≡ Some p.value → IsShownIn view p.value
-    by None e h = absurd (let bad : None ≡ Some p.value = h in cc)
-    by (Some o) e h = let is : Some o.value ≡ Some p.value = h in let same : o.value ≡ p.value = cc in subst (IsShownIn view) same (shown k o e)
+-- objects of the same values are sound where these are
+sound_alike : (os ps : List (Named Object)) → AreAlike os ps → AreSound os → AreSound ps
+sound_alike os ps alike h =
+    let carried : (P : Object → Type 0) → AllByRecursion (λ o. P o.value) os → AllByRecursion (λ o. P o.value) ps =
+    λ P all. values_each P ps (subst (AllByRecursion P) (same_values os ps alike) (each_value P os all)) in
+    record { valid = carried IsValid h.valid; bytes = carried HasBytes h.bytes }
 
-memory_alike : (f : LinkForm) (os ps : List (Named Object)) (i : Image) → AreAlike os ps → IsInMemory f os i → IsInMemory f ps i
-memory_alike (form.Scatter file) os ps i alike h =
-    record { view = h.view; loaded = h.loaded; boots = h.boots; shown = shown_alike h.view os ps alike h.shown; runs = h.runs }
-memory_alike (form.Aif base relocatable) os ps i alike h =
-    record { views = h.views; boots = h.boots; shown = λ to fits. shown_alike (h.views to) os ps alike (h.shown to fits) }
-memory_alike (form.Plain base) os ps i alike h = record { view = h.view; parts = h.parts; cleared = h.cleared; shown = shown_alike h.view os ps alike h.shown }
+-- where an image was made its words told a whole base
+described_based : (p : LinkPlacement) (text : List ℕ) (banks : Option (List Bank)) (k : Kind) (ram : Option (List Range32)) → IsAskedAs p text banks k ram
+    → AllByRecursion (λ load. load.base % 4 ≡ 0) (description k) → IsBased p
+described_based (placement.Scatter file) text banks k ram asked loads = tt
+described_based (placement.Aif base relocatable) text banks k ram asked loads = (subst (λ (q : Kind). AllByRecursion (λ load. load.base % 4 ≡ 0) (description q)) asked.0 loads).0
+described_based (placement.Plain base) text banks k ram asked loads = (subst (λ (q : Kind). AllByRecursion (λ load. load.base % 4 ≡ 0) (description q)) asked.0 loads).0
 
-module _ (images : NamelessImages) (scatters : NamelessScatters) where
-  image_alike : (f : LinkForm) (text : List ℕ) (banks : Option (List Bank)) (xs ys : Inputs) (i : Image) → map bare xs ≡ map bare ys
-      → ImageIs f text banks xs (Ok i) → ImageIs f text banks ys (Ok i)
-  image_alike f text banks xs ys i same h =
+module _ (law : ImagesArePlaced) (images : NamelessImages) (scatters : NamelessScatters) where
+  image_alike : (p : LinkPlacement) (text : List ℕ) (banks : Option (List Bank)) (xs ys : Inputs) (i : Image) → map bare xs ≡ map bare ys
+      → ImageIs p text banks xs (Ok i) → ImageIs p text banks ys (Ok i)
+  image_alike p text banks xs ys i same h =
       let l = linked_alike xs ys same h.objects h.linked in
-      record {
-        objects = l.objects;
-        linked = l.linked;
-        links = links_alike images scatters f text banks h.objects l.objects i l.alike h.links;
-        memory = λ j e. subst (IsInMemory f l.objects) (ok_same i j e) (memory_alike f h.objects l.objects i l.alike (h.memory i refl));
-      }
+      let memory = h.memory i refl in
+      let made = memory.placed.made in
+      let sound : AreSound h.objects = subst AreSound memory.placed.objects (record { valid = made.valid; bytes = made.bytes }) in
+      image_is law text banks p ys (Ok i) (described_based p text banks memory.shape memory.ram memory.asked made.loads)
+      (l.objects, l.linked, links_alike images scatters p text banks h.objects l.objects i l.alike h.links) (sound_alike h.objects l.objects l.alike sound)
 
 -- ---- inputs one after the other
 
@@ -226,35 +235,35 @@ carried s a (name ∷ names) (bytes ∷ contents) t b (label ∷ labels) (other 
 
 -- ---- what is asked
 
-abbrev words : LinkForm → List ℕ → Option (List Bank) → List (List ℕ) → LinkWords
-words f output ram names = record { form = f; output = output; names = names; ram = ram }
+abbrev words : LinkPlacement → Container → List ℕ → Option (List Bank) → List (List ℕ) → LinkWords
+words f c output ram names = record { placement = f; container = c; output = output; names = names; ram = ram }
 
-module _ (images : NamelessImages) (scatters : NamelessScatters) (f : LinkForm) (output : List ℕ) (ram : Option (List Bank)) where
+module _ (law : ImagesArePlaced) (images : NamelessImages) (scatters : NamelessScatters) (f : LinkPlacement) (c : Container) (output : List ℕ) (ram : Option (List Bank)) where
   files_carried : (names labels : List (List ℕ)) (text : List ℕ) (xs ys : Inputs) (fs : List OutFile) → map bare xs ≡ map bare ys
-      → InputsMake (words f output ram names) text (Ok xs) (Ok fs) → InputsMake (words f output ram labels) text (Ok ys) (Ok fs)
+      → InputsMake (words f c output ram names) text (Ok xs) (Ok fs) → InputsMake (words f c output ram labels) text (Ok ys) (Ok fs)
   files_carried names labels text xs ys fs same h =
-      let (i, ei, filed_is) = came h.0 (filed output) fs h.2 in
-      (Ok i, image_alike images scatters f text ram xs ys i same (subst (ImageIs f text ram xs) ei h.1), filed_is)
+      let (i, ei, filed_is) = came h.0 (filed c output) fs h.2 in
+      (Ok i, image_alike law images scatters f text ram xs ys i same (subst (ImageIs f text ram xs) ei h.1), filed_is)
 
   asks_carried : (s : Reads) (a : Bool) (names contents : List (List ℕ)) (t : Reads) (b : Bool) (labels others : List (List ℕ)) (o : Outcome)
       → text_in f contents ≡ text_in f others → AreCarried s a names (inputs_in f contents) t b labels (inputs_in f others)
-      → LinkAsks s a (words f output ram names) contents (Ok o) → LinkAsks t b (words f output ram labels) others (Ok o)
+      → LinkAsks s a (words f c output ram names) contents (Ok o) → LinkAsks t b (words f c output ram labels) others (Ok o)
   asks_carried s a names contents t b labels others o same_text k h =
       let (fs, ef, written_is) = came h.made writes_all o h.outcome in
-      by fs h.makes.inputs h.makes.judged (subst (InputsMake (words f output ram names) (text_in f contents) h.makes.inputs) ef h.makes.files) written_is
+      by fs h.makes.inputs h.makes.judged (subst (InputsMake (words f c output ram names) (text_in f contents) h.makes.inputs) ef h.makes.files) written_is
     where
       by : (fs : List OutFile) (inputs : Result Inputs Refusal) → InputsAre s a names (inputs_in f contents) inputs
-          → InputsMake (words f output ram names) (text_in f contents) inputs (Ok fs) → Ok o ≡ writes_all fs → LinkAsks t b (words f output ram labels) others (Ok o)
+          → InputsMake (words f c output ram names) (text_in f contents) inputs (Ok fs) → Ok o ≡ writes_all fs → LinkAsks t b (words f c output ram labels) others (Ok o)
       by fs (Err r) judged make out = absurd (let bad : ◌≡◌ {A = Result (List OutFile) Refusal} (Ok fs) (Err r) = make in cc)
       by fs (Ok xs) judged make out =
-          let c = carried s a names (inputs_in f contents) t b labels (inputs_in f others) xs k judged in
-          let made = files_carried names labels (text_in f contents) xs c.inputs fs c.same make in
+          let read = carried s a names (inputs_in f contents) t b labels (inputs_in f others) xs k judged in
+          let made = files_carried names labels (text_in f contents) xs read.inputs fs read.same make in
           record {
             made = Ok fs;
             makes = record {
-              inputs = Ok c.inputs;
-              judged = c.are;
-              files = subst (λ (text : List ℕ). InputsMake (words f output ram labels) text (Ok c.inputs) (Ok fs)) same_text made;
+              inputs = Ok read.inputs;
+              judged = read.are;
+              files = subst (λ (text : List ℕ). InputsMake (words f c output ram labels) text (Ok read.inputs) (Ok fs)) same_text made;
             };
             outcome = out;
           }
@@ -310,35 +319,35 @@ both_read files others (name ∷ names) all =
     (pair_for files others (is_source_name name) name all.0) (both_read files others names all.1)
 
 -- with the description
-record AreRead (files : Files) (f : LinkForm) (names contents others : List (List ℕ)) : Type 0 where
+record AreRead (files : Files) (f : LinkPlacement) (names contents others : List (List ℕ)) : Type 0 where
   text : text_in f contents ≡ text_in f others
   inputs : AreFor files names (inputs_in f contents) (inputs_in f others)
 
 described : (files : Files) (file : List ℕ) (names : List (List ℕ)) (x : Option (List ℕ)) (rest others : Result (List (List ℕ)) Refusal) → BothRead (AreFor files names) rest others
-    → BothRead (AreRead files (form.Scatter file) names) (and_others (found_or file x) rest) (and_others (found_or file x) others)
+    → BothRead (AreRead files (placement.Scatter file) names) (and_others (found_or file x) rest) (and_others (found_or file x) others)
 described files file names None rest others h = tt
 described files file names (Some x) (Ok rest) (Ok others) h = record { text = refl; inputs = h }
 described files file names (Some x) (Ok rest) (Err q) h = absurd h
 described files file names (Some x) (Err r) (Ok others) h = absurd h
 described files file names (Some x) (Err r) (Err q) h = tt
 
-undescribed : (files : Files) (f : LinkForm) (names : List (List ℕ)) → ((contents others : List (List ℕ)) → AreFor files names contents others → AreRead files f names contents others)
+undescribed : (files : Files) (f : LinkPlacement) (names : List (List ℕ)) → ((contents others : List (List ℕ)) → AreFor files names contents others → AreRead files f names contents others)
     → (rest others : Result (List (List ℕ)) Refusal) → BothRead (AreFor files names) rest others → BothRead (AreRead files f names) rest others
 undescribed files f names each (Ok rest) (Ok others) h = each rest others h
 undescribed files f names each (Ok rest) (Err q) h = absurd h
 undescribed files f names each (Err r) (Ok others) h = absurd h
 undescribed files f names each (Err r) (Err q) h = tt
 
-all_read : (files others : Files) (f : LinkForm) (names : List (List ℕ)) → HasItsDescription files others f
+all_read : (files others : Files) (f : LinkPlacement) (names : List (List ℕ)) → HasItsDescription files others f
     → AllByRecursion (λ name. HasItsFile files others (is_source_name name) name) names
     → BothRead (AreRead files f names) (inputs_of files (read_by f names)) (inputs_of others (read_by f (map link_name names)))
-all_read files others (form.Scatter file) names same all =
-    subst (λ (x : Option (List ℕ)). BothRead (AreRead files (form.Scatter file) names) (and_others (input_of files file) (inputs_of files names)) (and_others (found_or file x) (inputs_of others (map link_name names))))
+all_read files others (placement.Scatter file) names same all =
+    subst (λ (x : Option (List ℕ)). BothRead (AreRead files (placement.Scatter file) names) (and_others (input_of files file) (inputs_of files names)) (and_others (found_or file x) (inputs_of others (map link_name names))))
     (sym same) (described files file names (content files file) (inputs_of files names) (inputs_of others (map link_name names)) (both_read files others names all))
-all_read files others (form.Aif base relocatable) names same all =
-    undescribed files (form.Aif base relocatable) names (λ contents rest h. record { text = refl; inputs = h }) (inputs_of files names) (inputs_of others (map link_name names)) (both_read files others names all)
-all_read files others (form.Plain base) names same all =
-    undescribed files (form.Plain base) names (λ contents rest h. record { text = refl; inputs = h }) (inputs_of files names) (inputs_of others (map link_name names)) (both_read files others names all)
+all_read files others (placement.Aif base relocatable) names same all =
+    undescribed files (placement.Aif base relocatable) names (λ contents rest h. record { text = refl; inputs = h }) (inputs_of files names) (inputs_of others (map link_name names)) (both_read files others names all)
+all_read files others (placement.Plain base) names same all =
+    undescribed files (placement.Plain base) names (λ contents rest h. record { text = refl; inputs = h }) (inputs_of files names) (inputs_of others (map link_name names)) (both_read files others names all)
 
 -- ---- both ways
 
@@ -371,23 +380,23 @@ turned Are (Ok contents) (Err q) h = absurd h
 turned Are (Err r) (Ok others) h = absurd h
 turned Are (Err r) (Err q) h = tt
 
-pub builds_are_links : OneAssembly → NamelessImages → NamelessScatters → BuildsAreLinks
-builds_are_links law images scatters s t files others w o told_files told_others has =
+pub builds_are_links : OneAssembly → ImagesArePlaced → NamelessImages → NamelessScatters → BuildsAreLinks
+builds_are_links law placed images scatters s t files others w o told_files told_others has =
     let one : (files : Files) (name text : List ℕ) → OneOf files name text = λ files name text x y h k. law (content files) name text x y h k in
-    let read = all_read files others w.form w.names has.description has.inputs in
+    let read = all_read files others w.placement w.names has.description has.inputs in
     let v = link_words w in (
       λ asks. subst (λ (x : Option Files). FilesAsk x t false v (Ok o)) (sym told_others)
-          (carried_asks s true w t false v o (AreRead files w.form w.names)
-          (λ contents rest r. asks_carried images scatters w.form w.output w.ram s true w.names contents t false (map link_name w.names) rest o r.text
-          (forth one s t files told_files w.names (inputs_in w.form contents) (inputs_in w.form rest) r.inputs))
+          (carried_asks s true w t false v o (AreRead files w.placement w.names)
+          (λ contents rest r. asks_carried placed images scatters w.placement w.container w.output w.ram s true w.names contents t false (map link_name w.names) rest o r.text
+          (forth one s t files told_files w.names (inputs_in w.placement contents) (inputs_in w.placement rest) r.inputs))
           (inputs_of files (files_read w)) (inputs_of others (files_read v)) read
           (subst (λ (x : Option Files). FilesAsk x s true w (Ok o)) told_files asks)),
       λ asks. subst (λ (x : Option Files). FilesAsk x s true w (Ok o)) (sym told_files)
-          (carried_asks t false v s true w o (λ rest contents. AreRead files w.form w.names contents rest)
-          (λ rest contents r. asks_carried images scatters w.form w.output w.ram t false (map link_name w.names) rest s true w.names contents o (sym r.text)
-          (back one s t files told_files w.names (inputs_in w.form contents) (inputs_in w.form rest) r.inputs))
+          (carried_asks t false v s true w o (λ rest contents. AreRead files w.placement w.names contents rest)
+          (λ rest contents r. asks_carried placed images scatters w.placement w.container w.output w.ram t false (map link_name w.names) rest s true w.names contents o (sym r.text)
+          (back one s t files told_files w.names (inputs_in w.placement contents) (inputs_in w.placement rest) r.inputs))
           (inputs_of others (files_read v)) (inputs_of files (files_read w))
-          (turned (AreRead files w.form w.names) (inputs_of files (files_read w)) (inputs_of others (files_read v)) read)
+          (turned (AreRead files w.placement w.names) (inputs_of files (files_read w)) (inputs_of others (files_read v)) read)
           (subst (λ (x : Option Files). FilesAsk x t false v (Ok o)) told_others asks)),
     )
 

@@ -17,6 +17,7 @@ use Rattle.tool_listing.specs.Lists.{listing_of}
 use Rattle.tool_listing.specs.Lists as listing
 use Rattle.tool_run.specs.Runs.{RunAnswers}
 use Rattle.sdt_toolkit.specs.Commands.{Commanded, Ends, IsFirst, RefusesWords}
+use Rattle.sdt_toolkit.specs.Kits.{KitAnswers}
 use Rattle.sdt_toolkit.specs.Links.{LinkAnswers, WordsAsk}
 use Rattle.sdt_toolkit.specs.Reads.{reads_of}
 use Rattle.sdt_toolkit.specs.Sources.{AssemblyAnswers, SourceAsks}
@@ -60,6 +61,16 @@ link_ends x sources w o seats first answer.SinkFault h = h.2.0
 link_ends x sources w o seats first (answer.Stopped why) h = absurd h.2
 link_ends x sources w o seats first answer.NoMemory h = tt
 
+kit_ends : (output : List ℕ) (acknowledge : ℕ) (o : Outside) (seats : List Seat) (a : Answer) → KitAnswers output acknowledge o a
+    → Ends (Ok (command.InterruptKit output acknowledge)) o seats seats a
+kit_ends output acknowledge o seats answer.Done h = tt
+kit_ends output acknowledge o seats (answer.Refused r) h = absurd h.0
+kit_ends output acknowledge o seats (answer.ReadFault q) h = absurd h.0
+kit_ends output acknowledge o seats (answer.WriteFault q) h = (h.0.1, h.1, refl)
+kit_ends output acknowledge o seats answer.SinkFault h = absurd h.0
+kit_ends output acknowledge o seats (answer.Stopped why) h = absurd h.0
+kit_ends output acknowledge o seats answer.NoMemory h = tt
+
 words_end : (place : ℕ) (o : Outside) (seats : List Seat) (a : Answer) → RefusesWords place o a → Ends (Err place) o seats seats a
 words_end place o seats answer.Done h = absurd h
 words_end place o seats (answer.Refused r) h = (h.0, record { outside = h.1; devices = refl })
@@ -102,6 +113,8 @@ command_ends (Ok (command.Link words)) o seats left a h =
     let x = Ok (command.Link words) in still x o seats left a h.1 (link_ends x false words o seats (λ r k. k) a h.0)
 command_ends (Ok (command.Build words)) o seats left a h =
     let x = Ok (command.Build words) in still x o seats left a h.1 (link_ends x true words o seats (λ r k. k) a h.0)
+command_ends (Ok (command.InterruptKit output acknowledge)) o seats left a h =
+    still (Ok (command.InterruptKit output acknowledge)) o seats left a h.1 (kit_ends output acknowledge o seats a h.0)
 
 pub ends_of : (words : List (List ℕ)) (o : Outside) (seats left : List Seat) (a : Answer) → Commanded (command_of words) o seats left a
     → Ends (command_of words) o seats left a

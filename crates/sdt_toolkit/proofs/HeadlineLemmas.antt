@@ -17,8 +17,8 @@ use Rattle.link_model.specs.Chosen.{taken}
 use Rattle.link_model.specs.Members.{members_of}
 use Rattle.bin_image.specs.declared.records.OutFile.{OutFile}
 use Rattle.tool_words.specs.declared.command.Command.{Command}
-use Rattle.tool_words.specs.declared.command.LinkForm.{LinkForm}
-use Rattle.tool_words.specs.declared.command.LinkForm.TheVariants as form
+use Rattle.tool_words.specs.declared.command.LinkPlacement.{LinkPlacement}
+use Rattle.tool_words.specs.declared.command.LinkPlacement.TheVariants as placement
 use Rattle.tool_words.specs.declared.command.LinkWords.{LinkWords}
 use Rattle.tool_words.specs.Commands.{command_of}
 use Rattle.tool_answers.specs.Inputs.{and_others, found_or, input_of, inputs_of}
@@ -52,12 +52,12 @@ inputs_next (Ok bytes) (Ok rest) contents h = (bytes, rest, refl, refl, sym (ok_
 inputs_next (Ok bytes) (Err r) contents h = never _ contents r h
 inputs_next (Err r) others contents h = never _ contents r h
 
-under_names : (files : Files) (f : LinkForm) (names contents : List (List ℕ)) → inputs_of files (read_by f names) ≡ Ok contents → inputs_of files names ≡ Ok (inputs_in f contents)
-under_names files (form.Scatter file) names contents h =
+under_names : (files : Files) (f : LinkPlacement) (names contents : List (List ℕ)) → inputs_of files (read_by f names) ≡ Ok contents → inputs_of files names ≡ Ok (inputs_in f contents)
+under_names files (placement.Scatter file) names contents h =
     let (bytes, rest, one, others, whole) = inputs_next (input_of files file) (inputs_of files names) contents h in
     others ∙ ap (λ (c : List (List ℕ)). Ok (behind_first c)) (sym whole)
-under_names files (form.Aif base relocatable) names contents h = h
-under_names files (form.Plain base) names contents h = h
+under_names files (placement.Aif base relocatable) names contents h = h
+under_names files (placement.Plain base) names contents h = h
 
 found_same : (name text bytes : List ℕ) (o : Option (List ℕ)) → o ≡ Some text → found_or name o ≡ Ok bytes → bytes ≡ text
 found_same name text bytes None e h = absurd cc
@@ -134,15 +134,15 @@ source_at s (n ∷ names) (bytes ∷ contents) xs h (suc k) name text at there i
 
 -- ---- the image in memory
 
-record InMemory (f : LinkForm) (os : List (Named Object)) (i : Image) : Type 0 where
+record InMemory (f : LinkPlacement) (os : List (Named Object)) (i : Image) : Type 0 where
   pub views : ℕ → ByteMap
   pub reaches : Reaches f i views
   pub shown : (to : ℕ) → FitsWhere f i to → AreShownIn (views to) os
 
-memory_views : (f : LinkForm) (os : List (Named Object)) (i : Image) → IsInMemory f os i → InMemory f os i
-memory_views (form.Scatter file) os i h = record { views = λ to. h.view; reaches = (h.boots, h.runs); shown = λ to fits. h.shown }
-memory_views (form.Aif base relocatable) os i h = record { views = h.views; reaches = h.boots; shown = h.shown }
-memory_views (form.Plain base) os i h = record { views = λ to. h.view; reaches = (h.parts, h.cleared); shown = λ to fits. h.shown }
+memory_views : (f : LinkPlacement) (os : List (Named Object)) (i : Image) → IsInMemory f os i → InMemory f os i
+memory_views (placement.Scatter file) os i h = record { views = λ to. h.view; reaches = (h.boots, h.runs); shown = λ to fits. h.shown }
+memory_views (placement.Aif base relocatable) os i h = record { views = h.views; reaches = h.boots; shown = h.shown }
+memory_views (placement.Plain base) os i h = record { views = λ to. h.view; reaches = (h.parts, h.cleared); shown = λ to fits. h.shown }
 
 filed_as : (out : List ℕ) (i : Image) (fs : List OutFile) → filed out i ≡ Ok fs → fs ≡ image_files out i
 filed_as out i fs h = go (list_any is_long (image_files out i)) h
@@ -157,15 +157,15 @@ pub record IsLeftBy (sources : Bool) (w : LinkWords) (before : Files) (after : O
   pub image : Image
   pub views : ℕ → ByteMap
   pub link : IsLinkedInto sources w before after image views
-  pub stand : sources ≡ true → (to : ℕ) → FitsWhere w.form image to → SourcesStand w.names before (views to)
+  pub stand : sources ≡ true → (to : ℕ) → FitsWhere w.placement image to → SourcesStand w.names before (views to)
 
 module _ (s : Reads) (sources : Bool) (w : LinkWords) (before : Files) (after : Option Files) (over : s.told ≡ Some before) where
   image_left : (contents : List (List ℕ)) (fs : List OutFile) (inputs : List (Named Linkable)) (i : Image) (image : Result Image Refusal)
-      → inputs_of before (files_read w) ≡ Ok contents → InputsAre s sources w.names (inputs_in w.form contents) (Ok inputs)
-      → ImageIs w.form (text_in w.form contents) w.ram inputs image → image ≡ Ok i → filed w.output i ≡ Ok fs → after ≡ Some (written before (outputs fs))
+      → inputs_of before (files_read w) ≡ Ok contents → InputsAre s sources w.names (inputs_in w.placement contents) (Ok inputs)
+      → ImageIs w.placement (text_in w.placement contents) w.ram inputs image → image ≡ Ok i → filed w.output i ≡ Ok fs → after ≡ Some (written before (outputs fs))
       → IsLeftBy sources w before after
   image_left contents fs inputs i image read judged is made files left =
-      let memory = memory_views w.form is.objects i (is.memory i made) in
+      let memory = memory_views w.placement is.objects i (is.memory i made) in
       record {
         image = i;
         views = memory.views;
@@ -178,15 +178,15 @@ module _ (s : Reads) (sources : Bool) (w : LinkWords) (before : Files) (after : 
           told = over;
           judged = judged;
           linked = is.linked;
-          made = subst (LinksTo w.form (text_in w.form contents) w.ram is.objects) made is.links;
+          made = subst (LinksTo w.placement (text_in w.placement contents) w.ram is.objects) made is.links;
           left = left ∙ ap (λ (x : List OutFile). Some (written before (outputs x))) (filed_as w.output i fs files);
           reaches = memory.reaches;
           shown = memory.shown;
         };
         stand = λ sourced to fits k name text at source holds.
-            let there = input_at before w.names (inputs_in w.form contents) (under_names before w.form w.names contents read) k name text at holds in
+            let there = input_at before w.names (inputs_in w.placement contents) (under_names before w.placement w.names contents read) k name text at holds in
             let among : IsObjectAmong s.told (objects_among inputs) name text =
-            source_at s w.names (inputs_in w.form contents) inputs (subst (λ (b : Bool). InputsAre s b w.names (inputs_in w.form contents) (Ok inputs)) sourced judged) k name text at there source in
+            source_at s w.names (inputs_in w.placement contents) inputs (subst (λ (b : Bool). InputsAre s b w.names (inputs_in w.placement contents) (Ok inputs)) sourced judged) k name text at there source in
             let found : IsObjectAmong s.told is.objects name text =
             subst (λ (os : List (Named Object)). IsObjectAmong s.told os name text) (sym is.linked.in_order)
             (in_front s.told (objects_among inputs) (taken is.linked.chosen 0 (members_of (archives_among inputs))) name text among) in
@@ -196,8 +196,8 @@ module _ (s : Reads) (sources : Bool) (w : LinkWords) (before : Files) (after : 
       }
 
   inputs_left : (contents : List (List ℕ)) (fs : List OutFile) (inputs : Result (List (Named Linkable)) Refusal) (made : Result (List OutFile) Refusal)
-      → inputs_of before (files_read w) ≡ Ok contents → InputsAre s sources w.names (inputs_in w.form contents) inputs
-      → InputsMake w (text_in w.form contents) inputs made → made ≡ Ok fs → after ≡ Some (written before (outputs fs)) → IsLeftBy sources w before after
+      → inputs_of before (files_read w) ≡ Ok contents → InputsAre s sources w.names (inputs_in w.placement contents) inputs
+      → InputsMake w (text_in w.placement contents) inputs made → made ≡ Ok fs → after ≡ Some (written before (outputs fs)) → IsLeftBy sources w before after
   inputs_left contents fs (Err r) made read judged h ok left = never (IsLeftBy sources w before after) fs r (sym h ∙ ok)
   inputs_left contents fs (Ok xs) made read judged h ok left =
       let (i, image, files) = steps_ok h.0 (filed w.output) fs (sym h.2 ∙ ok) in

@@ -1,36 +1,49 @@
 -- The image of inputs, and its files.
 use Rattle.std.proofs.Common.{◌≡◌, ℕ, ◌+◌, ◌%◌, ◌^◌, ◌<◌, ◌≤◌, List, [], ◌∷◌, length, map, Bool, true, false, cond, ◌||◌, Option, None, Result, Ok, Err, refl, sym, ap, ◌∙◌, subst, arith, get_or, zero, suc}
 use Rattle.std.proofs.lemmas.Bool.{leb-false}
+use Rattle.std.proofs.lemmas.Bool.Decides.{nat_tests}
 use Rattle.std.proofs.lemmas.List.Folds.{list_any-append}
 use Rattle.std.specs.List.{list_any, AllByRecursion}
 use Rattle.sdt_word.specs.declared.ranges.Range32.{Range32}
 use Rattle.sdt_fault.specs.declared.answer.Fault.{Fault}
 use Rattle.sdt_fault.specs.declared.answer.Fault.TheVariants as fault
 use Rattle.sdt_fault.specs.declared.refusal.Refusal.{Refusal}
+use Rattle.chunk_file.specs.Reading.{◌>>=◌}
 use Rattle.aof_object.specs.declared.records.Object.{Object}
 use Rattle.alf_archive.specs.declared.records.Archive.{Archive}
-use Rattle.aif_image.specs.Files.{aif_file}
 use Rattle.link_model.specs.declared.images.Image.{Image}
 use Rattle.link_model.specs.declared.images.ImageKind.{ImageKind}
 use Rattle.link_model.specs.declared.images.ImageKind.TheVariants as shape
 use Rattle.link_model.specs.declared.images.LoadRegion.{LoadRegion}
 use Rattle.link_model.specs.declared.placing.Region.{Region}
+use Rattle.link_model.specs.declared.selection.Linked.{Linked}
 use Rattle.link_model.specs.declared.selection.Named.{Named}
 use Rattle.link_model.specs.Chosen.{AreLinked}
 use Rattle.place_model.specs.declared.scatter.Kind.TheVariants as kind
-use Rattle.armlink_core.specs.Images.{Links, linking, scatter_linking}
+use Rattle.place_model.specs.declared.scatter.Scatter.{Scatter}
+use Rattle.scatter_text.specs.Laws.{ReadingLaw}
+use Rattle.scatter_text.specs.Reading.{scatter_of}
+use Rattle.link_select.specs.Selection.{selection_of}
+use Rattle.armlink_core.specs.Images.{Links, described, linking, scatter_linking}
 use Rattle.armlink_core.specs.Laws.{IsSized, LinkedSizes, ScatterSizes}
 use Rattle.bin_image.specs.declared.records.OutFile.{OutFile}
-use Rattle.bin_image.specs.Files.{IsMapped, files_by, files_of, load_file, map_file, plain_file}
+use Rattle.bin_image.specs.Files.{IsMapped, load_file, map_file}
+use Rattle.elf_image.specs.Files.{elf_file, file_size}
+use Rattle.elf_image.proofs.WrittenLemmas.{file_length}
 use Rattle.tool_words.specs.declared.command.Bank.{Bank}
-use Rattle.tool_words.specs.declared.command.LinkForm.{LinkForm}
-use Rattle.tool_words.specs.declared.command.LinkForm.TheVariants as form
+use Rattle.tool_words.specs.declared.command.Container.{Container}
+use Rattle.tool_words.specs.declared.command.Container.TheVariants as container
+use Rattle.tool_words.specs.declared.command.LinkPlacement.{LinkPlacement}
+use Rattle.tool_words.specs.declared.command.LinkPlacement.TheVariants as placement
+use Rattle.tool_words.specs.Commands.{ComeTogether, IsBased}
 use Rattle.tool_library.specs.declared.linkables.Linkable.{Linkable}
+use Rattle.sdt_toolkit.proofs.ContainerLemmas.{are_counted}
 use Rattle.sdt_toolkit.proofs.InputLemmas.{valid_archives, valid_objects}
 use Rattle.sdt_toolkit.proofs.SoundLemmas.{sound_linked}
 use Rattle.sdt_toolkit.specs.Inputs.{AreValid, Tells, archives_among, objects_among}
-use Rattle.sdt_toolkit.specs.Starting.{AifImagesStart, AreSound, HasBytes, PlainImagesLoad, ScatterImagesStart}
-use Rattle.sdt_toolkit.specs.Links.{AsAif, ImageIs, IsAifImage, IsInMemory, IsLoaded, IsOneFile, IsRam, IsScatterImage, IsWritable, LinksTo, ScattersTo, filed, files_as, image_files, is_long, is_long_load, too_large}
+use Rattle.sdt_toolkit.specs.Plans.{ImagesArePlaced}
+use Rattle.sdt_toolkit.specs.Starting.{AreSound, HasBytes}
+use Rattle.sdt_toolkit.specs.Links.{AsAif, ImageIs, IsAifImage, IsInMemory, IsRam, IsScatterImage, IsWritable, LinksTo, ScattersTo, filed, image_files, is_long, is_long_load, one_file, too_large, unless_long}
 
 -- ---- the image
 
@@ -48,6 +61,17 @@ as_aif objects archives base relocatable banks ram (Err (fault.Refused e)) told 
 as_aif objects archives base relocatable banks ram (Err (fault.ReadFault q)) told h = h
 as_aif objects archives base relocatable banks ram (Err fault.NoMemory) told h = tt
 
+-- of the bytes alone
+abbrev pub IsPlainImage : List (Named Object) → List (Named Archive) → ℕ → Result Image Refusal → Type 0
+IsPlainImage objects archives base image = (os : List (Named Object)) × AreLinked objects archives os × (image ≡ linking (kind.Plain base) None os)
+
+pub as_plain : (objects : List (Named Object)) (archives : List (Named Archive)) (base : ℕ) (r : Result Image Fault)
+    → Links objects archives (linking (kind.Plain base) None) r → Tells r (IsPlainImage objects archives base)
+as_plain objects archives base (Ok i) h = (h.0, h.1, sym h.2)
+as_plain objects archives base (Err (fault.Refused e)) h = (h.0, h.1, sym h.2)
+as_plain objects archives base (Err (fault.ReadFault q)) h = h
+as_plain objects archives base (Err fault.NoMemory) h = tt
+
 -- what is linked of these is sound
 abbrev pub LinksSound : List (Named Object) → List (Named Archive) → Type 0
 LinksSound objects archives = (os : List (Named Object)) → AreLinked objects archives os → AreSound os
@@ -57,46 +81,48 @@ pub sound_inputs : (inputs : List (Named Linkable)) → AreValid inputs → AllB
 sound_inputs inputs valid objects archives = λ os linked.
     sound_linked (objects_among inputs) (archives_among inputs) os linked (valid_objects inputs valid) (valid_archives inputs valid) objects archives
 
-same_memory : (f : LinkForm) (os : List (Named Object)) (i : Image) → IsInMemory f os i → (j : Image) → ◌≡◌ {A = Result Image Refusal} (Ok i) (Ok j) → IsInMemory f os j
-same_memory f os i h j e = subst (IsInMemory f os) (let is : i ≡ j = cc in is) h
+-- ---- the image in memory
 
-no_memory : (f : LinkForm) (os : List (Named Object)) (r : Refusal) (j : Image) → ◌≡◌ {A = Result Image Refusal} (Err r) (Ok j) → IsInMemory f os j
-no_memory f os r j e = absurd cc
+not_linked : (x : Result Linked Refusal) (r : Refusal) (i : Image) → ◌≡◌ {A = Result Image Refusal} (x >>= λ l. Err r) (Ok i) → ⊥
+not_linked (Ok l) r i h = let bad : ◌≡◌ {A = Result Image Refusal} (Err r) (Ok i) = h in cc
+not_linked (Err q) r i h = let bad : ◌≡◌ {A = Result Image Refusal} (Err q) (Ok i) = h in cc
 
-pub scatter_image : ScatterImagesStart → (inputs : List (Named Linkable)) (file text : List ℕ) (banks : Option (List Bank)) (r : Result Image Fault)
-    → LinksSound (objects_among inputs) (archives_among inputs) → Tells r (IsScatterImage (objects_among inputs) (archives_among inputs) text banks)
-    → Tells r (ImageIs (form.Scatter file) text banks inputs)
-scatter_image starts inputs file text banks (Ok i) sound h =
-    let links : ScattersTo text banks h.0 (Ok i) = h.2 in
-    record { objects = h.0; linked = h.1; links = h.2; memory = same_memory (form.Scatter file) h.0 i (starts text links.0 h.0 i (sound h.0 h.1) (sym links.2)) }
-scatter_image starts inputs file text banks (Err (fault.Refused e)) sound h = record { objects = h.0; linked = h.1; links = h.2; memory = no_memory (form.Scatter file) h.0 e }
-scatter_image starts inputs file text banks (Err (fault.ReadFault q)) sound h = h
-scatter_image starts inputs file text banks (Err fault.NoMemory) sound h = tt
+-- of objects that were linked by a placement
+abbrev pub IsLinkedBy : LinkPlacement → List ℕ → Option (List Bank) → List (Named Linkable) → Result Image Refusal → Type 0
+IsLinkedBy p text banks inputs image = (os : List (Named Object)) × AreLinked (objects_among inputs) (archives_among inputs) os × LinksTo p text banks os image
 
-pub aif_image : AifImagesStart → (inputs : List (Named Linkable)) (base : ℕ) (relocatable : Bool) (text : List ℕ) (banks : Option (List Bank)) (r : Result Image Fault) → base % 4 ≡ 0
-    → LinksSound (objects_among inputs) (archives_among inputs)
-    → Tells r (IsAifImage (objects_among inputs) (archives_among inputs) base relocatable banks) → Tells r (ImageIs (form.Aif base relocatable) text banks inputs)
-aif_image starts inputs base relocatable text banks (Ok i) whole sound h =
-    let links : AsAif base relocatable banks h.0 (Ok i) = h.2 in
-    record {
-      objects = h.0;
-      linked = h.1;
-      links = h.2;
-      memory = same_memory (form.Aif base relocatable) h.0 i (starts base relocatable links.0 h.0 i (sound h.0 h.1) whole (sym links.2));
-    }
-aif_image starts inputs base relocatable text banks (Err (fault.Refused e)) whole sound h =
-    record { objects = h.0; linked = h.1; links = h.2; memory = no_memory (form.Aif base relocatable) h.0 e }
-aif_image starts inputs base relocatable text banks (Err (fault.ReadFault q)) whole sound h = h
-aif_image starts inputs base relocatable text banks (Err fault.NoMemory) whole sound h = tt
+module _ (law : ImagesArePlaced) (text : List ℕ) (banks : Option (List Bank)) where
+  described_memory : (file : List ℕ) (os : List (Named Object)) (i : Image) (ram : Option (List Range32)) → IsRam banks ram → AreSound os
+      → (d : Result Scatter Refusal) → scatter_of text ≡ d → described d ram os ≡ Ok i → IsInMemory (placement.Scatter file) text banks os i
+  described_memory file os i ram told sound (Ok s) e h =
+      let placed = law (kind.Scatter s) ram os i sound (text, e) h in
+      record { shape = kind.Scatter s; ram = ram; asked = (s, e, refl, told); views = placed.0; placed = placed.1 }
+  described_memory file os i ram told sound (Err r) e h = absurd (not_linked (selection_of None os) r i h)
 
-pub plain_image : PlainImagesLoad → (inputs : List (Named Linkable)) (base : ℕ) (text : List ℕ) (banks : Option (List Bank)) (r : Result Image Fault) → base % 4 ≡ 0
-    → LinksSound (objects_among inputs) (archives_among inputs) → Links (objects_among inputs) (archives_among inputs) (linking (kind.Plain base) None) r
-    → Tells r (ImageIs (form.Plain base) text banks inputs)
-plain_image loads inputs base text banks (Ok i) whole sound h =
-    record { objects = h.0; linked = h.1; links = sym h.2; memory = same_memory (form.Plain base) h.0 i (loads base h.0 i (sound h.0 h.1) whole h.2) }
-plain_image loads inputs base text banks (Err (fault.Refused e)) whole sound h = record { objects = h.0; linked = h.1; links = sym h.2; memory = no_memory (form.Plain base) h.0 e }
-plain_image loads inputs base text banks (Err (fault.ReadFault q)) whole sound h = h
-plain_image loads inputs base text banks (Err fault.NoMemory) whole sound h = tt
+  in_memory : (p : LinkPlacement) (os : List (Named Object)) (i : Image) → IsBased p → AreSound os → LinksTo p text banks os (Ok i) → IsInMemory p text banks os i
+  in_memory (placement.Scatter file) os i based sound h = described_memory file os i h.0 h.1 sound (scatter_of text) refl (sym h.2)
+  in_memory (placement.Aif base relocatable) os i based sound h =
+      let placed = law (kind.Aif base relocatable) h.0 os i sound based (sym h.2) in
+      record { shape = kind.Aif base relocatable; ram = h.0; asked = (refl, h.1); views = placed.0; placed = placed.1 }
+  in_memory (placement.Plain base) os i based sound h =
+      let placed = law (kind.Plain base) None os i sound based (sym h) in
+      record { shape = kind.Plain base; ram = None; asked = (refl, refl); views = placed.0; placed = placed.1 }
+
+  pub image_is : (p : LinkPlacement) (inputs : List (Named Linkable)) (image : Result Image Refusal) → IsBased p → (h : IsLinkedBy p text banks inputs image) → AreSound h.0
+      → ImageIs p text banks inputs image
+  image_is p inputs image based h sound = record {
+    objects = h.0;
+    linked = h.1;
+    links = h.2;
+    memory = λ i e. in_memory p h.0 i based sound (subst (LinksTo p text banks h.0) e h.2);
+  }
+
+  pub told_image : (p : LinkPlacement) (inputs : List (Named Linkable)) → IsBased p → LinksSound (objects_among inputs) (archives_among inputs) → (r : Result Image Fault)
+      → Tells r (IsLinkedBy p text banks inputs) → Tells r (ImageIs p text banks inputs)
+  told_image p inputs based sound (Ok i) h = image_is p inputs (Ok i) based h (sound h.0 h.1)
+  told_image p inputs based sound (Err (fault.Refused e)) h = image_is p inputs (Err e) based h (sound h.0 h.1)
+  told_image p inputs based sound (Err (fault.ReadFault q)) h = h
+  told_image p inputs based sound (Err fault.NoMemory) h = tt
 
 -- ---- what is written of it
 
@@ -104,20 +130,24 @@ pub mapped : (rs : List Region) → AllByRecursion (λ r. r.length + r.zero ≤ 
 mapped [] h = tt
 mapped (r ∷ rs) h = let small = h.0 in (record { length = omega (arith, small); zero = omega (arith, small) }, mapped rs h.1)
 
-writable : (f : ImageKind) (i : Image) → IsSized f i → IsWritable i
-writable f i sized = sized.regions
-
 pub sized : (rs : List Region) → AllByRecursion (λ r. r.length + r.zero ≤ 2 ^ 26) rs → AllByRecursion (λ r. r.length + r.zero < 2 ^ 32) rs
 sized [] h = tt
 sized (r ∷ rs) h = let small = h.0 in (omega (arith, small), sized rs h.1)
 
-links_writable : LinkedSizes → ScatterSizes → (f : LinkForm) (text : List ℕ) (banks : Option (List Bank)) (os : List (Named Object)) (i : Image) → LinksTo f text banks os (Ok i) → IsWritable i
-links_writable linked scattered (form.Scatter file) text banks os i h = writable shape.Scatter i (scattered text h.0 os i (sym h.2))
-links_writable linked scattered (form.Aif base relocatable) text banks os i h = writable (shape.Aif relocatable) i (linked (kind.Aif base relocatable) h.0 os i (sym h.2))
-links_writable linked scattered (form.Plain base) text banks os i h = writable shape.Plain i (linked (kind.Plain base) None os i (sym h))
+links_small : LinkedSizes → ScatterSizes → (p : LinkPlacement) (text : List ℕ) (banks : Option (List Bank)) (os : List (Named Object)) (i : Image) → LinksTo p text banks os (Ok i)
+    → AllByRecursion (λ r. r.length + r.zero ≤ 2 ^ 26) i.regions
+links_small linked scattered (placement.Scatter file) text banks os i h = (scattered text h.0 os i (sym h.2)).regions
+links_small linked scattered (placement.Aif base relocatable) text banks os i h = (linked (kind.Aif base relocatable) h.0 os i (sym h.2)).regions
+links_small linked scattered (placement.Plain base) text banks os i h = (linked (kind.Plain base) None os i (sym h)).regions
 
-pub image_writable : LinkedSizes → ScatterSizes → (f : LinkForm) (text : List ℕ) (banks : Option (List Bank)) (inputs : List (Named Linkable)) (i : Image) → ImageIs f text banks inputs (Ok i) → IsWritable i
-image_writable linked scattered f text banks inputs i h = links_writable linked scattered f text banks h.objects i h.links
+pub image_writable : LinkedSizes → ScatterSizes → ReadingLaw → (p : LinkPlacement) (c : Container) (text : List ℕ) (banks : Option (List Bank)) (inputs : List (Named Linkable)) (i : Image)
+    → ComeTogether p c → ImageIs p text banks inputs (Ok i) → IsWritable c i
+image_writable linked scattered reading p c text banks inputs i together h =
+    let memory = h.memory i refl in
+    record {
+      regions = links_small linked scattered p text banks h.objects i h.links;
+      loads = are_counted reading p c text banks memory.shape memory.ram h.objects i memory.views together memory.asked memory.placed;
+    }
 
 -- ---- its files
 
@@ -125,44 +155,28 @@ long_scattered : (out : List ℕ) (ls : List LoadRegion) → list_any is_long_lo
 long_scattered out [] = refl
 long_scattered out (l ∷ ls) = ap (λ (b : Bool). is_long_load l || b) (long_scattered out ls)
 
-long_plain : (out : List ℕ) (ls : List LoadRegion) → list_any is_long_load ls ≡ list_any is_long (map (plain_file out) ls)
-long_plain out [] = refl
-long_plain out (l ∷ ls) = ap (λ (b : Bool). is_long_load l || b) (long_plain out ls)
-
 or_true : (a b : Bool) → a ≡ true → (a || b) ≡ true
 or_true a b e = rw e refl
 
-long_by : (f : ImageKind) (i : Image) (out : List ℕ) → IsLoaded f → list_any is_long_load i.loads ≡ true → list_any is_long (files_by f i out) ≡ true
-long_by shape.Scatter i out filed h =
-    list_any-append is_long (map (load_file out) i.loads) (map_file i out ∷ [])
-    ∙ or_true (list_any is_long (map (load_file out) i.loads)) (list_any is_long (map_file i out ∷ [])) (sym (long_scattered out i.loads) ∙ h)
-long_by shape.Plain i out filed h = sym (long_plain out i.loads) ∙ h
-long_by (shape.Aif relocatable) i out filed h = absurd filed
+pub any_long : (fs : List OutFile) → list_any is_long fs ≡ true → unless_long fs ≡ Err too_large
+any_long fs h = ap (λ (b : Bool). cond b (Err too_large) (Ok fs)) h
 
-long_files : (out : List ℕ) (i : Image) → list_any is_long (image_files out i) ≡ true → filed out i ≡ Err too_large
-long_files out i h = ap (λ (b : Bool). cond b (Err too_large) (Ok (image_files out i))) h
+pub none_long : (fs : List OutFile) → list_any is_long fs ≡ false → unless_long fs ≡ Ok fs
+none_long fs h = ap (λ (b : Bool). cond b (Err too_large) (Ok fs)) h
 
-loaded_files : (f : ImageKind) (out : List ℕ) (i : Image) → IsLoaded f → files_as f out i ≡ files_of i out
-loaded_files shape.Scatter out i h = refl
-loaded_files shape.Plain out i h = refl
-loaded_files (shape.Aif relocatable) out i h = absurd h
+pub long_load : (out : List ℕ) (i : Image) → list_any is_long_load i.loads ≡ true → filed container.LoadFiles out i ≡ Err too_large
+long_load out i h =
+    any_long (image_files container.LoadFiles out i)
+    (list_any-append is_long (map (load_file out) i.loads) (map_file i out ∷ [])
+    ∙ or_true (list_any is_long (map (load_file out) i.loads)) (list_any is_long (map_file i out ∷ [])) (sym (long_scattered out i.loads) ∙ h))
 
-pub one_file : (f : ImageKind) (out : List ℕ) (i : Image) → IsOneFile f → files_as f out i ≡ (record { name = out; bytes = aif_file i }) ∷ []
-one_file shape.Scatter out i h = absurd h
-one_file shape.Plain out i h = absurd h
-one_file (shape.Aif relocatable) out i h = refl
+long_file : (bytes : List ℕ) → 2 ^ 32 ≤ length bytes → list_any is_long (one_file [] bytes) ≡ true
+long_file bytes h = grind (arith, nat_tests)
 
-pub long_load : (out : List ℕ) (i : Image) → IsLoaded i.kind → list_any is_long_load i.loads ≡ true → filed out i ≡ Err too_large
-long_load out i w h = long_files out i (ap (list_any is_long) (loaded_files i.kind out i w) ∙ long_by i.kind i out w h)
-
-pub long_file : (out : List ℕ) (i : Image) (fs : List OutFile) → fs ≡ image_files out i → list_any is_long fs ≡ true → filed out i ≡ Err too_large
-long_file out i fs e h = long_files out i (ap (list_any is_long) (sym e) ∙ h)
-
-pub short_files : (out : List ℕ) (i : Image) (fs : List OutFile) → fs ≡ image_files out i → list_any is_long fs ≡ false → filed out i ≡ Ok fs
-short_files out i fs e h = ap (λ (b : Bool). cond b (Err too_large) (Ok (image_files out i))) (ap (list_any is_long) (sym e) ∙ h) ∙ ap Ok (sym e)
-
-pub load_files_are : (out : List ℕ) (i : Image) (fs : List OutFile) → IsLoaded i.kind → fs ≡ files_of i out → fs ≡ image_files out i
-load_files_are out i fs w e = e ∙ sym (loaded_files i.kind out i w)
+pub long_elf : (out : List ℕ) (i : Image) → 2 ^ 32 ≤ file_size i.loads → filed container.Elf out i ≡ Err too_large
+long_elf out i h =
+    let size = file_length i in
+    any_long (one_file out (elf_file i)) (long_file (elf_file i) (omega (arith, size, h)))
 
 or_false : (a b : Bool) → (a || b) ≡ false → (a ≡ false) × (b ≡ false)
 or_false true b h = absurd (let bad : true ≡ false = h in cc)

@@ -1,4 +1,6 @@
 pub mod CommandLemmas
+mod ContainerLemmas
+mod KitLemmas
 mod AifStartLemmas
 mod AskLemmas
 mod BuildLemmas

@@ -13,8 +13,8 @@ use Rattle.chunk_file.specs.Reading.{Gives}
 use Rattle.link_model.specs.declared.images.Image.{Image}
 use Rattle.link_model.specs.declared.selection.Named.{Named}
 use Rattle.bin_image.specs.declared.records.OutFile.{OutFile}
-use Rattle.tool_words.specs.declared.command.LinkForm.{LinkForm}
-use Rattle.tool_words.specs.declared.command.LinkForm.TheVariants as form
+use Rattle.tool_words.specs.declared.command.LinkPlacement.{LinkPlacement}
+use Rattle.tool_words.specs.declared.command.LinkPlacement.TheVariants as placement
 use Rattle.tool_words.specs.declared.command.LinkWords.{LinkWords}
 use Rattle.tool_answers.specs.declared.inputs.InputEnd.{InputEnd}
 use Rattle.tool_answers.specs.declared.inputs.InputEnd.TheVariants as end
@@ -28,38 +28,38 @@ use Rattle.sdt_toolkit.specs.Links.{AllWritten, FilesAsk, ImageIs, InputsMake, L
 
 -- ---- what is read
 
-pub inputs_count : (f : LinkForm) (names contents : List (List ℕ)) → length contents ≡ length (read_by f names) → length (inputs_in f contents) ≡ length names
-inputs_count (form.Scatter file) names [] h = absurd (omega (arith, h))
-inputs_count (form.Scatter file) names (text ∷ contents) h = omega (arith, h)
-inputs_count (form.Aif base relocatable) names contents h = h
-inputs_count (form.Plain base) names contents h = h
+pub inputs_count : (f : LinkPlacement) (names contents : List (List ℕ)) → length contents ≡ length (read_by f names) → length (inputs_in f contents) ≡ length names
+inputs_count (placement.Scatter file) names [] h = absurd (omega (arith, h))
+inputs_count (placement.Scatter file) names (text ∷ contents) h = omega (arith, h)
+inputs_count (placement.Aif base relocatable) names contents h = h
+inputs_count (placement.Plain base) names contents h = h
 
-pub inputs_short : (f : LinkForm) (contents : List (List ℕ)) → ((k : ℕ) (d : List ℕ) → k < length contents → length (get_or contents k d) < 2 ^ 32)
+pub inputs_short : (f : LinkPlacement) (contents : List (List ℕ)) → ((k : ℕ) (d : List ℕ) → k < length contents → length (get_or contents k d) < 2 ^ 32)
     → (k : ℕ) (d : List ℕ) → k < length (inputs_in f contents) → length (get_or (inputs_in f contents) k d) < 2 ^ 32
-inputs_short (form.Scatter file) [] h k d lt = absurd (omega (arith, lt))
-inputs_short (form.Scatter file) (text ∷ contents) h k d lt = h (suc k) d (omega (arith, lt))
-inputs_short (form.Aif base relocatable) contents h k d lt = h k d lt
-inputs_short (form.Plain base) contents h k d lt = h k d lt
+inputs_short (placement.Scatter file) [] h k d lt = absurd (omega (arith, lt))
+inputs_short (placement.Scatter file) (text ∷ contents) h k d lt = h (suc k) d (omega (arith, lt))
+inputs_short (placement.Aif base relocatable) contents h k d lt = h k d lt
+inputs_short (placement.Plain base) contents h k d lt = h k d lt
 
 -- ---- what it makes
 
 abbrev pub Makes : Reads → Bool → LinkWords → List (List ℕ) → Result (List OutFile) Fault → Type 0
-Makes s sources w contents r = TellsOf s r (LinkMakes s sources w contents) (IsGot s.told sources w.names (inputs_in w.form contents))
+Makes s sources w contents r = TellsOf s r (LinkMakes s sources w contents) (IsGot s.told sources w.names (inputs_in w.placement contents))
 
 pub no_inputs : (s : Reads) (sources : Bool) (w : LinkWords) (contents : List (List ℕ)) (f : Fault)
-    → TellsOf {A = List (Named Linkable)} s (Err f) (InputsAre s sources w.names (inputs_in w.form contents)) (IsGot s.told sources w.names (inputs_in w.form contents))
+    → TellsOf {A = List (Named Linkable)} s (Err f) (InputsAre s sources w.names (inputs_in w.placement contents)) (IsGot s.told sources w.names (inputs_in w.placement contents))
     → Makes s sources w contents (Err f)
 no_inputs s sources w contents (fault.Refused r) h = record { inputs = Err r; judged = h; files = refl }
 no_inputs s sources w contents (fault.ReadFault q) h = h
 no_inputs s sources w contents fault.NoMemory h = tt
 
-pub no_image_made : (w : LinkWords) (text : List ℕ) (inputs : List (Named Linkable)) (f : Fault) → Tells {A = Image} (Err f) (ImageIs w.form text w.ram inputs)
+pub no_image_made : (w : LinkWords) (text : List ℕ) (inputs : List (Named Linkable)) (f : Fault) → Tells {A = Image} (Err f) (ImageIs w.placement text w.ram inputs)
     → Tells {A = List OutFile} (Err f) (InputsMake w text (Ok inputs))
 no_image_made w text inputs (fault.Refused r) h = (Err r, h, refl)
 no_image_made w text inputs (fault.ReadFault q) h = h
 no_image_made w text inputs fault.NoMemory h = tt
 
-pub image_made : (w : LinkWords) (text : List ℕ) (inputs : List (Named Linkable)) (i : Image) (r : Result (List OutFile) Fault) → ImageIs w.form text w.ram inputs (Ok i) → Gives r (filed w.output i)
+pub image_made : (w : LinkWords) (text : List ℕ) (inputs : List (Named Linkable)) (i : Image) (r : Result (List OutFile) Fault) → ImageIs w.placement text w.ram inputs (Ok i) → Gives r (filed w.container w.output i)
     → Tells r (InputsMake w text (Ok inputs))
 image_made w text inputs i (Ok fs) is h = (Ok i, is, sym h)
 image_made w text inputs i (Err (fault.Refused r)) is h = (Ok i, is, sym h)
@@ -67,7 +67,7 @@ image_made w text inputs i (Err (fault.ReadFault q)) is h = h
 image_made w text inputs i (Err fault.NoMemory) is h = tt
 
 pub inputs_made : (s : Reads) (sources : Bool) (w : LinkWords) (contents : List (List ℕ)) (inputs : List (Named Linkable)) (r : Result (List OutFile) Fault)
-    → InputsAre s sources w.names (inputs_in w.form contents) (Ok inputs) → Tells r (InputsMake w (text_in w.form contents) (Ok inputs)) → Makes s sources w contents r
+    → InputsAre s sources w.names (inputs_in w.placement contents) (Ok inputs) → Tells r (InputsMake w (text_in w.placement contents) (Ok inputs)) → Makes s sources w contents r
 inputs_made s sources w contents inputs (Ok fs) judged h = record { inputs = Ok inputs; judged = judged; files = h }
 inputs_made s sources w contents inputs (Err (fault.Refused r)) judged h = record { inputs = Ok inputs; judged = judged; files = h }
 inputs_made s sources w contents inputs (Err (fault.ReadFault q)) judged h = absurd h

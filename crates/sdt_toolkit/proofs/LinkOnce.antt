@@ -14,8 +14,8 @@ use Rattle.link_model.specs.declared.selection.Named.{Named}
 use Rattle.link_model.specs.Chosen.{LinkedLaw}
 use Rattle.bin_image.specs.declared.records.OutFile.{OutFile}
 use Rattle.tool_words.specs.declared.command.Bank.{Bank}
-use Rattle.tool_words.specs.declared.command.LinkForm.{LinkForm}
-use Rattle.tool_words.specs.declared.command.LinkForm.TheVariants as form
+use Rattle.tool_words.specs.declared.command.LinkPlacement.{LinkPlacement}
+use Rattle.tool_words.specs.declared.command.LinkPlacement.TheVariants as placement
 use Rattle.tool_words.specs.declared.command.LinkWords.{LinkWords}
 use Rattle.tool_answers.specs.Inputs.{inputs_of}
 use Rattle.tool_answers.specs.Outcomes.{Outcome}
@@ -114,12 +114,12 @@ as_aif_once : (base : ℕ) (relocatable : Bool) (banks : Option (List Bank)) (os
 as_aif_once base relocatable banks os x y h k =
     h.2 ∙ (ap (λ (ram : Option (List Range32)). linking (kind.Aif base relocatable) ram os) (ram_once banks h.0 k.0 h.1 k.1) ∙ sym k.2)
 
-links_once : (f : LinkForm) (text : List ℕ) (banks : Option (List Bank)) (os : List (Named Object)) (x y : Result Image Refusal) → LinksTo f text banks os x → LinksTo f text banks os y → x ≡ y
-links_once (form.Scatter file) text banks os x y h k = scatters_once text banks os x y h k
-links_once (form.Aif base relocatable) text banks os x y h k = as_aif_once base relocatable banks os x y h k
-links_once (form.Plain base) text banks os x y h k = h ∙ sym k
+links_once : (f : LinkPlacement) (text : List ℕ) (banks : Option (List Bank)) (os : List (Named Object)) (x y : Result Image Refusal) → LinksTo f text banks os x → LinksTo f text banks os y → x ≡ y
+links_once (placement.Scatter file) text banks os x y h k = scatters_once text banks os x y h k
+links_once (placement.Aif base relocatable) text banks os x y h k = as_aif_once base relocatable banks os x y h k
+links_once (placement.Plain base) text banks os x y h k = h ∙ sym k
 
-image_once : LinkedLaw → (f : LinkForm) (text : List ℕ) (banks : Option (List Bank)) (inputs : Inputs) (x y : Result Image Refusal) → ImageIs f text banks inputs x → ImageIs f text banks inputs y → x ≡ y
+image_once : LinkedLaw → (f : LinkPlacement) (text : List ℕ) (banks : Option (List Bank)) (inputs : Inputs) (x y : Result Image Refusal) → ImageIs f text banks inputs x → ImageIs f text banks inputs y → x ≡ y
 image_once law f text banks inputs x y h k =
     let same : h.objects ≡ k.objects = law (objects_among inputs) (archives_among inputs) h.objects k.objects h.linked k.linked in
     links_once f text banks k.objects x y (subst (λ (os : List (Named Object)). LinksTo f text banks os x) same h.links) k.links
@@ -127,14 +127,14 @@ image_once law f text banks inputs x y h k =
 inputs_make_once : LinkedLaw → (w : LinkWords) (text : List ℕ) (inputs : Result Inputs Refusal) (x y : Result (List OutFile) Refusal) → InputsMake w text inputs x → InputsMake w text inputs y → x ≡ y
 inputs_make_once law w text (Err r) x y h k = h ∙ sym k
 inputs_make_once law w text (Ok inputs) x y h k =
-    let same : h.0 ≡ k.0 = image_once law w.form text w.ram inputs h.0 k.0 h.1 k.1 in
-    h.2 ∙ (ap (λ (i : Result Image Refusal). i >>= filed w.output) same ∙ sym k.2)
+    let same : h.0 ≡ k.0 = image_once law w.placement text w.ram inputs h.0 k.0 h.1 k.1 in
+    h.2 ∙ (ap (λ (i : Result Image Refusal). i >>= filed w.container w.output) same ∙ sym k.2)
 
 makes_once : OneAssembly → LinkedLaw → (s : Reads) (files : Files) → OverFiles s files → (sources : Bool) (w : LinkWords) (contents : List (List ℕ)) (x y : Result (List OutFile) Refusal)
     → LinkMakes s sources w contents x → LinkMakes s sources w contents y → x ≡ y
 makes_once law linked s files is sources w contents x y h k =
-    let same : h.inputs ≡ k.inputs = inputs_once law s files is sources w.names (inputs_in w.form contents) h.inputs k.inputs h.judged k.judged in
-    inputs_make_once linked w (text_in w.form contents) k.inputs x y (subst (λ (i : Result Inputs Refusal). InputsMake w (text_in w.form contents) i x) same h.files) k.files
+    let same : h.inputs ≡ k.inputs = inputs_once law s files is sources w.names (inputs_in w.placement contents) h.inputs k.inputs h.judged k.judged in
+    inputs_make_once linked w (text_in w.placement contents) k.inputs x y (subst (λ (i : Result Inputs Refusal). InputsMake w (text_in w.placement contents) i x) same h.files) k.files
 
 read_once : OneAssembly → LinkedLaw → (s : Reads) (files : Files) → OverFiles s files → (sources : Bool) (w : LinkWords) (contents : Result (List (List ℕ)) Refusal)
     (a b : Result Outcome Refusal) → ReadAsks s sources w contents a → ReadAsks s sources w contents b → a ≡ b

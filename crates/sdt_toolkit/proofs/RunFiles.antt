@@ -1,18 +1,17 @@
 -- The files of a scatter image, read as the image of a run.
-use Rattle.std.proofs.Common.{◌≡◌, ℕ, Bool, true, false, cond, ◌||◌, List, [], ◌∷◌, ◌++◌, length, map, Some, None, Ok, refl, ap, ◌∙◌, subst, arith}
+use Rattle.std.proofs.Common.{◌≡◌, ℕ, Bool, true, false, cond, ◌||◌, List, [], ◌∷◌, ◌++◌, length, map, Some, None, Ok, refl, ap, ◌∙◌, arith}
 use Rattle.std.specs.Prelude.{◌==◌, codes, nat_lt, ◌&&◌}
 use Rattle.std.specs.List.{list_all, list_any, position_or_len, AllByRecursion}
 use Rattle.std.proofs.lemmas.Bool.Decides.{nat_tests}
 use Rattle.sdt_outside.specs.Files.{Files, content}
 use Rattle.chunk_file.specs.Reading.{◌>>=◌}
 use Rattle.link_model.specs.declared.images.Image.{Image}
-use Rattle.link_model.specs.declared.images.ImageKind.{ImageKind}
 use Rattle.link_model.specs.declared.images.LoadRegion.{LoadRegion}
 use Rattle.link_model.specs.declared.placing.Region.{Region}
 use Rattle.bin_image.specs.declared.records.OutFile.{OutFile}
 use Rattle.bin_image.specs.declared.records.MapLoad.{MapLoad}
 use Rattle.bin_image.specs.Fields.{is_name, is_word}
-use Rattle.bin_image.specs.Files.{files_by, load_file, load_name, map_file, map_load, map_name, map_of, map_region}
+use Rattle.bin_image.specs.Files.{load_file, load_name, map_file, map_load, map_name, map_of, map_region}
 use Rattle.bin_image.specs.Maps.{IsLoad, IsValid, map_text}
 use Rattle.bin_image.specs.Reading as reading
 use Rattle.bin_image.specs.Reading.{MapLaw, SpellingLaw}
@@ -124,7 +123,7 @@ mapped i out files none valid has =
 pub files_are_read : MapLaw → SpellingLaw → FilesAreRead
 files_are_read law spells i out files faults faults_now read f has is =
     let m = map_of i out in
-    let (loads, one) = split files (map (load_file out) i.loads) (map_file i out) (subst (λ (k : ImageKind). HasFiles files (files_by k i out)) f.scatter has) in
+    let (loads, one) = split files (map (load_file out) i.loads) (map_file i out) has in
     is
     ∙ ap (λ x. found_or (map_name out) x >>= λ text. named_by (map_name out) (reading.map_of text) >>= λ n. mapped_image n files) one
     ∙ ap (λ r. named_by (map_name out) r >>= λ n. mapped_image n files) ((law (map_text m) m).1 (spells m f.map))

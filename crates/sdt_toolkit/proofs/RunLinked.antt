@@ -9,19 +9,18 @@ use Rattle.std.proofs.lemmas.Map.Lookups.{exact_bytes}
 use Rattle.std.proofs.lemmas.Map.Views.{tells_apart}
 use Rattle.sdt_outside.specs.Files.{Files, content}
 use Rattle.scatter_text.specs.Validity.{AreDistinct}
-use Rattle.link_model.specs.declared.images.Image.{Image}
-use Rattle.link_model.specs.declared.images.ImageKind.{ImageKind}
-use Rattle.link_model.specs.declared.images.ImageKind.TheVariants as shape
+use Rattle.place_model.specs.declared.scatter.Kind.{Kind}
+use Rattle.place_model.specs.declared.scatter.Kind.TheVariants as kind
 use Rattle.bin_image.specs.declared.records.OutFile.{OutFile}
-use Rattle.bin_image.specs.Files.{files_of}
+use Rattle.bin_image.specs.Files.{load_files}
 use Rattle.tool_answers.specs.Outcomes.{written}
-use Rattle.tool_words.specs.declared.command.LinkForm.{LinkForm}
-use Rattle.tool_words.specs.declared.command.LinkForm.TheVariants as form
-use Rattle.sdt_toolkit.specs.Headline.{Reaches}
-use Rattle.sdt_toolkit.specs.Links.{files_as, image_files, outputs}
+use Rattle.tool_words.specs.declared.command.Container.{Container}
+use Rattle.tool_words.specs.declared.command.LinkPlacement.{LinkPlacement}
+use Rattle.tool_words.specs.declared.command.LinkPlacement.TheVariants as placement
+use Rattle.sdt_toolkit.specs.Links.{IsAskedAs, image_files, outputs, text_in}
 use Rattle.sdt_toolkit.specs.RunImages.{HasFiles}
 use Rattle.sdt_toolkit.specs.Runs.{CommandsStart, LinkedRunsStart}
-use Rattle.sdt_toolkit.specs.Starting.{written_in}
+use Rattle.sdt_toolkit.specs.Starting.{Reaches, written_in}
 
 -- ---- files that are written
 
@@ -56,15 +55,11 @@ stand files (f ∷ fs) differ = (
 
 -- ---- those of a scatter image
 
-scatter_files : (k : ImageKind) (out : List ℕ) (i : Image) → k ≡ shape.Scatter → files_as k out i ≡ files_of i out
-scatter_files shape.Scatter out i e = refl
-scatter_files shape.Plain out i e = refl
-scatter_files (shape.Aif relocatable) out i e = absurd cc
-
 pub linked_runs_start : CommandsStart → LinkedRunsStart
-linked_runs_start law sources w description before after i views r o seats left a is_scatter line some link told by_map allow answers =
-    let (boots, can) : Reaches (form.Scatter description) i views = subst (λ (f : LinkForm). Reaches f i views) is_scatter link.reaches in
-    let same : image_files w.output i ≡ files_of i w.output = scatter_files i.kind w.output i (can.filed w.output line some).scatter in
-    let files : Files = written before (outputs (files_of i w.output)) in
-    let are : o.before ≡ Some files = told ∙ link.left ∙ ap (λ (fs : List OutFile). Some (written before (outputs fs))) same in
-    law i (views i.start) (written_in i) w.output files r o seats left a boots can line some (stand before (files_of i w.output) (can.named w.output)) are by_map allow answers
+linked_runs_start law sources w description before after i views r o seats left a is_scatter are_loads line some link told by_map allow answers =
+    let asked : IsAskedAs (placement.Scatter description) (text_in w.placement link.contents) w.ram link.shape link.ram =
+    subst (λ (p : LinkPlacement). IsAskedAs p (text_in w.placement link.contents) w.ram link.shape link.ram) is_scatter link.asked in
+    let (boots, can) : Reaches (kind.Scatter asked.0) i views = subst (λ (k : Kind). Reaches k i views) asked.2 link.placed.reaches in
+    let files : Files = written before (outputs (load_files i w.output)) in
+    let are : o.before ≡ Some files = told ∙ link.left ∙ ap (λ (c : Container). Some (written before (outputs (image_files c w.output i)))) are_loads in
+    law i (views i.start) (written_in i) w.output files r o seats left a boots can line some (stand before (load_files i w.output) (can.named w.output)) are by_map allow answers

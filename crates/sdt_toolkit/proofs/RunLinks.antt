@@ -156,7 +156,7 @@ module _ (s : Scatter) (ram : Option (List Range32)) (l : Linked) (a : Assigned)
     can_run = record {
       ranged = ranged;
       bytes = loads_are_bytes (link_of l) p l.objects refl h.bytes s.loads;
-      filed = λ out line some. record { scatter = refl; map = is_valid out line; named = some };
+      filed = λ out line some. record { map = is_valid out line; named = some };
       named = λ out.
           files_differ out p.regions (regions_bytes (link_of l) p) (map_file image out) refl 0 s.loads
           (all_weaker IsValidLoad (λ d. d.name ≡ codes "map" → ⊥) (λ d one. one.no_map) s.loads valid.each) valid.load_names_differ;

@@ -5,8 +5,8 @@ use Rattle.sdt_outside.specs.Files.{Files, content}
 use Rattle.aof_object.specs.declared.records.Object.{Object}
 use Rattle.aof_object.specs.Spelling.{written}
 use Rattle.armasm_core.specs.Assembling.{AssembledFrom}
-use Rattle.tool_words.specs.declared.command.LinkForm.{LinkForm}
-use Rattle.tool_words.specs.declared.command.LinkForm.TheVariants as form
+use Rattle.tool_words.specs.declared.command.LinkPlacement.{LinkPlacement}
+use Rattle.tool_words.specs.declared.command.LinkPlacement.TheVariants as placement
 use Rattle.tool_words.specs.declared.command.LinkWords.{LinkWords}
 use Rattle.tool_answers.specs.Outcomes.{Outcome}
 use Rattle.sdt_toolkit.specs.Inputs.{is_source_name, object_name}
@@ -21,7 +21,13 @@ abbrev pub link_name : List ℕ → List ℕ
 link_name name = if is_source_name name then object_name name else name
 
 abbrev pub link_words : LinkWords → LinkWords
-link_words w = record { form = w.form; output = w.output; names = map link_name w.names; ram = w.ram }
+link_words w = record {
+  placement = w.placement;
+  container = w.container;
+  output = w.output;
+  names = map link_name w.names;
+  ram = w.ram;
+}
 
 -- ---- files
 
@@ -47,13 +53,13 @@ abbrev pub HasItsFile : Files → Files → Bool → List ℕ → Type 0
 HasItsFile files others true name = HasObjectFile files others name
 HasItsFile files others false name = IsSame files others name
 
-abbrev pub HasItsDescription : Files → Files → LinkForm → Type 0
-HasItsDescription files others (form.Scatter file) = IsSame files others file
+abbrev pub HasItsDescription : Files → Files → LinkPlacement → Type 0
+HasItsDescription files others (placement.Scatter file) = IsSame files others file
 HasItsDescription files others other = Unit {0}
 
 -- the files that a build reads, with the objects of its sources
 pub record HasObjects (files others : Files) (w : LinkWords) : Type 0 where
-  pub description : HasItsDescription files others w.form
+  pub description : HasItsDescription files others w.placement
   pub inputs : AllByRecursion (λ name. HasItsFile files others (is_source_name name) name) w.names
 
 -- ---- the laws

@@ -11,6 +11,7 @@ use Rattle.tool_words.specs.declared.command.WordsFault.{WordsFault}
 use Rattle.tool_words.specs.declared.command.WordsFault.TheVariants as fault
 use Rattle.run_opening.specs.declared.image.Image.{Image}
 use Rattle.tool_answers.specs.Outcomes.{Outside, IsAsked, IsLeft, Answers, OfAll, OfOne}
+use Rattle.sdt_toolkit.specs.Kits.{KitAnswers}
 use Rattle.sdt_toolkit.specs.Links.{LinkAnswers, WordsAsk}
 use Rattle.sdt_toolkit.specs.Reads.{Reads, HasFailed, reads_of}
 use Rattle.sdt_toolkit.specs.Sources.{AssemblyAnswers, SourceAsks}
@@ -42,6 +43,7 @@ Commanded (Ok (command.List file)) o seats left a = Answers (listing_of file) (O
 Commanded (Ok (command.Run run)) o seats left a = RunAnswers run o seats left a
 Commanded (Ok (command.Link words)) o seats left a = LinkAnswers false words o a × (left ≡ seats)
 Commanded (Ok (command.Build words)) o seats left a = LinkAnswers true words o a × (left ≡ seats)
+Commanded (Ok (command.InterruptKit output acknowledge)) o seats left a = KitAnswers output acknowledge o a × (left ≡ seats)
 
 -- ---- refusals: the first defect of the words, then of the files and, for a run, of the banks and devices
 
@@ -57,6 +59,7 @@ FirstOf (command.List file) s seats r = IsAsked (listing_of file) (OfOne (listin
 FirstOf (command.Run run) s seats r = (read : Result Image Refusal) × IsRead s.told (HasFailed s) run.image read × IsRefusal run read seats r
 FirstOf (command.Link words) s seats r = WordsAsk s false words (Err r)
 FirstOf (command.Build words) s seats r = WordsAsk s true words (Err r)
+FirstOf (command.InterruptKit output acknowledge) s seats r = ⊥
 
 abbrev pub IsFirst : Result Command ℕ → Reads → List Seat → Refusal → Type 0
 IsFirst (Err place) s seats r = r ≡ BadWords place

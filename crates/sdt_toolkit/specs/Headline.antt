@@ -1,76 +1,90 @@
 -- What `link` and `build` leave where they are done and the store tells its files: the files of the image that the linked
--- objects make, with its entry and its bound. Put into memory they show each of these objects in one view; those of a
--- scatter image and an ARM image file reach the entry, with memory as that view, within the bound; and what `build`
--- assembled stands there. An ARM image file that can be moved does so at each address that leaves room, with a view for
--- each. SDT 2.50 Reference Guide; the startup code is this project's.
-use Rattle.std.specs.Prelude.{◌≡◌, ℕ, ◌+◌, true, false, Bool, List, slice_get, Option, Some, Result, Ok}
+-- objects make, with its entry and its bound. The objects stand by one plan, and put into memory the files are, or become by the
+-- startup code, the view of that plan, in which each object is shown and each statement of what `build` assembled stands; those
+-- of a scatter image and an ARM image file reach the entry within the bound. An ARM image file that can be moved does so at each
+-- address that leaves room, with a view for each. SDT 2.50 Reference Guide; the startup code is this project's.
+use Rattle.std.specs.Prelude.{◌≡◌, ℕ, true, false, Bool, List, length, take, slice_get, Option, Some, Result, Ok}
 use Rattle.sdt_word.specs.declared.ranges.Range32.{Range32}
-use Rattle.sdt_word.specs.Numbers.{flag}
 use Rattle.sdt_fault.specs.declared.answer.Answer.{Answer}
 use Rattle.sdt_fault.specs.declared.answer.Answer.TheVariants as answer
 use Rattle.sdt_outside.specs.Files.{Files, content}
 use Rattle.aof_object.specs.declared.records.Object.{Object}
-use Rattle.boot_code.specs.declared.rows.ZeroRow.{ZeroRow}
-use Rattle.boot_code.specs.Boots.{ByteMap, Boots, zeroed}
-use Rattle.byte_maps.specs.Maps.{map_of}
-use Rattle.patch_model.specs.Fields.{Values}
+use Rattle.boot_code.specs.Boots.{ByteMap}
+use Rattle.place_model.specs.declared.scatter.Kind.{Kind}
+use Rattle.place_model.specs.Plans.{Plan}
 use Rattle.armasm_core.specs.Standing.{SourceStands}
 use Rattle.link_model.specs.declared.images.Image.{Image}
+use Rattle.link_model.specs.declared.selection.Linked.{Linked}
 use Rattle.link_model.specs.declared.selection.Named.{Named}
 use Rattle.link_model.specs.Chosen.{AreLinked}
+use Rattle.link_laws.specs.Laws.{AreRanges}
 use Rattle.tool_words.specs.declared.command.Command.{Command}
 use Rattle.tool_words.specs.declared.command.Command.TheVariants as command
-use Rattle.tool_words.specs.declared.command.LinkForm.{LinkForm}
-use Rattle.tool_words.specs.declared.command.LinkForm.TheVariants as form
 use Rattle.tool_words.specs.declared.command.LinkWords.{LinkWords}
 use Rattle.tool_answers.specs.Inputs.{inputs_of}
 use Rattle.tool_answers.specs.Outcomes.{written}
 use Rattle.tool_library.specs.declared.linkables.Linkable.{Linkable}
+use Rattle.tool_library.specs.declared.linkables.Linkable.TheVariants as input
+use Rattle.sdt_toolkit.specs.Containers.{FilesHold}
 use Rattle.sdt_toolkit.specs.Inputs.{InputsAre, archives_among, is_source_name, objects_among}
-use Rattle.sdt_toolkit.specs.Links.{LinksTo, files_read, image_files, inputs_in, outputs, text_in}
+use Rattle.sdt_toolkit.specs.Links.{IsAskedAs, LinksTo, files_read, image_files, inputs_in, outputs, text_in}
+use Rattle.link_laws.specs.Plans.{values_by}
+use Rattle.sdt_toolkit.specs.Plans.{IsPlacedAs, plan_at}
 use Rattle.sdt_toolkit.specs.Reads.{Reads}
-use Rattle.sdt_toolkit.specs.RunImages.{CanRun}
-use Rattle.sdt_toolkit.specs.Starting.{AreShownIn, BootsFrom, FitsAt, segments_of, written_in}
+use Rattle.sdt_toolkit.specs.Starting.{FitsAt}
 
--- where the image may be put: an ARM image file where it fits, another where it begins
-abbrev pub FitsWhere : LinkForm → Image → ℕ → Type 0
-FitsWhere (form.Aif base relocatable) i to = FitsAt relocatable i to
-FitsWhere _ i to = to ≡ i.start
-
--- the load regions of a scatter image, which can be run, and an ARM image file reach the entry with memory as the view there,
--- and those of another image are the view, with its zero part cleared
-abbrev pub Reaches : LinkForm → Image → (ℕ → ByteMap) → Type 0
-Reaches (form.Scatter file) i views =
-    Boots (map_of (segments_of i)) (views i.start) (written_in i) i.start i.bound (i.entry + flag i.thumb)
-    × CanRun i (views i.start)
-Reaches (form.Aif base relocatable) i views = BootsFrom relocatable i views
-Reaches (form.Plain base) i views = (parts : List ZeroRow) × ((x : ℕ) → zeroed (Some 0) (map_of (segments_of i)) parts x ≡ views i.start x)
-
--- of the inputs that were read, the linked objects make the image and are shown in the views, and its files were written in
--- order
+-- of the inputs that were read, the linked objects were placed by one plan and make the image, and its files, which hold it, were
+-- written in order
 pub record IsLinkedInto (sources : Bool) (w : LinkWords) (before : Files) (after : Option Files) (image : Image) (views : ℕ → ByteMap) : Type 0 where
   pub reads : Reads
   pub contents : List (List ℕ)
   pub inputs : List (Named Linkable)
   pub objects : List (Named Object)
+  pub shape : Kind
+  pub ram : Option (List Range32)
   pub read : inputs_of before (files_read w) ≡ Ok contents
   pub told : reads.told ≡ Some before
-  pub judged : InputsAre reads sources w.names (inputs_in w.form contents) (Ok inputs)
+  pub judged : InputsAre reads sources w.names (inputs_in w.placement contents) (Ok inputs)
   pub linked : AreLinked (objects_among inputs) (archives_among inputs) objects
-  pub made : LinksTo w.form (text_in w.form contents) w.ram objects (Ok image)
-  pub left : after ≡ Some (written before (outputs (image_files w.output image)))
-  pub reaches : Reaches w.form image views
-  pub shown : (to : ℕ) → FitsWhere w.form image to → AreShownIn (views to) objects
+  pub made : LinksTo w.placement (text_in w.placement contents) w.ram objects (Ok image)
+  pub left : after ≡ Some (written before (outputs (image_files w.container w.output image)))
+  pub asked : IsAskedAs w.placement (text_in w.placement contents) w.ram shape ram
+  pub placed : IsPlacedAs shape ram objects image views
+  pub holds : FilesHold w.container w.output image views
 
--- what the lines of each source among the names say stands there, for some values of its symbols and regions of its areas
-abbrev pub SourcesStand : List (List ℕ) → Files → ByteMap → Type 0
-SourcesStand names files view =
-    (k : ℕ) (name text : List ℕ) → slice_get names k ≡ Some name → is_source_name name ≡ true → content files name ≡ Some text
-    → (values : Values) × (region : ℕ → Range32) × SourceStands (content files) name text values view region
+-- ---- statements
+
+-- the input of a place is the object of a number among the linked ones, which begin with the objects among the inputs
+pub record IsObjectOf (inputs : List (Named Linkable)) (objects : List (Named Object)) (place own : ℕ) (o : Named Object) : Type 0 where
+  pub is : slice_get inputs place ≡ Some (record { name = o.name; «module» = o.«module»; value = input.Object o.value })
+  pub before : own ≡ length (objects_among (take place inputs))
+  pub there : slice_get objects own ≡ Some o
+
+-- what the lines of the source say that is the input of a place stands where its object stands by the plan: with the plan's
+-- values of its symbols, and in the ranges of the plan's regions
+pub record StandsBy (files : Files) (inputs : List (Named Linkable)) (plan : Plan) (l : Linked) (view : ByteMap) (place : ℕ) (name text : List ℕ) : Type 0 where
+  pub own : ℕ
+  pub object : Named Object
+  pub object_of : IsObjectOf inputs l.objects place own object
+  pub stands : (region : ℕ → Range32) → AreRanges plan own region
+      → SourceStands (content files) name text (values_by plan l own) view region
+
+-- of each source among the names
+abbrev pub SourcesStand : List (List ℕ) → Files → List (Named Linkable) → Plan → Linked → ByteMap → Type 0
+SourcesStand names files inputs plan l view =
+    (place : ℕ) (name text : List ℕ) → slice_get names place ≡ Some name → is_source_name name ≡ true → content files name ≡ Some text
+    → StandsBy files inputs plan l view place name text
+
+-- wherever the image is put
+abbrev pub StatementsStand : (w : LinkWords) (before : Files) (after : Option Files) (image : Image) (views : ℕ → ByteMap)
+    → IsLinkedInto true w before after image views → Type 0
+StatementsStand w before after image views h =
+    (to : ℕ) → FitsAt h.shape image to
+    → SourcesStand w.names before h.inputs (plan_at h.shape h.placed.link h.placed.assigned h.placed.veneers to) h.placed.link (views to)
 
 pub record Headline (asked : Result Command ℕ) (told after : Option Files) (a : Answer) : Type 0 where
   pub link : (w : LinkWords) (before : Files) → asked ≡ Ok (command.Link w) → told ≡ Some before → a ≡ answer.Done
       → (image : Image) × (views : ℕ → ByteMap) × IsLinkedInto false w before after image views
   pub build : (w : LinkWords) (before : Files) → asked ≡ Ok (command.Build w) → told ≡ Some before → a ≡ answer.Done
-      → (image : Image) × (views : ℕ → ByteMap) × IsLinkedInto true w before after image views
-      × ((to : ℕ) → FitsWhere w.form image to → SourcesStand w.names before (views to))
+      → (image : Image) × (views : ℕ → ByteMap) × (h : IsLinkedInto true w before after image views)
+      × StatementsStand w before after image views h

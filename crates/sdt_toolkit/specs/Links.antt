@@ -1,7 +1,7 @@
 -- What the commands `link` and `build` make of files: the files of an image, or the first refusal, and what each answer
 -- says and leaves (SDT 2.50 Reference Guide, armlink; the order of refusals, and that `build` assembles the sources among
 -- its inputs, are this project's).
-use Rattle.std.specs.Prelude.{◌≡◌, ◌⊎◌, ℕ, ◌+◌, ◌^◌, ◌≤◌, nat_le, Bool, true, if◌then◌else◌, List, [], ◌∷◌, length, map, Option, Some, None, Result, Ok, Err}
+use Rattle.std.specs.Prelude.{◌≡◌, ◌⊎◌, ℕ, ◌+◌, ◌^◌, ◌<◌, ◌≤◌, nat_le, Bool, true, if◌then◌else◌, List, [], ◌∷◌, length, map, Option, Some, None, Result, Ok, Err}
 use Rattle.std.specs.List.{list_any, AllByRecursion}
 use Rattle.sdt_word.specs.declared.ranges.Range32.{Range32}
 use Rattle.sdt_fault.specs.declared.answer.Answer.{Answer}
@@ -16,18 +16,23 @@ use Rattle.aof_object.specs.declared.records.Object.{Object}
 use Rattle.alf_archive.specs.declared.records.Archive.{Archive}
 use Rattle.aif_image.specs.Files.{aif_file}
 use Rattle.link_model.specs.declared.images.Image.{Image}
-use Rattle.link_model.specs.declared.images.ImageKind.{ImageKind}
-use Rattle.link_model.specs.declared.images.ImageKind.TheVariants as shape
 use Rattle.link_model.specs.declared.images.LoadRegion.{LoadRegion}
 use Rattle.link_model.specs.declared.selection.Named.{Named}
 use Rattle.link_model.specs.Chosen.{AreLinked}
+use Rattle.boot_code.specs.Boots.{ByteMap}
+use Rattle.place_model.specs.declared.scatter.Kind.{Kind}
 use Rattle.place_model.specs.declared.scatter.Kind.TheVariants as kind
+use Rattle.place_model.specs.declared.scatter.Scatter.{Scatter}
+use Rattle.scatter_text.specs.Reading.{scatter_of}
 use Rattle.armlink_core.specs.Images.{linking, scatter_linking}
 use Rattle.bin_image.specs.declared.records.OutFile.{OutFile}
-use Rattle.bin_image.specs.Files.{files_of}
+use Rattle.bin_image.specs.Files.{binary_file, load_files}
+use Rattle.elf_image.specs.Files.{elf_file}
 use Rattle.tool_words.specs.declared.command.Bank.{Bank}
-use Rattle.tool_words.specs.declared.command.LinkForm.{LinkForm}
-use Rattle.tool_words.specs.declared.command.LinkForm.TheVariants as form
+use Rattle.tool_words.specs.declared.command.Container.{Container}
+use Rattle.tool_words.specs.declared.command.Container.TheVariants as container
+use Rattle.tool_words.specs.declared.command.LinkPlacement.{LinkPlacement}
+use Rattle.tool_words.specs.declared.command.LinkPlacement.TheVariants as placement
 use Rattle.tool_words.specs.declared.command.LinkWords.{LinkWords}
 use Rattle.tool_answers.specs.Inputs.{AreInputs, inputs_of, IsReached}
 use Rattle.tool_answers.specs.Outcomes.{Outcome, Outside, AreWritten, FailsAt, IsCutShort, IsLeft, IsLost, Says, unprinted}
@@ -35,17 +40,17 @@ use Rattle.tool_library.specs.declared.linkables.Linkable.{Linkable}
 use Rattle.tool_run.specs.Runs.{AreRanges}
 use Rattle.sdt_toolkit.specs.Inputs.{InputsAre, IsGot, objects_among, archives_among}
 use Rattle.sdt_toolkit.specs.Reads.{Reads, HasFailed, reads_of}
-use Rattle.sdt_toolkit.specs.Starting.{Loads, Starts, StartsAsAif}
+use Rattle.sdt_toolkit.specs.Plans.{IsPlacedAs}
 
--- ---- what is read: the scatter file first, if there is one, and then the names
+-- ---- what is read, by the placement: the scatter file first, if there is one, and then the names
 
-abbrev pub read_by : LinkForm → List (List ℕ) → List (List ℕ)
-read_by (form.Scatter file) names = file ∷ names
-read_by (form.Aif base relocatable) names = names
-read_by (form.Plain base) names = names
+abbrev pub read_by : LinkPlacement → List (List ℕ) → List (List ℕ)
+read_by (placement.Scatter file) names = file ∷ names
+read_by (placement.Aif base relocatable) names = names
+read_by (placement.Plain base) names = names
 
 abbrev pub files_read : LinkWords → List (List ℕ)
-files_read w = read_by w.form w.names
+files_read w = read_by w.placement w.names
 
 abbrev pub first_of : List (List ℕ) → List ℕ
 first_of [] = []
@@ -56,17 +61,17 @@ behind_first [] = []
 behind_first (bytes ∷ others) = others
 
 -- the scatter file's text, and what stands under the names
-abbrev pub text_in : LinkForm → List (List ℕ) → List ℕ
-text_in (form.Scatter file) contents = first_of contents
-text_in (form.Aif base relocatable) contents = []
-text_in (form.Plain base) contents = []
+abbrev pub text_in : LinkPlacement → List (List ℕ) → List ℕ
+text_in (placement.Scatter file) contents = first_of contents
+text_in (placement.Aif base relocatable) contents = []
+text_in (placement.Plain base) contents = []
 
-abbrev pub inputs_in : LinkForm → List (List ℕ) → List (List ℕ)
-inputs_in (form.Scatter file) contents = behind_first contents
-inputs_in (form.Aif base relocatable) contents = contents
-inputs_in (form.Plain base) contents = contents
+abbrev pub inputs_in : LinkPlacement → List (List ℕ) → List (List ℕ)
+inputs_in (placement.Scatter file) contents = behind_first contents
+inputs_in (placement.Aif base relocatable) contents = contents
+inputs_in (placement.Plain base) contents = contents
 
--- ---- the image
+-- ---- the image, by the placement
 
 -- the ranges that can be written, where they are told
 abbrev pub IsRam : Option (List Bank) → Option (List Range32) → Type 0
@@ -79,23 +84,31 @@ ScattersTo text banks os image = (ram : Option (List Range32)) × IsRam banks ra
 abbrev pub AsAif : ℕ → Bool → Option (List Bank) → List (Named Object) → Result Image Refusal → Type 0
 AsAif base relocatable banks os image = (ram : Option (List Range32)) × IsRam banks ram × (image ≡ linking (kind.Aif base relocatable) ram os)
 
-abbrev pub LinksTo : LinkForm → List ℕ → Option (List Bank) → List (Named Object) → Result Image Refusal → Type 0
-LinksTo (form.Scatter file) text banks os image = ScattersTo text banks os image
-LinksTo (form.Aif base relocatable) text banks os image = AsAif base relocatable banks os image
-LinksTo (form.Plain base) text banks os image = image ≡ linking (kind.Plain base) None os
+abbrev pub LinksTo : LinkPlacement → List ℕ → Option (List Bank) → List (Named Object) → Result Image Refusal → Type 0
+LinksTo (placement.Scatter file) text banks os image = ScattersTo text banks os image
+LinksTo (placement.Aif base relocatable) text banks os image = AsAif base relocatable banks os image
+LinksTo (placement.Plain base) text banks os image = image ≡ linking (kind.Plain base) None os
 
--- in memory an image shows the objects, and a scatter image or an ARM image file starts
-abbrev pub IsInMemory : LinkForm → List (Named Object) → Image → Type 0
-IsInMemory (form.Scatter file) os i = Starts os i
-IsInMemory (form.Aif base relocatable) os i = StartsAsAif relocatable os i
-IsInMemory (form.Plain base) os i = Loads os i
+-- the kind of image that the words ask for, by the scatter file's text, and the ranges that it may write
+abbrev pub IsAskedAs : LinkPlacement → List ℕ → Option (List Bank) → Kind → Option (List Range32) → Type 0
+IsAskedAs (placement.Scatter file) text banks k ram = (s : Scatter) × (scatter_of text ≡ Ok s) × (k ≡ kind.Scatter s) × IsRam banks ram
+IsAskedAs (placement.Aif base relocatable) text banks k ram = (k ≡ kind.Aif base relocatable) × IsRam banks ram
+IsAskedAs (placement.Plain base) text banks k ram = (k ≡ kind.Plain base) × (ram ≡ None)
+
+-- its objects were placed by one plan, with a view wherever the image is put
+pub record IsInMemory (f : LinkPlacement) (text : List ℕ) (banks : Option (List Bank)) (os : List (Named Object)) (i : Image) : Type 0 where
+  pub shape : Kind
+  pub ram : Option (List Range32)
+  pub asked : IsAskedAs f text banks shape ram
+  pub views : ℕ → ByteMap
+  pub placed : IsPlacedAs shape ram os i views
 
 -- the image of inputs: of the objects among them, and the members of the libraries among them that are needed
-pub record ImageIs (f : LinkForm) (text : List ℕ) (banks : Option (List Bank)) (inputs : List (Named Linkable)) (image : Result Image Refusal) : Type 0 where
+pub record ImageIs (f : LinkPlacement) (text : List ℕ) (banks : Option (List Bank)) (inputs : List (Named Linkable)) (image : Result Image Refusal) : Type 0 where
   pub objects : List (Named Object)
   pub linked : AreLinked (objects_among inputs) (archives_among inputs) objects
   pub links : LinksTo f text banks objects image
-  pub memory : (i : Image) → image ≡ Ok i → IsInMemory f objects i
+  pub memory : (i : Image) → image ≡ Ok i → IsInMemory f text banks objects i
 
 abbrev pub IsScatterImage : List (Named Object) → List (Named Archive) → List ℕ → Option (List Bank) → Result Image Refusal → Type 0
 IsScatterImage objects archives text banks image = (os : List (Named Object)) × AreLinked objects archives os × ScattersTo text banks os image
@@ -103,7 +116,7 @@ IsScatterImage objects archives text banks image = (os : List (Named Object)) ×
 abbrev pub IsAifImage : List (Named Object) → List (Named Archive) → ℕ → Bool → Option (List Bank) → Result Image Refusal → Type 0
 IsAifImage objects archives base relocatable banks image = (os : List (Named Object)) × AreLinked objects archives os × AsAif base relocatable banks os image
 
--- ---- the files
+-- ---- the files, by the container
 
 abbrev pub too_large : Refusal
 too_large = TooLarge FileBytes 0xFFFFFFFF
@@ -114,40 +127,42 @@ is_long_load l = nat_le (2 ^ 32) (length l.bytes)
 abbrev pub is_long : OutFile → Bool
 is_long f = nat_le (2 ^ 32) (length f.bytes)
 
--- its ARM image file, or those of its load regions
-abbrev pub files_as : ImageKind → List ℕ → Image → List OutFile
-files_as (shape.Aif relocatable) out i = (record { name = out; bytes = aif_file i }) ∷ []
-files_as other out i = files_of i out
+abbrev pub one_file : List ℕ → List ℕ → List OutFile
+one_file out bytes = (record { name = out; bytes = bytes }) ∷ []
 
-abbrev pub image_files : List ℕ → Image → List OutFile
-image_files out i = files_as i.kind out i
+-- what is written of an image: a file for each load region and the map, or one file
+abbrev pub image_files : Container → List ℕ → Image → List OutFile
+image_files container.LoadFiles out i = load_files i out
+image_files container.Elf out i = one_file out (elf_file i)
+image_files container.Binary out i = one_file out (binary_file i)
+image_files container.ImageFile out i = one_file out (aif_file i)
 
--- the files of an image, unless one of them has 2^32 bytes or more
-abbrev pub filed : List ℕ → Image → Result (List OutFile) Refusal
-filed out i = if list_any is_long (image_files out i) then Err too_large else Ok (image_files out i)
+-- files, unless one of them has 2^32 bytes or more
+abbrev pub unless_long : List OutFile → Result (List OutFile) Refusal
+unless_long fs = if list_any is_long fs then Err too_large else Ok fs
 
--- an image has a file for each load region, or one ARM image file
-abbrev pub IsLoaded : ImageKind → Type 0
-IsLoaded (shape.Aif relocatable) = ⊥
-IsLoaded other = Unit {0}
+abbrev pub filed : Container → List ℕ → Image → Result (List OutFile) Refusal
+filed c out i = unless_long (image_files c out i)
 
-abbrev pub IsOneFile : ImageKind → Type 0
-IsOneFile (shape.Aif relocatable) = Unit {0}
-IsOneFile other = ⊥
+-- an ELF file counts the load regions by a half-word
+abbrev pub AreCounted : Container → List LoadRegion → Type 0
+AreCounted container.Elf loads = length loads < 2 ^ 16
+AreCounted other loads = Unit {0}
 
--- an image whose regions have 64 MiB at most
-abbrev pub IsWritable : Image → Type 0
-IsWritable i = AllByRecursion (λ r. r.length + r.zero ≤ 2 ^ 26) i.regions
+-- an image whose regions have 64 MiB at most, and no more of them than its container counts
+pub record IsWritable (c : Container) (i : Image) : Type 0 where
+  pub regions : AllByRecursion (λ r. r.length + r.zero ≤ 2 ^ 26) i.regions
+  pub loads : AreCounted c i.loads
 
 abbrev pub InputsMake : LinkWords → List ℕ → Result (List (Named Linkable)) Refusal → Result (List OutFile) Refusal → Type 0
 InputsMake w text (Err r) made = made ≡ Err r
-InputsMake w text (Ok inputs) made = (image : Result Image Refusal) × ImageIs w.form text w.ram inputs image × (made ≡ (image >>= filed w.output))
+InputsMake w text (Ok inputs) made = (image : Result Image Refusal) × ImageIs w.placement text w.ram inputs image × (made ≡ (image >>= filed w.container w.output))
 
 -- what the files that are read make
 pub record LinkMakes (s : Reads) (sources : Bool) (w : LinkWords) (contents : List (List ℕ)) (made : Result (List OutFile) Refusal) : Type 0 where
   pub inputs : Result (List (Named Linkable)) Refusal
-  pub judged : InputsAre s sources w.names (inputs_in w.form contents) inputs
-  pub files : InputsMake w (text_in w.form contents) inputs made
+  pub judged : InputsAre s sources w.names (inputs_in w.placement contents) inputs
+  pub files : InputsMake w (text_in w.placement contents) inputs made
 
 abbrev pub outputs : List OutFile → List (List ℕ × List ℕ)
 outputs fs = map {B = List ℕ × List ℕ} (λ f. (f.name, f.bytes)) fs
@@ -195,7 +210,7 @@ LinkSays sources w o a =
 abbrev pub MayFail : Bool → LinkWords → Option Files → List ℕ → Type 0
 MayFail sources w told name =
     IsReached told (files_read w) name ⊎ ((contents : List (List ℕ)) × AreInputs told (files_read w) contents
-    × IsGot told sources w.names (inputs_in w.form contents) name)
+    × IsGot told sources w.names (inputs_in w.placement contents) name)
 
 -- the answer to a link, and to a build, where sources are taken: where a read failed, nothing is told of the inputs and
 -- nothing is written; where memory was refused, either nothing is written, or a beginning of what the inputs ask for

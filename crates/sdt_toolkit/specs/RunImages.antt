@@ -5,12 +5,11 @@ use Rattle.std.specs.List.{list_any, AllByRecursion}
 use Rattle.sdt_outside.specs.Files.{Files, content}
 use Rattle.boot_code.specs.Boots.{ByteMap}
 use Rattle.link_model.specs.declared.images.Image.{Image}
-use Rattle.link_model.specs.declared.images.ImageKind.TheVariants as form
 use Rattle.link_model.specs.declared.images.LoadRegion.{LoadRegion}
 use Rattle.link_model.specs.declared.placing.Region.{Region}
 use Rattle.bin_image.specs.declared.records.OutFile.{OutFile}
 use Rattle.bin_image.specs.Fields.{lacks}
-use Rattle.bin_image.specs.Files.{files_of, map_of}
+use Rattle.bin_image.specs.Files.{load_files, map_of}
 use Rattle.bin_image.specs.Maps.{IsValid}
 use Rattle.scatter_text.specs.Validity.{AreDistinct}
 use Rattle.arm7_bus.specs.Seats.{has_access}
@@ -46,9 +45,8 @@ is_needed needs x = list_any (λ n. has_access n.base n.size x 1) needs
 abbrev pub HasFiles : Files → List OutFile → Type 0
 HasFiles files outs = AllByRecursion (λ f. content files f.name ≡ Some f.bytes) outs
 
--- a scatter image whose map is valid, under a name without a zero byte (a word of the command has none)
+-- an image whose map is valid, under a name without a zero byte (a word of the command has none)
 pub record IsFiled (i : Image) (out : List ℕ) : Type 0 where
-  pub scatter : i.kind ≡ form.Scatter
   pub map : IsValid (map_of i out)
   pub named : has_zero out ≡ false
 
@@ -65,4 +63,4 @@ pub record CanRun (i : Image) (view : ByteMap) : Type 0 where
   pub ranged : (x b : ℕ) → view x ≡ Some b → is_needed (needs_of i) x ≡ true
   pub bytes : AreBytes i.loads
   pub filed : (out : List ℕ) → lacks 10 out ≡ true → has_zero out ≡ false → IsFiled i out
-  pub named : (out : List ℕ) → AreDistinct (map (λ f. f.name) (files_of i out))
+  pub named : (out : List ℕ) → AreDistinct (map (λ f. f.name) (load_files i out))

@@ -26,10 +26,11 @@ use Rattle.byte_maps.specs.Maps.{map_of}
 use Rattle.link_model.specs.declared.images.Image.{Image}
 use Rattle.chunk_file.specs.Grammar.{AreBytes}
 use Rattle.bin_image.specs.Fields.{lacks}
-use Rattle.bin_image.specs.Files.{files_of, map_name}
+use Rattle.bin_image.specs.Files.{load_files, map_name}
 use Rattle.tool_answers.specs.Outcomes.{Outside}
 use Rattle.tool_words.specs.declared.command.Command.TheVariants as command
-use Rattle.tool_words.specs.declared.command.LinkForm.TheVariants as form
+use Rattle.tool_words.specs.declared.command.Container.TheVariants as container
+use Rattle.tool_words.specs.declared.command.LinkPlacement.TheVariants as placement
 use Rattle.tool_words.specs.declared.command.LinkWords.{LinkWords}
 use Rattle.tool_words.specs.declared.command.RunImage.TheVariants as image
 use Rattle.tool_words.specs.declared.command.RunWords.{RunWords}
@@ -128,7 +129,7 @@ AnswerStarts i view w o seats left other = Unit {0}
 abbrev pub FilesAreRead : Type 0
 FilesAreRead =
     (i : Image) (out : List ℕ) (files : Files) (faults faults_now : ℕ) (read : Result RunImage Refusal) → IsFiled i out
-    → HasFiles files (files_of i out) → IsRead (Some files) (Rose faults faults_now) (image.Map (map_name out)) read
+    → HasFiles files (load_files i out) → IsRead (Some files) (Rose faults faults_now) (image.Map (map_name out)) read
     → read ≡ Ok (run_image i)
 
 -- and the first steps of a run of it are the startup's, which lead to the entry
@@ -144,16 +145,17 @@ RunsStart =
 abbrev pub CommandsStart : Type 0
 CommandsStart =
     (i : Image) (view : ByteMap) (written : ℕ → Bool) (out : List ℕ) (files : Files) (w : RunWords) (o : Outside) (seats left : List Seat)
-    (a : Answer) → BootsTo i view written → CanRun i view → lacks 10 out ≡ true → has_zero out ≡ false → HasFiles files (files_of i out)
+    (a : Answer) → BootsTo i view written → CanRun i view → lacks 10 out ≡ true → has_zero out ≡ false → HasFiles files (load_files i out)
     → o.before ≡ Some files → w.image ≡ image.Map (map_name out) → ((banks : List Bank) → AreBanks w banks → Allow banks seats written)
     → RunAnswers w o seats left a → AnswerStarts i view w o seats left a
 
--- so, over the files as `link` or `build` left them of a scatter image, does each run by its map in banks that allow what the
--- image's startup code writes
+-- so, over the load files and the map as `link` or `build` left them of a scatter image, does each run by the map in banks that
+-- allow what the image's startup code writes
 abbrev pub LinkedRunsStart : Type 0
 LinkedRunsStart =
     (sources : Bool) (w : LinkWords) (description : List ℕ) (before : Files) (after : Option Files) (i : Image) (views : ℕ → ByteMap)
-    (r : RunWords) (o : Outside) (seats left : List Seat) (a : Answer) → w.form ≡ form.Scatter description
+    (r : RunWords) (o : Outside) (seats left : List Seat) (a : Answer) → w.placement ≡ placement.Scatter description
+    → w.container ≡ container.LoadFiles
     → lacks 10 w.output ≡ true → has_zero w.output ≡ false
     → IsLinkedInto sources w before after i views → o.before ≡ after → r.image ≡ image.Map (map_name w.output)
     → ((banks : List Bank) → AreBanks r banks → Allow banks seats (written_in i))

@@ -6,6 +6,7 @@ ghost use Rattle.sdt_toolkit.specs.Commands.{Commanded, is_run, may_print};
 ghost use Rattle.tool_words.specs.Commands.{IsGood, command_of};
 
 use crate::assemble::assemble_file;
+use crate::kit::write_kit;
 use crate::links::link_files;
 use sdt_fault::answer::Answer;
 use sdt_fault::refusal::Refusal;
@@ -65,6 +66,10 @@ fn carried_out<S: Store, K: Sink>(
         Command::Run(words) => run(alloc, store, sink, devices, &words),
         Command::Link(words) => link_files(alloc, store, false, &words),
         Command::Build(words) => link_files(alloc, store, true, &words),
+        Command::InterruptKit {
+            output,
+            acknowledge,
+        } => write_kit(alloc, store, output, acknowledge),
     }
 }
 

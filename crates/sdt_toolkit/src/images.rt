@@ -1,14 +1,16 @@
 //! The image of inputs, and its files.
 
-ghost use Rattle.std.specs.Prelude.{◌≡◌, ◌%◌, ◌<◌, ◌^◌, All, IfOk, length};
+ghost use Rattle.std.specs.Prelude.{◌≡◌, ◌%◌, ◌+◌, ◌-◌, ◌<◌, ◌≤◌, ◌^◌, All, IfOk, length, min};
 ghost use Rattle.std.specs.List.{AllByRecursion, list_any};
 ghost use Rattle.alf_archive.specs.Grammar.{IsValid as IsValidArchive};
 ghost use Rattle.aof_object.specs.Validity.{IsValid};
+ghost use Rattle.elf_image.specs.Files.{file_size};
 ghost use Rattle.sdt_fault.specs.declared.answer.Fault.TheVariants as fault;
-ghost use Rattle.tool_words.specs.Commands.{IsFormed, AreBanks};
+ghost use Rattle.tool_words.specs.declared.command.Container.TheVariants as written;
+ghost use Rattle.tool_words.specs.Commands.{IsBased, AreBanks};
 ghost use Rattle.sdt_toolkit.specs.Inputs.{AreValid, Tells, archives_among, objects_among};
 ghost use Rattle.sdt_toolkit.specs.Links as links;
-ghost use Rattle.sdt_toolkit.specs.Links.{ImageIs, filed, is_long};
+ghost use Rattle.sdt_toolkit.specs.Links.{ImageIs, filed, is_long, unless_long};
 
 use crate::laws::images_start;
 use crate::sound::{archives_fit, objects_fit};
@@ -16,16 +18,17 @@ use aif_image::make_aif;
 use alf_archive::Archive;
 use aof_object::Object;
 use armlink_core::{link_aif, link_plain, link_scatter};
-use bin_image::{OutFile, make_bins};
-use link_model::{Image, ImageKind, LoadRegion, Named};
+use bin_image::{OutFile, load_files, make_binary};
+use elf_image::write_elf;
+use link_model::{Image, LoadRegion, Named};
 use sdt_fault::answer::Fault;
 use sdt_fault::kinds::Quantity;
 use sdt_fault::refusal::Refusal;
-use sdt_fault::{List, NoMemory, Text};
+use sdt_fault::{Bytes, List, NoMemory, Text};
 use std::alloc::Global;
 use tool_library::Linkable;
 use tool_run::ranges;
-use tool_words::{Bank, LinkForm};
+use tool_words::{Bank, Container, LinkPlacement};
 
 // ---- the image
 
@@ -115,27 +118,29 @@ fn aif_image(
     }
 }
 
-/// The image of inputs in a form. `text` is the scatter file's.
+/// The image of inputs by a placement. `text` is the scatter file's.
 pub fn image_of(
     alloc: Global,
-    form: &LinkForm,
+    placement: &LinkPlacement,
     text: &[u8],
     ram: &Option<List<Bank>>,
     inputs: Vec<Named<Linkable>>,
 ) -> Result<Image, Fault>
-    requires form { IsFormed form.now }
+    requires based { IsBased placement.now }
     requires banks { AreBanks ram.now }
     requires inputs { AreValid inputs.items }
-    ensures { Tells result (ImageIs form.now text.now ram.now inputs.items) }
+    ensures { Tells result (ImageIs placement.now text.now ram.now inputs.items) }
 {
     let parts = parts_of(alloc, inputs)?;
     images_start();
     objects_fit(parts.objects.as_slice());
     archives_fit(parts.archives.as_slice());
-    match form {
-        LinkForm::Aif { base, relocatable } => aif_image(alloc, parts, *base, *relocatable, ram),
-        LinkForm::Plain { base } => link_plain(alloc, parts.objects, parts.archives, *base),
-        LinkForm::Scatter { .. } => scatter_image(alloc, parts, text, ram),
+    match placement {
+        LinkPlacement::Aif { base, relocatable } => {
+            aif_image(alloc, parts, *base, *relocatable, ram)
+        }
+        LinkPlacement::Plain { base } => link_plain(alloc, parts.objects, parts.archives, *base),
+        LinkPlacement::Scatter { .. } => scatter_image(alloc, parts, text, ram),
     }
 }
 
@@ -166,31 +171,26 @@ fn has_long_file(files: &[OutFile]) -> bool
         .any(|file| file.bytes.as_slice().len() >= 0x1_0000_0000)
 }
 
-/// The files of load regions, where the image has one for each.
-fn load_files(alloc: Global, image: &Image, out: &Text) -> Result<List<OutFile>, Fault>
-    requires sized { links.IsWritable image.now }
-    requires loads { links.IsLoaded image.now.kind }
-    ensures value { Gives result (filed out.now image.now) }
+/// A file for each load region, and the map.
+fn region_files(alloc: Global, image: &Image, out: &Text) -> Result<List<OutFile>, Fault>
+    requires { AllByRecursion (λ r. r.length + r.zero ≤ 2 ^ 26) image.now.regions }
+    ensures value { Gives result (filed written.LoadFiles out.now image.now) }
     ensures short { IfOk result (λ files. All (λ f. length f.bytes < 2 ^ 32) files) }
 {
     if has_long_load(image.loads.as_slice()) {
         return Err(too_large());
     }
-    let files = make_bins(alloc, image, out)?;
+    let files = load_files(alloc, image, out)?;
     if has_long_file(files.as_slice()) {
         return Err(too_large());
     }
     Ok(files)
 }
 
-/// The ARM image file of an image.
-fn aif_files(alloc: Global, image: &Image, out: &Text) -> Result<List<OutFile>, Fault>
-    requires sized { links.IsWritable image.now }
-    requires form { links.IsOneFile image.now.kind }
-    ensures value { Gives result (filed out.now image.now) }
+fn one_file(alloc: Global, out: &Text, bytes: Bytes) -> Result<List<OutFile>, Fault>
+    ensures value { Gives result (unless_long (links.one_file out.now bytes)) }
     ensures short { IfOk result (λ files. All (λ f. length f.bytes < 2 ^ 32) files) }
 {
-    let bytes = make_aif(alloc, image)?;
     let mut files = Vec::new(alloc);
     files.push(OutFile {
         name: out.try_clone(alloc)?,
@@ -202,15 +202,65 @@ fn aif_files(alloc: Global, image: &Image, out: &Text) -> Result<List<OutFile>, 
     Ok(List::from_vec(files))
 }
 
-/// The files of an image in the order in which they are written, or TooLarge, if one would have 2^32 bytes or more.
-pub fn files_of(alloc: Global, image: &Image, out: &Text) -> Result<List<OutFile>, Fault>
-    requires { links.IsWritable image.now }
-    ensures value { Gives result (filed out.now image.now) }
+/// The size in bytes of the ELF file of load regions; 2^64 - 1, where it would have more.
+fn elf_size(loads: &[LoadRegion]) -> u64
+    requires { length loads.now < 2 ^ 16 }
+    ensures { result ≡ min (file_size loads.now) (2 ^ 64 - 1) }
+{
+    let mut size = 52 + 32 * loads.len() as u64;
+    for load in loads {
+        size = size.saturating_add(load.bytes.as_slice().len() as u64);
+    }
+    size
+}
+
+/// The ELF file, which is made only where it is short enough.
+fn elf_file(alloc: Global, image: &Image, out: &Text) -> Result<List<OutFile>, Fault>
+    requires { length image.now.loads < 2 ^ 16 }
+    ensures value { Gives result (filed written.Elf out.now image.now) }
     ensures short { IfOk result (λ files. All (λ f. length f.bytes < 2 ^ 32) files) }
 {
-    match image.kind {
-        ImageKind::Aif { .. } => aif_files(alloc, image, out),
-        ImageKind::Scatter | ImageKind::Plain => load_files(alloc, image, out),
+    if elf_size(image.loads.as_slice()) >= 0x1_0000_0000 {
+        return Err(too_large());
+    }
+    let bytes = write_elf(alloc, image)?;
+    one_file(alloc, out, bytes)
+}
+
+fn binary_file(alloc: Global, image: &Image, out: &Text) -> Result<List<OutFile>, Fault>
+    ensures value { Gives result (filed written.Binary out.now image.now) }
+    ensures short { IfOk result (λ files. All (λ f. length f.bytes < 2 ^ 32) files) }
+{
+    let bytes = make_binary(alloc, image)?;
+    one_file(alloc, out, bytes)
+}
+
+fn image_file(alloc: Global, image: &Image, out: &Text) -> Result<List<OutFile>, Fault>
+    requires { AllByRecursion (λ r. r.length + r.zero ≤ 2 ^ 26) image.now.regions }
+    ensures value { Gives result (filed written.ImageFile out.now image.now) }
+    ensures short { IfOk result (λ files. All (λ f. length f.bytes < 2 ^ 32) files) }
+{
+    let bytes = make_aif(alloc, image)?;
+    one_file(alloc, out, bytes)
+}
+
+/// The files that a container has of an image in the order in which they are written, or TooLarge, if one would have 2^32
+/// bytes or more.
+pub fn files_of(
+    alloc: Global,
+    container: Container,
+    image: &Image,
+    out: &Text,
+) -> Result<List<OutFile>, Fault>
+    requires { links.IsWritable container image.now }
+    ensures value { Gives result (filed container out.now image.now) }
+    ensures short { IfOk result (λ files. All (λ f. length f.bytes < 2 ^ 32) files) }
+{
+    match container {
+        Container::LoadFiles => region_files(alloc, image, out),
+        Container::Elf => elf_file(alloc, image, out),
+        Container::Binary => binary_file(alloc, image, out),
+        Container::ImageFile => image_file(alloc, image, out),
     }
 }
 

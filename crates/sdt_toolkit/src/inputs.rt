@@ -16,20 +16,20 @@ use sdt_fault::{Bytes, List, NoMemory, Text};
 use sdt_outside::Store;
 use std::alloc::Global;
 use tool_library::{Linkable, read_linkable};
-use tool_words::{LinkForm, LinkWords};
+use tool_words::{LinkPlacement, LinkWords};
 
 // ---- what is read
 
-fn scatter_names(alloc: Global, form: &LinkForm) -> Result<Vec<Text>, NoMemory>
-    ensures { IfOk result (λ names. names.items ≡ read_by form.now []) }
+fn scatter_names(alloc: Global, placement: &LinkPlacement) -> Result<Vec<Text>, NoMemory>
+    ensures { IfOk result (λ names. names.items ≡ read_by placement.now []) }
 {
     let mut names = Vec::new(alloc);
-    match form {
-        LinkForm::Scatter { file } => {
+    match placement {
+        LinkPlacement::Scatter { file } => {
             names.push(file.try_clone(alloc)?)?;
             Ok(names)
         }
-        LinkForm::Aif { .. } | LinkForm::Plain { .. } => Ok(names),
+        LinkPlacement::Aif { .. } | LinkPlacement::Plain { .. } => Ok(names),
     }
 }
 
@@ -48,18 +48,18 @@ fn push_names(alloc: Global, all: &mut Vec<Text>, names: &[Text]) -> Result<(), 
 pub fn files_read(alloc: Global, words: &LinkWords) -> Result<Vec<Text>, NoMemory>
     ensures { IfOk result (λ names. names.items ≡ files_read words.now) }
 {
-    let mut all = scatter_names(alloc, &words.form)?;
+    let mut all = scatter_names(alloc, &words.placement)?;
     push_names(alloc, &mut all, words.names.as_slice())?;
     Ok(all)
 }
 
 /// The scatter file's text among the contents of the files that are read.
-pub fn text_in<'a>(form: &LinkForm, contents: &'a [Bytes]) -> &'a [u8]
-    ensures { result.now ≡ text_in form.now contents.now }
+pub fn text_in<'a>(placement: &LinkPlacement, contents: &'a [Bytes]) -> &'a [u8]
+    ensures { result.now ≡ text_in placement.now contents.now }
 {
-    match form {
-        LinkForm::Aif { .. } | LinkForm::Plain { .. } => b"",
-        LinkForm::Scatter { .. } => match contents.first() {
+    match placement {
+        LinkPlacement::Aif { .. } | LinkPlacement::Plain { .. } => b"",
+        LinkPlacement::Scatter { .. } => match contents.first() {
             Some(text) => text.as_slice(),
             None => b"",
         },
@@ -67,12 +67,12 @@ pub fn text_in<'a>(form: &LinkForm, contents: &'a [Bytes]) -> &'a [u8]
 }
 
 /// What stands under the names, among the contents of the files that are read.
-pub fn inputs_in<'a>(form: &LinkForm, contents: &'a [Bytes]) -> &'a [Bytes]
-    ensures { result.now ≡ inputs_in form.now contents.now }
+pub fn inputs_in<'a>(placement: &LinkPlacement, contents: &'a [Bytes]) -> &'a [Bytes]
+    ensures { result.now ≡ inputs_in placement.now contents.now }
 {
-    match form {
-        LinkForm::Aif { .. } | LinkForm::Plain { .. } => contents,
-        LinkForm::Scatter { .. } => match contents.split_first() {
+    match placement {
+        LinkPlacement::Aif { .. } | LinkPlacement::Plain { .. } => contents,
+        LinkPlacement::Scatter { .. } => match contents.split_first() {
             Some((_, others)) => others,
             None => contents,
         },

@@ -15,13 +15,14 @@ mod assemble;
 mod commands;
 mod images;
 mod inputs;
+mod kit;
 pub mod laws;
 mod links;
 mod names;
 mod sound;
 mod writing;
 
-/// Carries out a command: `asm`, `link`, `build`, one of the librarian's, `list` or `run`.
+/// Carries out a command: `asm`, `link`, `build`, one of the librarian's, `list`, `run` or `irqkit`.
 ///
 /// A refusal names the first defect of the words, then of the files, in order. `ReadFault`, `WriteFault`
 /// and `SinkFault` come only where the store's or the sink's count of such faults rose. A run takes the devices

@@ -12,6 +12,7 @@ use crate::writing::write_files;
 use armlink_core::laws::image_sizes;
 use bin_image::OutFile;
 use link_model::Named;
+use scatter_text::reading_law;
 use sdt_fault::answer::{Answer, Fault};
 use sdt_fault::{Bytes, List, NoMemory};
 use sdt_outside::Store;
@@ -34,8 +35,9 @@ fn files_by(
     ensures short { IfOk result (λ files. All (λ f. length f.bytes < 2 ^ 32) files) }
 {
     image_sizes();
-    match image_of(alloc, &words.form, text, &words.ram, inputs.into_vec()) {
-        Ok(image) => files_of(alloc, &image, &words.output),
+    reading_law();
+    match image_of(alloc, &words.placement, text, &words.ram, inputs.into_vec()) {
+        Ok(image) => files_of(alloc, words.container, &image, &words.output),
         Err(fault) => Err(fault),
     }
 }
@@ -53,15 +55,15 @@ fn made<S: Store>(
     requires bounded { All (λ bytes. length bytes < 2 ^ 32) contents.now }
     ensures makes { Told (S.files store.old) (S.read_faults store.old) (S.read_faults store.new)
         result (λ s. LinkMakes s sources words.now contents.now)
-        (λ s. IsGot s.told sources words.now.names (inputs_in words.now.form contents.now)) }
+        (λ s. IsGot s.told sources words.now.names (inputs_in words.now.placement contents.now)) }
     ensures short { IfOk result (λ files. All (λ f. length f.bytes < 2 ^ 32) files) }
     ensures files { S.files store.new ≡ S.files store.old }
     ensures read_faults { S.read_faults store.old ≤ S.read_faults store.new }
     ensures write_faults { S.write_faults store.new ≡ S.write_faults store.old }
 {
-    let under_names = inputs_in(&words.form, contents);
+    let under_names = inputs_in(&words.placement, contents);
     match inputs_of(alloc, store, sources, words.names.as_slice(), under_names) {
-        Ok(inputs) => files_by(alloc, words, text_in(&words.form, contents), inputs),
+        Ok(inputs) => files_by(alloc, words, text_in(&words.placement, contents), inputs),
         Err(fault) => Err(fault),
     }
 }

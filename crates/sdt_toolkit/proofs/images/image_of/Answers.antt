@@ -1,4 +1,6 @@
-use Rattle.sdt_toolkit.proofs.ImageLemmas.{aif_image, plain_image, scatter_image, sound_inputs}
+use Rattle.tool_words.specs.declared.command.LinkPlacement.TheVariants as placement
+use Rattle.sdt_toolkit.specs.Inputs.{archives_among, objects_among}
+use Rattle.sdt_toolkit.proofs.ImageLemmas.{as_plain, sound_inputs, told_image}
 use Rattle.sdt_toolkit.proofs.InputLemmas.{valid_archives, valid_objects}
 use Rattle.sdt_toolkit.proofs.images.image_of.Goals as goal
 
@@ -25,23 +27,24 @@ returns-in-Aif c =
     let exact = rw (c.in_ok-parts.ensures.objects, c.in_ok-parts.ensures.archives) at c.aif_image.ensures in
     let objects = rw (c.as_slice.ensures.value, c.in_ok-parts.ensures.objects) at c.objects_fit.ensures in
     let archives = rw (c.as_slice-2.ensures.value, c.in_ok-parts.ensures.archives) at c.archives_fit.ensures in
-    let whole = rw c.in-Aif.is at c.requires.form in
-    rw c.in-Aif.is (aif_image c.images_start.ensures.aif c.args.inputs.items c.in-Aif.base c.in-Aif.relocatable c.args.text.now c.args.ram.now c.aif_image.result whole
-    (sound_inputs c.args.inputs.items c.requires.inputs objects archives) exact)
+    let whole = rw c.in-Aif.is at c.requires.based in
+    rw c.in-Aif.is (told_image c.images_start.ensures c.args.text.now c.args.ram.now (placement.Aif c.in-Aif.base c.in-Aif.relocatable) c.args.inputs.items whole
+    (sound_inputs c.args.inputs.items c.requires.inputs objects archives) c.aif_image.result exact)
 
 pub returns-in-Plain : goal.returns-in-Plain
 returns-in-Plain c =
     let exact = rw (c.in_ok-parts.ensures.objects, c.in_ok-parts.ensures.archives) at c.link_plain.ensures.exact in
     let objects = rw (c.as_slice.ensures.value, c.in_ok-parts.ensures.objects) at c.objects_fit.ensures in
     let archives = rw (c.as_slice-2.ensures.value, c.in_ok-parts.ensures.archives) at c.archives_fit.ensures in
-    let whole = rw c.in-Plain.is at c.requires.form in
-    rw c.in-Plain.is (plain_image c.images_start.ensures.plain c.args.inputs.items c.in-Plain.base c.args.text.now c.args.ram.now c.link_plain.result whole
-    (sound_inputs c.args.inputs.items c.requires.inputs objects archives) exact)
+    let whole = rw c.in-Plain.is at c.requires.based in
+    rw c.in-Plain.is (told_image c.images_start.ensures c.args.text.now c.args.ram.now (placement.Plain c.in-Plain.base) c.args.inputs.items whole
+    (sound_inputs c.args.inputs.items c.requires.inputs objects archives) c.link_plain.result
+    (as_plain (objects_among c.args.inputs.items) (archives_among c.args.inputs.items) c.in-Plain.base c.link_plain.result exact))
 
 pub returns-in-Scatter : goal.returns-in-Scatter
 returns-in-Scatter c =
     let exact = rw (c.in_ok-parts.ensures.objects, c.in_ok-parts.ensures.archives) at c.scatter_image.ensures in
     let objects = rw (c.as_slice.ensures.value, c.in_ok-parts.ensures.objects) at c.objects_fit.ensures in
     let archives = rw (c.as_slice-2.ensures.value, c.in_ok-parts.ensures.archives) at c.archives_fit.ensures in
-    rw c.in-Scatter.is (scatter_image c.images_start.ensures.scatter c.args.inputs.items c.in-Scatter.file c.args.text.now c.args.ram.now c.scatter_image.result
-    (sound_inputs c.args.inputs.items c.requires.inputs objects archives) exact)
+    rw c.in-Scatter.is (told_image c.images_start.ensures c.args.text.now c.args.ram.now (placement.Scatter c.in-Scatter.file) c.args.inputs.items tt
+    (sound_inputs c.args.inputs.items c.requires.inputs objects archives) c.scatter_image.result exact)

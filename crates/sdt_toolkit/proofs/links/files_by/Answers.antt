@@ -5,7 +5,8 @@ use Rattle.sdt_toolkit.proofs.links.files_by.Goals as goal
 pub files_of-requires : goal.files_of-requires
 files_of-requires c =
     let is = rw c.into_vec.ensures at c.in-Ok.ensures in
-    image_writable c.image_sizes.ensures.linked c.image_sizes.ensures.scattered c.args.words.now.form c.args.text.now c.args.words.now.ram c.args.inputs c.in-Ok.image is
+    image_writable c.image_sizes.ensures.linked c.image_sizes.ensures.scattered c.reading_law.ensures c.args.words.now.placement c.args.words.now.container c.args.text.now c.args.words.now.ram
+    c.args.inputs c.in-Ok.image c.requires.good.written is
 
 pub returns-in-Ok-clause-makes : goal.returns-in-Ok-clause-makes
 returns-in-Ok-clause-makes c =

@@ -4,11 +4,11 @@ use Rattle.sdt_toolkit.proofs.links.made.Goals as goal
 
 pub inputs_of-requires-clause-few : goal.inputs_of-requires-clause-few
 inputs_of-requires-clause-few g c =
-    rw (c.inputs_in-under_names.ensures, c.as_slice.ensures) (inputs_count c.args.words.now.form c.args.words.now.names c.args.contents.now c.requires.few)
+    rw (c.inputs_in-under_names.ensures, c.as_slice.ensures) (inputs_count c.args.words.now.placement c.args.words.now.names c.args.contents.now c.requires.few)
 
 pub inputs_of-requires-clause-bounded : goal.inputs_of-requires-clause-bounded
 inputs_of-requires-clause-bounded g c =
-    rw c.inputs_in-under_names.ensures (inputs_short c.args.words.now.form c.args.contents.now c.requires.bounded)
+    rw c.inputs_in-under_names.ensures (inputs_short c.args.words.now.placement c.args.contents.now c.requires.bounded)
 
 pub returns-in-Ok-clause-makes : goal.returns-in-Ok-clause-makes
 unfolding Told

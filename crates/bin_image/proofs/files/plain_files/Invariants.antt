@@ -1,6 +1,0 @@
-use Rattle.std.proofs.Common.{◌≡◌, take, map}
-use Rattle.bin_image.specs.Files.{plain_file}
-use Rattle.bin_image.proofs.files.plain_files.Given as goal
-
-abbrev pub invariant-loop-load : goal.invariant-loop-load
-invariant-loop-load l = l.files.items ≡ map (plain_file l.out) (take l.load-index l.loads)

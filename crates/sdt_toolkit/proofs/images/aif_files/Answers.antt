@@ -1,5 +1,0 @@
-use Rattle.sdt_toolkit.proofs.ImageLemmas.{sized}
-use Rattle.sdt_toolkit.proofs.images.aif_files.Goals as goal
-
-pub make_aif-requires : goal.make_aif-requires
-make_aif-requires c = sized c.args.image.now.regions c.requires.sized
