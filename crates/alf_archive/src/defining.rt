@@ -16,7 +16,7 @@ use std::alloc::Global;
 fn exports(symbol: &Symbol, name: &Text) -> bool
     ensures { result ≡ (is_exported symbol.now.attributes && bytes_eq symbol.now.name name.now) }
 {
-    if symbol.attributes % 4 == 3 {
+    if symbol.flags().is_exported() {
         symbol.name == *name
     } else {
         false

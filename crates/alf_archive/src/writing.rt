@@ -91,7 +91,7 @@ fn push_symbol(
 ) -> Result<(), NoMemory>
     ensures { OnOk result (out.new.items ≡ out.old.items ++ symbol_entries index (symbol.now ∷ [])) }
 {
-    if symbol.attributes % 4 == 3 {
+    if symbol.flags().is_exported() {
         push_name(alloc, out, index, &symbol.name)?;
     }
     Ok(())

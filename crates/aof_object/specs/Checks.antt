@@ -9,6 +9,7 @@ use Rattle.sdt_fault.specs.declared.kinds.FileKind.TheVariants.{Repeated, Attrib
 use Rattle.aof_object.specs.declared.checks.Flaw.{Flaw}
 use Rattle.aof_object.specs.declared.checks.Home.{Home}
 use Rattle.aof_object.specs.declared.checks.Home.TheVariants.{Unknown, Nowhere, Within}
+unfoldable pub use Rattle.aof_object.specs.Flags.{is_exported, is_placed}
 
 abbrev pub flaw : ℕ → FileKind → Option Flaw
 flaw place kind = Some (record { place = place; kind = kind })
@@ -51,13 +52,6 @@ reloc_flaw areas symbols word =
     else flaw 4 Type1
 
 -- ---- symbols
-
--- exported: bits 0 and 1; placed: a definition (0) that isn't absolute (2)
-abbrev pub is_exported : ℕ → Bool
-is_exported a = a % 4 == 3
-
-abbrev pub is_placed : ℕ → Bool
-is_placed a = if bit a 0 == 1 then bit a 2 == 0 else false
 
 -- the bits of a symbol's attributes that are refused, as a sum
 abbrev pub refused_symbol_bits : ℕ → ℕ

@@ -1,4 +1,6 @@
 pub mod Names
+pub mod Relocations
+pub mod Flags
 pub mod Checks
 pub mod Index
 pub mod Parts

@@ -12,6 +12,7 @@ ghost use Rattle.aof_object.specs.Objects.{judged, head_names, head_at, next_hea
 
 use crate::checks::{Flaw, judge_area, judge_reloc};
 use crate::faults::bad_object;
+use crate::flags::AreaFlags;
 use crate::index::note_name;
 use crate::records::{Area, Reloc};
 use crate::strings::read_name;
@@ -19,7 +20,7 @@ use indexmap::IndexMap;
 use sdt_fault::answer::Fault;
 use sdt_fault::kinds::FileKind;
 use sdt_fault::{Bytes, List, NoMemory, Text};
-use sdt_word::{field, word_at};
+use sdt_word::word_at;
 use std::alloc::Global;
 
 /// What OBJ_HEAD says of an area; `count` is the number of its relocations.
@@ -101,7 +102,7 @@ pub fn read_rows<'a>(
 pub fn stored_bytes(attributes: u32, size: u32) -> u32
     ensures { result ≡ stored attributes size }
 {
-    if field(attributes, 12, 1) == 1 {
+    if AreaFlags(attributes).is_zero_initialised() {
         0
     } else {
         size
@@ -140,14 +141,14 @@ fn read_reloc(
     requires place { at + 8 < 2 ^ 32 }
     ensures { Gives result (reloc_at areas symbols at row.now) }
 {
-    let word = word_at(row, 4);
-    if let Some(flaw) = judge_reloc(areas, symbols, word) {
+    let reloc = Reloc {
+        offset: word_at(row, 0),
+        word: word_at(row, 4),
+    };
+    if let Some(flaw) = judge_reloc(areas, symbols, reloc) {
         return Err(fault_of(alloc, at, flaw));
     }
-    Ok(Reloc {
-        offset: word_at(row, 0),
-        word,
-    })
+    Ok(reloc)
 }
 
 fn read_relocs(

@@ -1,8 +1,10 @@
 //! The checks on one row of each table, in their order.
 
 ghost use Rattle.std.specs.Prelude.{◌≡◌, ◌≤◌, IfSome};
-ghost use Rattle.aof_object.specs.Checks.{flaw, refused_area_bits, misplaced, area_flaw, named_by, reloc_flaw, is_exported, is_placed, refused_symbol_bits, home_flaw, symbol_flaw, left_over, entry_flaw};
+ghost use Rattle.aof_object.specs.Checks.{flaw, refused_area_bits, misplaced, area_flaw, named_by, reloc_flaw, refused_symbol_bits, home_flaw, symbol_flaw, left_over, entry_flaw};
 
+use crate::flags::{AreaFlags, SymbolFlags};
+use crate::records::Reloc;
 use sdt_fault::kinds::FileKind;
 use sdt_word::field;
 
@@ -24,28 +26,11 @@ pub enum Home {
     Within(u32),
 }
 
-/// Whether a symbol's attributes say that it is exported.
-pub fn exports(attributes: u32) -> bool
-    ensures { result ≡ is_exported attributes }
-{
-    attributes % 4 == 3
-}
-
-fn is_definition_in_area(attributes: u32) -> bool
-    ensures { result ≡ is_placed attributes }
-{
-    if field(attributes, 0, 1) == 1 {
-        field(attributes, 2, 1) == 0
-    } else {
-        false
-    }
-}
-
 fn refused_bits_of_area(a: u32) -> u32
     ensures { result ≡ refused_area_bits a }
 {
     let always = field(a, 8, 1) + field(a, 10, 1) + field(a, 11, 1) + field(a, 15, 1);
-    if field(a, 9, 1) == 1 {
+    if AreaFlags(a).is_code() {
         always
     } else {
         always + field(a, 20, 8)
@@ -55,7 +40,7 @@ fn refused_bits_of_area(a: u32) -> u32
 fn misplaced_relocs(attributes: u32, count: u32) -> u32
     ensures { result ≡ misplaced attributes count }
 {
-    if field(attributes, 12, 1) == 1 {
+    if AreaFlags(attributes).is_zero_initialised() {
         count
     } else {
         0
@@ -80,10 +65,11 @@ pub fn judge_area(repeated: bool, attributes: u32, size: u32, count: u32, base: 
     if refused_bits_of_area(attributes) != 0 {
         return flaw_at(4, FileKind::Attribute);
     }
-    if attributes % 256 < 2 {
+    let alignment = AreaFlags(attributes).alignment();
+    if alignment < 2 {
         return flaw_at(4, FileKind::Alignment);
     }
-    if attributes % 256 > 16 {
+    if alignment > 16 {
         return flaw_at(4, FileKind::Alignment);
     }
     if size % 4 != 0 {
@@ -101,26 +87,22 @@ pub fn judge_area(repeated: bool, attributes: u32, size: u32, count: u32, base: 
     None
 }
 
-fn named_by_word(areas: usize, symbols: usize, word: u32) -> usize
-    ensures { result ≡ named_by areas symbols word }
+fn count_named(areas: usize, symbols: usize, reloc: Reloc) -> usize
+    ensures { result ≡ named_by areas symbols reloc.word }
 {
-    if field(word, 27, 1) == 1 {
-        symbols
-    } else {
-        areas
-    }
+    if reloc.is_by_symbol() { symbols } else { areas }
 }
 
 /// The row of a relocation: offset, word.
 #[tactic(auto, unfolding(crate::specs::Checks::reloc_flaw))]
-pub fn judge_reloc(areas: usize, symbols: usize, word: u32) -> Option<Flaw>
-    ensures exact { result ≡ reloc_flaw areas symbols word }
+pub fn judge_reloc(areas: usize, symbols: usize, reloc: Reloc) -> Option<Flaw>
+    ensures exact { result ≡ reloc_flaw areas symbols reloc.word }
     ensures place { IfSome result (λ f. f.place ≤ 4) }
 {
-    if field(word, 31, 1) != 1 {
+    if field(reloc.word, 31, 1) != 1 {
         return flaw_at(4, FileKind::Type1);
     }
-    if ((word % (1 << 24)) as usize) < named_by_word(areas, symbols, word) {
+    if (reloc.number() as usize) < count_named(areas, symbols, reloc) {
         return None;
     }
     flaw_at(4, FileKind::Index)
@@ -167,13 +149,13 @@ pub fn judge_symbol(repeated: bool, attributes: u32, value: u32, home: Home) -> 
     if attributes % 4 == 0 {
         return flaw_at(4, FileKind::Attribute);
     }
-    judge_home(is_definition_in_area(attributes), value, home)
+    judge_home(SymbolFlags(attributes).is_placed(), value, home)
 }
 
 fn left_over_at(attributes: u32, offset: u32) -> u32
     ensures { result ≡ left_over attributes offset }
 {
-    if field(attributes, 20, 1) == 1 {
+    if AreaFlags(attributes).is_thumb() {
         offset % 2
     } else {
         offset % 4

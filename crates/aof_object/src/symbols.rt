@@ -9,8 +9,9 @@ ghost use Rattle.aof_object.specs.Checks.{is_exported};
 ghost use Rattle.aof_object.specs.Objects.{head_names, within, told_number, told, symbol_at, next_symbol};
 
 use crate::areas::{AreaHead, fault_of};
-use crate::checks::{Home, exports, judge_symbol};
+use crate::checks::{Home, judge_symbol};
 use crate::faults::bad_object;
+use crate::flags::SymbolFlags;
 use crate::index::{find_name, note_name};
 use crate::records::Symbol;
 use crate::strings::read_name;
@@ -78,7 +79,7 @@ pub fn note_exported<'a>(
     ensures repeated { IfOk result (λ repeated. repeated ≡ (is_exported attributes && is_some (number_in taken.old name.now))) }
     ensures noted { OnOk result ((q : Items ℕ) → is_some (number_in taken.new q) ≡ (is_some (number_in taken.old q) || (is_exported attributes && bytes_eq name.now q))) }
 {
-    if exports(attributes) {
+    if SymbolFlags(attributes).is_exported() {
         return Ok(note_name(taken, name, 0)?.is_some());
     }
     Ok(false)

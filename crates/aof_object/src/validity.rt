@@ -28,7 +28,7 @@ fn relocs_pass(areas: usize, symbols: usize, relocs: &[Reloc]) -> bool
     ensures { result ≡ all_pass (reloc_ok areas symbols) [] relocs.now }
 {
     for reloc in relocs {
-        if judge_reloc(areas, symbols, reloc.word).is_some() {
+        if judge_reloc(areas, symbols, *reloc).is_some() {
             return false;
         }
     }

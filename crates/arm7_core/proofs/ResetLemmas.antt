@@ -1,9 +1,9 @@
--- The registers after reset are those of a valid state.
-use Rattle.std.proofs.Common.{◌≡◌, ◌≢◌, ℕ, zero, suc, ◌^◌, ◌<◌, true, false, List, [], ◌∷◌, ◌++◌, length, refl, subst, sym, ap, arith}
-use Rattle.std.specs.Prelude.{slice_index}
+-- The registers after reset are those of a valid state, in ARM and in Thumb state.
+use Rattle.std.proofs.Common.{◌≡◌, ◌≢◌, ℕ, zero, suc, ◌^◌, ◌%◌, ◌<◌, Bool, true, false, List, [], ◌∷◌, ◌++◌, length, refl, subst, sym, ap, arith}
+use Rattle.std.specs.Prelude.{IsTrue, slice_index}
 use Rattle.arm7_model.specs.declared.state.ArmState.{ArmState}
 use Rattle.arm7_model.specs.Registers.{AreWords, IsStatus, IsValid, bank_in, has_mode, is_thumb, mode_in, mode_named, register}
-use Rattle.arm7_core.specs.Resets.{IsReset}
+use Rattle.arm7_core.specs.Resets.{IsReset, reset_status}
 
 abbrev AllZero : List ℕ → Type 0
 AllZero [] = Unit {0}
@@ -36,42 +36,59 @@ words xs n e h = record { count = e; each = λ k. word-at xs k h }
 none : IsStatus 0
 none = record { is_word = omega arith; reserved = refl }
 
-abbrev state : ℕ → ArmState
-state pc = record {
+-- ---- the status, in each state
+
+moded : (thumb : Bool) → has_mode (reset_status thumb) ≡ true
+unfolding has_mode mode_in mode_named
+moded true = refl
+moded false = refl
+
+fit : (thumb : Bool) → IsStatus (reset_status thumb)
+fit true = record { is_word = omega arith; reserved = refl }
+fit false = record { is_word = omega arith; reserved = refl }
+
+even : (thumb : Bool) (pc : ℕ) → (IsTrue thumb → pc % 2 ≡ 0) → is_thumb (reset_status thumb) ≡ true → pc % 2 ≡ 0
+unfolding is_thumb
+even true pc h e = h refl
+even false pc h e = absurd (let never : false ≡ true = e in cc)
+
+-- ---- the registers
+
+abbrev state : ℕ → Bool → ArmState
+state pc thumb = record {
   r = 0 ∷ 0 ∷ 0 ∷ 0 ∷ 0 ∷ 0 ∷ 0 ∷ 0 ∷ 0 ∷ 0 ∷ 0 ∷ 0 ∷ 0 ∷ 0 ∷ 0 ∷ pc ∷ [];
   banks = record { high = 0 ∷ 0 ∷ 0 ∷ 0 ∷ 0 ∷ []; r13 = 0 ∷ 0 ∷ 0 ∷ 0 ∷ 0 ∷ 0 ∷ []; r14 = 0 ∷ 0 ∷ 0 ∷ 0 ∷ 0 ∷ 0 ∷ [] };
-  cpsr = 211;
+  cpsr = reset_status thumb;
   spsr = 0 ∷ 0 ∷ 0 ∷ 0 ∷ 0 ∷ [];
 }
 
-valid : (pc : ℕ) → pc < 2 ^ 32 → IsValid (state pc)
-unfolding bank_in mode_in mode_named has_mode is_thumb
-valid pc small = record {
-  visible = words (state pc).r 16 refl (omega arith, (omega arith, (omega arith, (omega arith, (omega arith, (omega arith, (omega arith, (omega arith, (omega arith, (omega arith, (omega arith, (omega arith, (omega arith, (omega arith, (omega arith, (small, tt))))))))))))))));
-  high = words (state pc).banks.high 5 refl (omega arith, (omega arith, (omega arith, (omega arith, (omega arith, tt)))));
-  r13 = words (state pc).banks.r13 6 refl (omega arith, (omega arith, (omega arith, (omega arith, (omega arith, (omega arith, tt))))));
-  r14 = words (state pc).banks.r14 6 refl (omega arith, (omega arith, (omega arith, (omega arith, (omega arith, (omega arith, tt))))));
-  no_r13 = refl;
-  no_r14 = refl;
-  mode = refl;
-  status = record { is_word = omega arith; reserved = refl };
-  saved_count = refl;
-  saved_status = λ k. subst (λ (v : ℕ). IsStatus v) (sym (zero-at (state pc).spsr k (refl, (refl, (refl, (refl, (refl, tt))))))) none;
-  even = λ e. absurd (never e);
-}
-  where
-    never : false ≡ true → ⊥
-    never e = cc
+zeros : AllZero (0 ∷ 0 ∷ 0 ∷ 0 ∷ 0 ∷ 0 ∷ [])
+zeros = (refl, (refl, (refl, (refl, (refl, (refl, tt))))))
 
-pub reset_state : (pc : ℕ) → pc < 2 ^ 32 → IsReset pc (state pc)
+valid : (pc : ℕ) (thumb : Bool) → pc < 2 ^ 32 → (IsTrue thumb → pc % 2 ≡ 0) → IsValid (state pc thumb)
+valid pc thumb small whole = record {
+  visible = words (state pc thumb).r 16 refl (omega arith, (omega arith, (omega arith, (omega arith, (omega arith, (omega arith, (omega arith, (omega arith, (omega arith, (omega arith, (omega arith, (omega arith, (omega arith, (omega arith, (omega arith, (small, tt))))))))))))))));
+  high = words (state pc thumb).banks.high 5 refl (omega arith, (omega arith, (omega arith, (omega arith, (omega arith, tt)))));
+  r13 = words (state pc thumb).banks.r13 6 refl (omega arith, (omega arith, (omega arith, (omega arith, (omega arith, (omega arith, tt))))));
+  r14 = words (state pc thumb).banks.r14 6 refl (omega arith, (omega arith, (omega arith, (omega arith, (omega arith, (omega arith, tt))))));
+  no_r13 = zero-at (state pc thumb).banks.r13 (bank_in (reset_status thumb)) zeros;
+  no_r14 = zero-at (state pc thumb).banks.r14 (bank_in (reset_status thumb)) zeros;
+  mode = moded thumb;
+  status = fit thumb;
+  saved_count = refl;
+  saved_status = λ k. subst (λ (v : ℕ). IsStatus v) (sym (zero-at (state pc thumb).spsr k (refl, (refl, (refl, (refl, (refl, tt))))))) none;
+  even = even thumb pc whole;
+}
+
+pub reset_state : (pc : ℕ) (thumb : Bool) → pc < 2 ^ 32 → (IsTrue thumb → pc % 2 ≡ 0) → IsReset pc thumb (state pc thumb)
 unfolding register
-reset_state pc small = record {
+reset_state pc thumb small whole = record {
   status = refl;
   address = refl;
   others = λ k n. front-at (0 ∷ 0 ∷ 0 ∷ 0 ∷ 0 ∷ 0 ∷ 0 ∷ 0 ∷ 0 ∷ 0 ∷ 0 ∷ 0 ∷ 0 ∷ 0 ∷ 0 ∷ []) pc k (refl, (refl, (refl, (refl, (refl, (refl, (refl, (refl, (refl, (refl, (refl, (refl, (refl, (refl, (refl, tt))))))))))))))) n;
-  high = λ k. zero-at (state pc).banks.high k (refl, (refl, (refl, (refl, (refl, tt)))));
-  r13 = λ k. zero-at (state pc).banks.r13 k (refl, (refl, (refl, (refl, (refl, (refl, tt))))));
-  r14 = λ k. zero-at (state pc).banks.r14 k (refl, (refl, (refl, (refl, (refl, (refl, tt))))));
-  saved = λ k. zero-at (state pc).spsr k (refl, (refl, (refl, (refl, (refl, tt)))));
-  valid = valid pc small;
+  high = λ k. zero-at (state pc thumb).banks.high k (refl, (refl, (refl, (refl, (refl, tt)))));
+  r13 = λ k. zero-at (state pc thumb).banks.r13 k zeros;
+  r14 = λ k. zero-at (state pc thumb).banks.r14 k zeros;
+  saved = λ k. zero-at (state pc thumb).spsr k (refl, (refl, (refl, (refl, (refl, tt)))));
+  valid = valid pc thumb small whole;
 }

@@ -1,10 +1,11 @@
 //! The machine.
 
-ghost use Rattle.std.specs.Prelude.{◌≡◌};
+ghost use Rattle.std.specs.Prelude.{◌≡◌, ◌%◌, IsTrue};
 ghost use Rattle.arm7_model.specs.Registers.{IsValid};
 ghost use Rattle.arm7_transfers.specs.Ready.{IsReady};
 ghost use Rattle.arm7_transfers.specs.Views.{state_of};
 ghost use Rattle.arm7_core.specs.Machines.{IsStep};
+ghost use Rattle.arm7_core.specs.Resets.{reset_status};
 
 use crate::step::step_state;
 use arm7_bus::Bus;
@@ -17,12 +18,20 @@ pub struct Machine {
     pub state: ArmState,
 }
 
+fn reset_status(thumb: bool) -> u32
+    ensures { result ≡ reset_status thumb }
+{
+    if thumb { 0xF3 } else { 0xD3 }
+}
+
 impl Machine {
     ghost use Rattle.arm7_core.specs.Resets.{IsReset};
 
-    /// The machine after reset, at this address: supervisor mode, ARM state, interrupts masked, all other registers 0.
-    pub fn reset(pc: u32) -> Machine
-        ensures { IsReset pc result.state }
+    /// The machine after reset, at this address and in this state: supervisor mode, interrupts masked, all other
+    /// registers 0.
+    pub fn reset(pc: u32, thumb: bool) -> Machine
+        requires { IsTrue thumb → pc % 2 ≡ 0 }
+        ensures { IsReset pc thumb result.state }
     {
         let mut r = [0; 16];
         r[15] = pc;
@@ -35,7 +44,7 @@ impl Machine {
             state: ArmState {
                 r,
                 banks,
-                cpsr: 0xD3,
+                cpsr: reset_status(thumb),
                 spsr: [0; 5],
             },
         }

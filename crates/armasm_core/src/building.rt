@@ -10,7 +10,7 @@ ghost use Rattle.armasm_core.specs.Pools.{BeginsWith, HoldPools, PoolsCanStand, 
 
 use crate::pools::put_words;
 use crate::{AreaBuilder, Whole};
-use aof_object::Area;
+use aof_object::{Area, AreaFlags};
 use asm_layout::LaidArea;
 use asm_names::Place;
 use asm_units::{Emitted, Symbols};
@@ -32,7 +32,7 @@ pub struct Growing {
 fn kept_size(attributes: u32, size: u32) -> u32
     ensures { result ≡ building.kept_size attributes size }
 {
-    if attributes / 0x1000 % 2 == 1 {
+    if AreaFlags(attributes).is_zero_initialised() {
         return 0;
     }
     size

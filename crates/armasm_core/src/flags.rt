@@ -11,17 +11,11 @@ ghost use Rattle.asm_units.specs.Recording.{Shows};
 ghost use Rattle.armasm_core.specs.Gathering.{IsCode, marks_code};
 
 use crate::whole::Whole;
+use aof_object::AreaFlags;
 use asm_layout::{LaidArea, Layout};
 use asm_units::SymbolFlags;
 use sdt_fault::NoMemory;
 use std::alloc::Global;
-
-/// Whether attributes have the bit of code.
-fn is_code(attributes: u32) -> bool
-    ensures { result ≡ marks_code attributes }
-{
-    attributes / 0x200 % 2 == 1
-}
 
 /// Of each area whether it holds code.
 fn codes_of(alloc: Global, areas: &[LaidArea]) -> Result<Vec<bool>, NoMemory>
@@ -30,7 +24,7 @@ fn codes_of(alloc: Global, areas: &[LaidArea]) -> Result<Vec<bool>, NoMemory>
 {
     let mut code = Vec::new(alloc);
     'areas: for area in areas {
-        code.push(is_code(area.attributes))?;
+        code.push(AreaFlags(area.attributes).is_code())?;
     }
     Ok(code)
 }

@@ -17,31 +17,14 @@ use sdt_fault::{NoMemory, Text};
 use std::alloc::Global;
 use std::collections::BTreeMap;
 
-/// A word relocated by an area.
-const AREA_WORD: u32 = 0x8200_0000;
-
-/// A word relocated by a symbol.
-const SYMBOL_WORD: u32 = 0x8A00_0000;
-
-/// A branch relocated by a symbol, relative to its place.
-const SYMBOL_BRANCH: u32 = 0x8F00_0000;
-
 /// The number of a symbol that is listed.
 fn number_of(symbols: &Symbols, name: &Text) -> u32
-    requires { IsListed symbols.now name.now }
-    ensures { result ≡ place_of name.now symbols.now }
-{
-    symbols.number_of(name).unwrap()
-}
-
-/// One that is relocated by a symbol; its word has room for 24 bits of the symbol's number.
-fn by_symbol(bits: u32, symbols: &Symbols, name: &Text) -> u32
-    requires room { bits ≤ 0xFF000000 }
     requires few { length symbols.now < 2 ^ 24 }
     requires listed { IsListed symbols.now name.now }
-    ensures { result ≡ bits + place_of name.now symbols.now }
+    ensures number { result ≡ place_of name.now symbols.now }
+    ensures below { result < 2 ^ 24 }
 {
-    bits + number_of(symbols, name)
+    symbols.number_of(name).unwrap()
 }
 
 fn word_relocation(symbols: &Symbols, target: &Target) -> Option<u32>
@@ -51,8 +34,8 @@ fn word_relocation(symbols: &Symbols, target: &Target) -> Option<u32>
 {
     match target {
         Target::Nothing => None,
-        Target::Area(area) => Some(AREA_WORD + *area),
-        Target::Symbol(name) => Some(by_symbol(SYMBOL_WORD, symbols, name)),
+        Target::Area(area) => Some(Reloc::word_by_area(0, *area).word),
+        Target::Symbol(name) => Some(Reloc::word_by_symbol(0, number_of(symbols, name)).word),
     }
 }
 
@@ -63,7 +46,7 @@ fn branch_relocation(symbols: &Symbols, symbol: Option<&Text>) -> Option<u32>
 {
     match symbol {
         None => None,
-        Some(name) => Some(by_symbol(SYMBOL_BRANCH, symbols, name)),
+        Some(name) => Some(Reloc::branch_by_symbol(0, number_of(symbols, name)).word),
     }
 }
 

@@ -1,12 +1,13 @@
 //! The areas of a source by its lines so far: their names and their attributes.
 
-ghost use Rattle.std.specs.Prelude.{◌≡◌, ◌≤◌, ◌++◌, ◌*◌, [], ◌∷◌, List, length, OnOk};
-ghost use Rattle.sdt_word.specs.Numbers.{flag as flag_of};
+ghost use Rattle.std.specs.Prelude.{◌≡◌, ◌≤◌, ◌++◌, [], ◌∷◌, List, length, OnOk};
+ghost use Rattle.aof_object.specs.Flags.{area_word};
 ghost use Rattle.asm_model.specs.declared.statements.Statement.{Statement};
 ghost use Rattle.asm_model.specs.Laid.{LaidLine};
 ghost use Rattle.source_model.specs.Objects as objects;
 ghost use Rattle.asm_areas.specs.Starts.{begun, is_next, with_area, AreStarts, IsLineOf, IsSmall};
 
+use aof_object::AreaParts;
 use asm_model::{AreaAttributes, Contents, DirectiveLine, What};
 use sdt_fault::kinds::LineKind;
 use sdt_fault::{NoMemory, Text};
@@ -37,23 +38,6 @@ impl Model for Starts {
     ghost view = { λ s. s.areas.items };
 }
 
-fn contents_bits(contents: Contents) -> u32
-    ensures { result ≡ objects.contents_bits contents }
-{
-    match contents {
-        Contents::Code => 0x200,
-        Contents::Data => 0,
-        Contents::Zeroes => 0x1000,
-    }
-}
-
-/// A bit of the attributes.
-fn bit(holds: bool, value: u32) -> u32
-    ensures { result ≡ flag_of holds * value }
-{
-    if holds { value } else { 0 }
-}
-
 /// An exponent that isn't known, or above 16, is a fault of the line; it counts as 2.
 fn or_two(exponent: Result<u32, LineKind>) -> u32
     ensures two { IsSmall exponent → result ≡ objects.or_two exponent }
@@ -72,18 +56,50 @@ fn small_or_two(exponent: u32) -> u32
     if exponent > 16 { 2 } else { exponent }
 }
 
+/// The attributes of an area of code, of zeroes, or of neither.
+fn word_of(
+    attributes: &AreaAttributes,
+    exponent: u32,
+    thumb: bool,
+    code: bool,
+    zero_initialised: bool,
+) -> u32
+    requires { exponent ≤ 16 }
+    ensures { result ≡ area_word (record {
+      alignment = exponent;
+      code = code;
+      zero_initialised = zero_initialised;
+      read_only = attributes.now.read_only;
+      position_independent = attributes.now.pic;
+      reentrant = attributes.now.reentrant;
+      thumb = thumb;
+      halfword = attributes.now.halfword;
+      interworking = attributes.now.interwork;
+    }) }
+{
+    AreaParts {
+        alignment: exponent,
+        code,
+        zero_initialised,
+        read_only: attributes.read_only,
+        position_independent: attributes.pic,
+        reentrant: attributes.reentrant,
+        thumb,
+        halfword: attributes.halfword,
+        interworking: attributes.interwork,
+    }
+    .word()
+}
+
 fn attributes_word(attributes: &AreaAttributes, exponent: u32, thumb: bool) -> u32
     requires { exponent ≤ 16 }
     ensures { result ≡ objects.attributes_word attributes.now exponent thumb }
 {
-    exponent
-        + contents_bits(attributes.contents)
-        + bit(attributes.read_only, 0x2000)
-        + bit(attributes.pic, 0x4000)
-        + bit(attributes.reentrant, 0x2_0000)
-        + bit(thumb, 0x10_0000)
-        + bit(attributes.halfword, 0x20_0000)
-        + bit(attributes.interwork, 0x40_0000)
+    match attributes.contents {
+        Contents::Code => word_of(attributes, exponent, thumb, true, false),
+        Contents::Data => word_of(attributes, exponent, thumb, false, false),
+        Contents::Zeroes => word_of(attributes, exponent, thumb, false, true),
+    }
 }
 
 impl Starts {

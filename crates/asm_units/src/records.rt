@@ -1,8 +1,9 @@
 //! The records of symbols.
 
-ghost use Rattle.std.specs.Prelude.{◌≡◌, ◌+◌, ◌*◌, ◌≤◌, ◌&&◌, ◌^◌, false, get_or, IfOk, if◌then◌else◌};
+ghost use Rattle.std.specs.Prelude.{◌≡◌, ◌+◌, ◌*◌, ◌&&◌, ◌^◌, false, get_or, IfOk};
 ghost use Rattle.std.specs.List.{list_any};
 ghost use Rattle.sdt_word.specs.Numbers.{flag as flag_of};
+ghost use Rattle.aof_object.specs.Flags.{scope_bits};
 ghost use Rattle.asm_model.specs.Meaning as meaning;
 ghost use Rattle.asm_model.specs.Forms.{same};
 ghost use Rattle.source_model.specs.Contexts.{sees};
@@ -11,7 +12,7 @@ ghost use Rattle.source_model.specs.Objects.{Source};
 ghost use Rattle.asm_units.specs.Recording.{Shows};
 
 use crate::named::{is_thumb, stands_at, value_named};
-use aof_object::Symbol;
+use aof_object::{Scope, Symbol, SymbolParts};
 use asm_model::Value;
 use asm_names::KnownNames;
 use asm_sets::NameRefs;
@@ -34,32 +35,13 @@ pub struct SymbolFlags<'a> {
     pub code: &'a [bool],
 }
 
-/// The bits of a test that holds.
-fn bits(holds: bool, bits: u32) -> u32
-    ensures is { result ≡ flag_of holds * bits }
-    ensures below { result ≤ bits }
+fn scope(flags: &SymbolFlags<'_>, name: &Text) -> Scope
+    ensures { (s : Source) → Shows flags.now s → scope_bits result ≡ objects.scope s name.now }
 {
-    if holds {
-        return bits;
+    if flags.exported.has(name) {
+        return Scope::Exported;
     }
-    0
-}
-
-fn scope_by(exported: bool) -> u32
-    ensures is { result ≡ (if exported then 3 else 1) }
-    ensures below { result ≤ 3 }
-{
-    if exported {
-        return 3;
-    }
-    1
-}
-
-fn scope(flags: &SymbolFlags<'_>, name: &Text) -> u32
-    ensures is { (s : Source) → Shows flags.now s → result ≡ objects.scope s name.now }
-    ensures below { result ≤ 3 }
-{
-    scope_by(flags.exported.has(name))
+    Scope::Local
 }
 
 fn holds_code(code: &[bool], area: u32) -> bool
@@ -82,11 +64,45 @@ fn is_marked(flags: &SymbolFlags<'_>, label: &Text, area: u32) -> bool
     false
 }
 
-fn marks(flags: &SymbolFlags<'_>, label: &Text, area: u32) -> u32
-    ensures is { (s : Source) → Shows flags.now s → result ≡ objects.marks_of s label.now area }
-    ensures below { result ≤ 0x1100 }
+/// The attributes of a label in an area.
+fn label_word(flags: &SymbolFlags<'_>, name: &Text, label: &Text, area: u32) -> u32
+    ensures { (s : Source) → Shows flags.now s → result ≡ objects.scope s name.now + objects.marks_of s label.now area }
 {
-    bits(is_marked(flags, label, area), 0x100) + bits(is_thumb(flags.names, label), 0x1000)
+    SymbolParts {
+        scope: scope(flags, name),
+        absolute: false,
+        weak: false,
+        datum: is_marked(flags, label, area),
+        thumb: is_thumb(flags.names, label),
+    }
+    .word()
+}
+
+/// The attributes of a name that isn't defined.
+fn reference_word(weak: bool) -> u32
+    ensures { result ≡ 2 + flag_of weak * 2 ^ 4 }
+{
+    SymbolParts {
+        scope: Scope::Reference,
+        absolute: false,
+        weak,
+        datum: false,
+        thumb: false,
+    }
+    .word()
+}
+
+fn absolute_word(scope: Scope) -> u32
+    ensures { result ≡ scope_bits scope + 2 ^ 2 }
+{
+    SymbolParts {
+        scope,
+        absolute: true,
+        weak: false,
+        datum: false,
+        thumb: false,
+    }
+    .word()
 }
 
 /// Where a label stands.
@@ -110,7 +126,7 @@ fn undefined(alloc: Global, flags: &SymbolFlags<'_>, name: &Text) -> Result<Symb
     let name_copy = name.try_clone(alloc)?;
     Ok(Symbol {
         name: name_copy,
-        attributes: 2 + bits(flags.weak.has(name), 0x10),
+        attributes: reference_word(flags.weak.has(name)),
         value: 0,
         area: None,
     })
@@ -133,7 +149,7 @@ fn placed(
             let name_copy = name.try_clone(alloc)?;
             Ok(Symbol {
                 name: name_copy,
-                attributes: scope(flags, name) + marks(flags, label, area),
+                attributes: label_word(flags, name, label, area),
                 value: offset.wrapping_add(plus),
                 area: Some(area),
             })
@@ -173,7 +189,7 @@ fn absolute(
     let name_copy = name.try_clone(alloc)?;
     Ok(Symbol {
         name: name_copy,
-        attributes: scope(flags, name) + 4,
+        attributes: absolute_word(scope(flags, name)),
         value: number,
         area: None,
     })

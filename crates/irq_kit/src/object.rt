@@ -1,14 +1,15 @@
 //! The kit's object, word by word.
 
-ghost use Rattle.std.specs.Prelude.{◌≡◌, ◌%◌, IfOk};
+ghost use Rattle.std.specs.Prelude.{◌≡◌, ◌%◌, IfOk, if◌then◌else◌};
 ghost use Rattle.std.specs.List.{flat_map};
 ghost use Rattle.sdt_word.specs.Bytes.{bytes_of};
+ghost use Rattle.aof_object.specs.Flags.{scope_bits};
 ghost use Rattle.aof_object.specs.Validity.{IsValid};
 ghost use Rattle.irq_kit.specs.Kit as kit;
 ghost use Rattle.irq_kit.specs.Kit.{kit_of, kit_symbols, vectors_of, work_area};
 ghost use Rattle.irq_kit.specs.Transparent.{IsTransparent};
 
-use aof_object::{Area, Object, Reloc, Symbol};
+use aof_object::{Area, AreaParts, Object, Reloc, Scope, Symbol, SymbolParts};
 use kit_laws::runs_are_transparent;
 use sdt_fault::{Bytes, List, NoMemory, Text};
 use sdt_word::push_word;
@@ -57,15 +58,27 @@ fn vector_relocs(alloc: Global) -> Result<List<Reloc>, NoMemory>
     ensures { IfOk result (λ relocs. relocs ≡ kit.vector_relocs) }
 {
     let mut relocs = Vec::new(alloc);
-    relocs.push(Reloc {
-        offset: 0,
-        word: 0x8F00_0000,
-    })?;
-    relocs.push(Reloc {
-        offset: 0x48,
-        word: 0x8200_0001,
-    })?;
+    relocs.push(Reloc::branch_by_symbol(0, 0))?;
+    relocs.push(Reloc::word_by_area(0x48, 1))?;
     Ok(List::from_vec(relocs))
+}
+
+/// Words of code, read-only or, where `code` is false, zero-initialised.
+fn area_flags(code: bool) -> u32
+    ensures { result ≡ (if code then 0x2202 else 0x1002) }
+{
+    AreaParts {
+        alignment: 2,
+        code,
+        zero_initialised: !code,
+        read_only: code,
+        position_independent: false,
+        reentrant: false,
+        thumb: false,
+        halfword: false,
+        interworking: false,
+    }
+    .word()
 }
 
 fn vectors(alloc: Global, ack: u32) -> Result<Area, NoMemory>
@@ -73,7 +86,7 @@ fn vectors(alloc: Global, ack: u32) -> Result<Area, NoMemory>
 {
     Ok(Area {
         name: Text::from_slice(alloc, b"irq_vectors")?,
-        attributes: 0x2202,
+        attributes: area_flags(true),
         size: 0x50,
         bytes: word_bytes(alloc, &vector_words(ack))?,
         relocs: vector_relocs(alloc)?,
@@ -85,11 +98,24 @@ fn work(alloc: Global) -> Result<Area, NoMemory>
 {
     Ok(Area {
         name: Text::from_slice(alloc, b"irq_work")?,
-        attributes: 0x1002,
+        attributes: area_flags(false),
         size: 12,
         bytes: Bytes::from_vec(Vec::new(alloc)),
         relocs: List::from_vec(Vec::new(alloc)),
     })
+}
+
+fn symbol_flags(scope: Scope) -> u32
+    ensures { result ≡ scope_bits scope }
+{
+    SymbolParts {
+        scope,
+        absolute: false,
+        weak: false,
+        datum: false,
+        thumb: false,
+    }
+    .word()
 }
 
 fn symbols(alloc: Global) -> Result<List<Symbol>, NoMemory>
@@ -98,13 +124,13 @@ fn symbols(alloc: Global) -> Result<List<Symbol>, NoMemory>
     let mut symbols = Vec::new(alloc);
     symbols.push(Symbol {
         name: Text::from_slice(alloc, b"Boot$$Start")?,
-        attributes: 2,
+        attributes: symbol_flags(Scope::Reference),
         value: 0,
         area: None,
     })?;
     symbols.push(Symbol {
         name: Text::from_slice(alloc, b"irq_count")?,
-        attributes: 3,
+        attributes: symbol_flags(Scope::Exported),
         value: 8,
         area: Some(1),
     })?;

@@ -14,7 +14,7 @@ use Rattle.patch_model.specs.Patched.{IsOutside, IsPatched, AddsUp, first_symbol
 use Rattle.patch_model.proofs.PatchLemmas.{part_lt}
 use Rattle.link_model.specs.declared.placing.Placement.{Placement}
 use Rattle.link_apply.specs.Placed.{veneers_at}
-use Rattle.link_apply.specs.declared.flaws.Flaw.TheVariants.{Form}
+use Rattle.link_apply.specs.declared.flaws.Flaw.TheVariants.{Malformed}
 use Rattle.link_apply.specs.Flaws.{overlaps, is_of_itself, is_based, is_outside, has_bad_field, value_flaw, flaw_of}
 use Rattle.link_apply.specs.PatchedBytes.{patched_number, has_byte, byte_by, patched_from, patched_bytes}
 use Rattle.link_apply.specs.Laws.{AreBytes, PatchedLaw}
@@ -189,7 +189,7 @@ fit_law p values region base area a bytes fit = record {
 pub without_flaw : (p : Placement) (values : Values) (region base area : ℕ) (a : Area) (k : ℕ) (r : Reloc) → AreBytes a.bytes → slice_get a.relocs k ≡ Some r
     → flaw_of p values region base area a r ≡ None → IsFit p values region base area a r
 without_flaw p values region base area a k r bytes there sound =
-    let parts = none_of Form (has_bad_field area a r) (value_flaw p values region base a r (kind_of r) (directives a.relocs (field_of r))) sound in
+    let parts = none_of Malformed (has_bad_field area a r) (value_flaw p values region base a r (kind_of r) (directives a.relocs (field_of r))) sound in
     let old = part_lt a.bytes (size_of (field_of r).kind) (field_of r).place (good area a r parts.0).within bytes in
     record { form = parts.0; adds = adds_up p values region base a r (kind_of r) (directives a.relocs (field_of r)) parts.1 old }
 

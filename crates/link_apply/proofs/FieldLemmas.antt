@@ -13,7 +13,7 @@ use Rattle.patch_model.proofs.BranchLemmas.{branch_tested}
 use Rattle.link_model.specs.declared.placing.Placement.{Placement}
 use Rattle.link_apply.specs.Placed.{veneers_at, target_in}
 use Rattle.link_apply.specs.declared.flaws.Flaw.{Flaw}
-use Rattle.link_apply.specs.declared.flaws.Flaw.TheVariants.{Form, Sum, Distance}
+use Rattle.link_apply.specs.declared.flaws.Flaw.TheVariants.{Malformed, Overflow, OutOfReach}
 use Rattle.link_apply.specs.Flaws.{unit, is_odd, is_far, is_far_behind, has_bad_way, is_far_way, is_only, unless, narrow_flaw, veneer_of, lacks_veneer, goal_of, way_flaw, branch_flaw, value_flaw, has_bad_field}
 use Rattle.link_apply.specs.PatchedBytes.{with_span, turned, number_by, veneer_bytes}
 use Rattle.link_apply.specs.Laws.{VeneerLaw}
@@ -35,7 +35,7 @@ not_far t from to e =
 fits_narrow : (width sum : ℕ) → narrow_flaw width sum ≡ None → Fits width sum
 fits_narrow width sum e = by_test (nat_lt sum (2 ^ width) || nat_le (2 ^ 32 - 2 ^ (width - 1)) sum) refl e
   where
-    by_test : (b : Bool) → (nat_lt sum (2 ^ width) || nat_le (2 ^ 32 - 2 ^ (width - 1)) sum) ≡ b → cond b None (Some Sum) ≡ None → Fits width sum
+    by_test : (b : Bool) → (nat_lt sum (2 ^ width) || nat_le (2 ^ 32 - 2 ^ (width - 1)) sum) ≡ b → cond b None (Some Overflow) ≡ None → Fits width sum
     by_test false t h = absurd (cc)
     by_test true t h = by_case (nat_lt sum (2 ^ width)) refl t
       where
@@ -122,11 +122,11 @@ adds_up p values region base a r (Branch t) rs e small =
     let goal : ℕ = goal_of p (way_of base values a.bytes (field_of r) t rs) in
     let more : ℕ = added values rs in
     let less : ℕ = taken base rs in
-    let one = none_of Form (not (is_only a.relocs r && is_branch t old)) (branch_flaw p values region base t a.bytes (field_of r) rs way) e in
+    let one = none_of Malformed (not (is_only a.relocs r && is_branch t old)) (branch_flaw p values region base t a.bytes (field_of r) rs way) e in
     let branch = and_parts (is_only a.relocs r) (is_branch t old) (not-false (is_only a.relocs r && is_branch t old) one.0) in
-    let two = none_of Form (lacks_veneer p region way) (way_flaw t at old more less v way goal) one.1 in
-    let three = none_of Form (has_bad_way t at old more less v way goal) (unless Distance (is_far_way t at old more less v way goal) None) two.1 in
-    let four = none_of Distance (is_far_way t at old more less v way goal) None three.1 in
+    let two = none_of Malformed (lacks_veneer p region way) (way_flaw t at old more less v way goal) one.1 in
+    let three = none_of Malformed (has_bad_way t at old more less v way goal) (unless OutOfReach (is_far_way t at old more less v way goal) None) two.1 in
+    let four = none_of OutOfReach (is_far_way t at old more less v way goal) None three.1 in
     record {
       branch = branch_tested t old branch.1;
       rest = same_turned t at old more less v way small;
@@ -171,8 +171,8 @@ way_veneer p region t at old more less v home state there whole sound =
     let goal : ℕ = target_in p home in
     let bad : Bool = has_bad_way t at old more less v (ByVeneer home state) (target_in p home) in
     let far : Bool = is_far_way t at old more less v (ByVeneer home state) (target_in p home) in
-    let one = none_of Form bad (unless Distance far None) here in
-    let two = none_of Distance far None one.1 in
+    let one = none_of Malformed bad (unless OutOfReach far None) here in
+    let two = none_of OutOfReach far None one.1 in
     has_veneer v goal state whole (or_parts (is_odd state goal) (is_odd t (total v (middle t) (at + ahead t))) one.0).0
     (or_parts (is_far t (at + ahead t) (v + middle t)) (is_far_behind state v goal) two.0).1
 
@@ -182,12 +182,12 @@ veneer_law p values region base area a home state v g =
     let t : Bool = g.thumb in
     let rs : List Reloc = directives a.relocs (field_of g.reloc) in
     let old : ℕ = number_in a.bytes (field_of g.reloc) in
-    let sound = (none_of Form (has_bad_field area a r) (value_flaw p values region base a r (kind_of r) rs) g.sound).1 in
+    let sound = (none_of Malformed (has_bad_field area a r) (value_flaw p values region base a r (kind_of r) rs) g.sound).1 in
     let Sound : Kind → Type 0 = λ kind. value_flaw p values region base a g.reloc kind (directives a.relocs (field_of g.reloc)) ≡ None in
-    let one = none_of Form (not (is_only a.relocs r && is_branch t old)) (branch_flaw p values region base t a.bytes (field_of r) rs (way_of base values a.bytes (field_of r) t rs)) (subst Sound g.branch sound) in
+    let one = none_of Malformed (not (is_only a.relocs r && is_branch t old)) (branch_flaw p values region base t a.bytes (field_of r) rs (way_of base values a.bytes (field_of r) t rs)) (subst Sound g.branch sound) in
     let By : Way → Type 0 = λ way. branch_flaw p values region base g.thumb a.bytes (field_of g.reloc) (directives a.relocs (field_of g.reloc)) way ≡ None in
     let by = subst By g.way one.1 in
     let at : ℕ = base + (field_of r).place in
-    let two = none_of Form (lacks_veneer p region (ByVeneer home state))
+    let two = none_of Malformed (lacks_veneer p region (ByVeneer home state))
     (way_flaw t at old (added values rs) (taken base rs) (unwrap_or (veneers_at p region home state) 0) (ByVeneer home state) (target_in p home)) by in
     way_veneer p region t at old (added values rs) (taken base rs) v home state g.stands g.whole two.1

@@ -9,13 +9,13 @@ use Rattle.patch_model.specs.Fields.{Kind, Byte, Half, Word, Branch, Values, fie
 use Rattle.patch_model.specs.Patched.{Way, way_of}
 use Rattle.link_model.specs.declared.placing.Placement.{Placement}
 use Rattle.link_model.specs.Veneers.{IsIn}
-use Rattle.link_apply.specs.declared.flaws.Flaw.TheVariants.{Form}
+use Rattle.link_apply.specs.declared.flaws.Flaw.TheVariants.{Malformed}
 use Rattle.link_apply.specs.declared.judging.Sums.{Sums}
 use Rattle.link_apply.specs.declared.starts.Start.{Start}
 use Rattle.link_apply.specs.Flaws.{overlaps, is_of_itself, is_based, is_outside, has_bad_field, is_only, unless, value_flaw, flaw_of}
 use Rattle.link_apply.specs.Judged.{flaw_by, number_with, IsWay}
 use Rattle.link_apply.specs.PatchedBytes.{number_by, patched_number}
-use Rattle.link_apply.specs.Starts.{kind_by, starts}
+use Rattle.link_apply.specs.Starts.{starts}
 use Rattle.link_apply.specs.Sums.{Tells}
 use Rattle.link_apply.proofs.OverlapLemmas.{kind_there, unmixed_there}
 use Rattle.link_apply.proofs.SumLemmas.{alone_is}
@@ -39,7 +39,7 @@ none_overlaps area a r e =
 
 pub judged : (p : Placement) (values : Values) (region base area : ℕ) (a : Area) (r : Reloc) (s : Start) (sums : Sums) (way : Way) → IsIn a.relocs r
     → starts values a.relocs (field_of r).place ≡ Some s → has_bad_field area a r ≡ false
-    → (s.is_mixed ≡ false → kind_of r ≡ kind_by s.kind → Tells values base a.relocs (field_of r) s sums) → IsWay values base area a r way
+    → (s.is_mixed ≡ false → kind_of r ≡ s.kind → Tells values base a.relocs (field_of r) s sums) → IsWay values base area a r way
     → flaw_by p region (base + (field_of r).place) (number_in a.bytes (field_of r)) sums.more sums.less (is_relative r && s.is_alone) way (kind_of r)
     ≡ flaw_of p values region base area a r
 judged p values region base area a r s sums way own there sound tells goes =
@@ -51,7 +51,7 @@ judged p values region base area a r s sums way own there sound tells goes =
     let alone = alone_is values a.relocs (field_of r) s there unmixed kind in
     (λ i. flaw_by p region (base + (field_of r).place) (number_in a.bytes (field_of r)) (more i) (less i) (is_relative r && alone i) way (kind_of r))
     ∙ valued p values region base a r way (kind_of r) (directives a.relocs (field_of r)) (λ t e. goes t e sound)
-    ∙ ap (λ (b : Bool). unless Form b (value_flaw p values region base a r (kind_of r) (directives a.relocs (field_of r)))) (sym sound)
+    ∙ ap (λ (b : Bool). unless Malformed b (value_flaw p values region base a r (kind_of r) (directives a.relocs (field_of r)))) (sym sound)
 
 -- ---- what a field is to hold
 
@@ -67,7 +67,7 @@ renumbered p values region base a r way (Branch t) rs e =
 
 pub numbered : (p : Placement) (values : Values) (region base area : ℕ) (a : Area) (r : Reloc) (s : Start) (sums : Sums) (way : Way) → IsIn a.relocs r
     → starts values a.relocs (field_of r).place ≡ Some s → has_bad_field area a r ≡ false
-    → (s.is_mixed ≡ false → kind_of r ≡ kind_by s.kind → Tells values base a.relocs (field_of r) s sums) → IsWay values base area a r way
+    → (s.is_mixed ≡ false → kind_of r ≡ s.kind → Tells values base a.relocs (field_of r) s sums) → IsWay values base area a r way
     → number_with p region (base + (field_of r).place) (number_in a.bytes (field_of r)) sums.more sums.less way (kind_of r)
     ≡ patched_number p values region base a (field_of r)
 numbered p values region base area a r s sums way own there sound tells goes =
@@ -79,7 +79,7 @@ numbered p values region base area a r s sums way own there sound tells goes =
     ∙ renumbered p values region base a r way (kind_of r) (directives a.relocs (field_of r)) (λ t e. goes t e sound)
 
 pub told_of : (values : Values) (base area : ℕ) (a : Area) (r : Reloc) (s : Start) (sums : Sums) → IsIn a.relocs r → starts values a.relocs (field_of r).place ≡ Some s
-    → has_bad_field area a r ≡ false → (s.is_mixed ≡ false → kind_of r ≡ kind_by s.kind → Tells values base a.relocs (field_of r) s sums)
+    → has_bad_field area a r ≡ false → (s.is_mixed ≡ false → kind_of r ≡ s.kind → Tells values base a.relocs (field_of r) s sums)
     → Tells values base a.relocs (field_of r) s sums
 told_of values base area a r s sums own there sound tells =
     let unmixed = unmixed_there values a.relocs r s there (none_overlaps area a r sound) in

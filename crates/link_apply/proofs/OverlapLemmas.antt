@@ -7,16 +7,9 @@ use Rattle.aof_object.specs.declared.records.Reloc.{Reloc}
 use Rattle.patch_model.specs.Fields.{Kind, Byte, Half, Word, Branch, Values, field_of, kind_of, is_same_kind, size_of}
 use Rattle.link_apply.specs.declared.starts.Start.{Start}
 use Rattle.link_apply.specs.Flaws.{overlaps}
-use Rattle.link_apply.specs.Starts.{code_of, kind_by, started, starts, goes_on, reaches, begins, is_crowded}
+use Rattle.link_apply.specs.Starts.{started, starts, goes_on, reaches, begins, is_crowded}
 
 -- ---- kinds
-
-pub coded : (k : Kind) → kind_by (code_of k) ≡ k
-coded Byte = refl
-coded Half = refl
-coded Word = refl
-coded (Branch true) = refl
-coded (Branch false) = refl
 
 size_le : (k : Kind) → size_of k ≤ 4
 size_le Byte = omega arith
@@ -49,7 +42,7 @@ same_eq k l e = absurd (cc)
 
 record Says (s : Start) (q : Reloc) : Type 0 where
   size : size_of (kind_of q) ≤ s.widest
-  kind : s.is_mixed ≡ false → kind_of q ≡ kind_by s.kind
+  kind : s.is_mixed ≡ false → kind_of q ≡ s.kind
 
 record StartOf (values : Values) (rs : List Reloc) (q : Reloc) : Type 0 where
   start : Start
@@ -57,16 +50,16 @@ record StartOf (values : Values) (rs : List Reloc) (q : Reloc) : Type 0 where
   says : Says start q
 
 first_says : (values : Values) (r : Reloc) (o : Option Start) → Says (started values r o) r
-first_says values r None = record { size = omega arith; kind = λ e. sym (coded (kind_of r)) }
-first_says values r (Some t) = record { size = omega arith; kind = λ e. sym (coded (kind_of r)) }
+first_says values r None = record { size = omega arith; kind = λ e. refl }
+first_says values r (Some t) = record { size = omega arith; kind = λ e. refl }
 
 later_says : (values : Values) (r : Reloc) (t : Start) (q : Reloc) → Says t q → Says (started values r (Some t)) q
 later_says values r t q says =
     let size = says.size in
     record {
       size = omega arith;
-      kind = λ e. let parts = or_parts t.is_mixed (not (is_same_kind (kind_by t.kind) (kind_of r))) e in
-          says.kind parts.0 ∙ same_eq (kind_by t.kind) (kind_of r) (not-false (is_same_kind (kind_by t.kind) (kind_of r)) parts.1) ∙ sym (coded (kind_of r));
+      kind = λ e. let parts = or_parts t.is_mixed (not (is_same_kind t.kind (kind_of r))) e in
+          says.kind parts.0 ∙ same_eq t.kind (kind_of r) (not-false (is_same_kind t.kind (kind_of r)) parts.1) ∙ refl;
     }
 
 start_of : (values : Values) (rs : List Reloc) (k : ℕ) (q : Reloc) → slice_get rs k ≡ Some q → StartOf values rs q
@@ -157,7 +150,7 @@ abbrev Unlike : Values → List Reloc → ℕ → Kind → Type 0
 Unlike values rs p kind = Relocates values rs p (λ q. not (is_same_kind (kind_of q) kind))
 
 unlike : (values : Values) (rs : List Reloc) (p : ℕ) (kind : Kind) (s : Start) → starts values rs p ≡ Some s
-    → (s.is_mixed ≡ true) ⊎ (is_same_kind (kind_by s.kind) kind ≡ false) → Unlike values rs p kind
+    → (s.is_mixed ≡ true) ⊎ (is_same_kind s.kind kind ≡ false) → Unlike values rs p kind
 unlike values [] p kind s e h = absurd (cc)
 unlike values (r ∷ rs) p kind s e h = by_test ((field_of r).place == p) refl e (unlike values rs p kind)
   where
@@ -167,29 +160,29 @@ unlike values (r ∷ rs) p kind s e h = by_test ((field_of r).place == p) refl e
     here : (field_of r).place ≡ p → is_same_kind (kind_of r) kind ≡ false → Relocates values (r ∷ rs) p (λ q. not (is_same_kind (kind_of q) kind))
     here at e = record { number = 0; reloc = r; there = refl; place = at; passes = not_from_false (is_same_kind (kind_of r) kind) e }
 
-    kinds : (o : Option Start) → started values r o ≡ s → kind_by s.kind ≡ kind_of r
-    kinds None e = let k : code_of (kind_of r) ≡ s.kind = ap (λ (x : Start). x.kind) e in ap kind_by (sym k) ∙ coded (kind_of r)
-    kinds (Some t) e = let k : code_of (kind_of r) ≡ s.kind = ap (λ (x : Start). x.kind) e in ap kind_by (sym k) ∙ coded (kind_of r)
+    kinds : (o : Option Start) → started values r o ≡ s → s.kind ≡ kind_of r
+    kinds None e = let k : kind_of r ≡ s.kind = ap (λ (x : Start). x.kind) e in sym k
+    kinds (Some t) e = let k : kind_of r ≡ s.kind = ap (λ (x : Start). x.kind) e in sym k
 
-    by_start : (o : Option Start) → (field_of r).place ≡ p → started values r o ≡ s → (s.is_mixed ≡ true) ⊎ (is_same_kind (kind_by s.kind) kind ≡ false)
+    by_start : (o : Option Start) → (field_of r).place ≡ p → started values r o ≡ s → (s.is_mixed ≡ true) ⊎ (is_same_kind s.kind kind ≡ false)
         → (b : Bool) → is_same_kind (kind_of r) kind ≡ b
-        → ((t : Start) → o ≡ Some t → (t.is_mixed ≡ true) ⊎ (is_same_kind (kind_by t.kind) kind ≡ false) → Relocates values rs p (λ q. not (is_same_kind (kind_of q) kind)))
+        → ((t : Start) → o ≡ Some t → (t.is_mixed ≡ true) ⊎ (is_same_kind t.kind kind ≡ false) → Relocates values rs p (λ q. not (is_same_kind (kind_of q) kind)))
         → Relocates values (r ∷ rs) p (λ q. not (is_same_kind (kind_of q) kind))
     by_start o at e h false t rest = here at t
     by_start o at e (inr other) true t rest = let k = ap (λ (x : Kind). is_same_kind x kind) (kinds o e) in absurd (cc)
     by_start None at e (inl mixed) true t rest = let m : false ≡ s.is_mixed = ap (λ (x : Start). x.is_mixed) e in absurd (cc)
     by_start (Some u) at e (inl mixed) true t rest =
-        let m : (u.is_mixed || not (is_same_kind (kind_by u.kind) (kind_of r))) ≡ s.is_mixed = ap (λ (x : Start). x.is_mixed) e in
-        by_parts (or_cases u.is_mixed (not (is_same_kind (kind_by u.kind) (kind_of r))) (m ∙ mixed))
+        let m : (u.is_mixed || not (is_same_kind u.kind (kind_of r))) ≡ s.is_mixed = ap (λ (x : Start). x.is_mixed) e in
+        by_parts (or_cases u.is_mixed (not (is_same_kind u.kind (kind_of r))) (m ∙ mixed))
       where
-        by_parts : (u.is_mixed ≡ true) ⊎ (not (is_same_kind (kind_by u.kind) (kind_of r)) ≡ true) → Relocates values (r ∷ rs) p (λ q. not (is_same_kind (kind_of q) kind))
+        by_parts : (u.is_mixed ≡ true) ⊎ (not (is_same_kind u.kind (kind_of r)) ≡ true) → Relocates values (r ∷ rs) p (λ q. not (is_same_kind (kind_of q) kind))
         by_parts (inl h) = later (rest u refl (inl h))
         by_parts (inr h) =
             let same : kind_of r ≡ kind = same_eq (kind_of r) kind t in
-            later (rest u refl (inr (ap (λ (k : Kind). is_same_kind (kind_by u.kind) k) (sym same) ∙ not-true (is_same_kind (kind_by u.kind) (kind_of r)) h)))
+            later (rest u refl (inr (ap (λ (k : Kind). is_same_kind u.kind k) (sym same) ∙ not-true (is_same_kind u.kind (kind_of r)) h)))
 
     by_test : (b : Bool) → ((field_of r).place == p) ≡ b → cond b (Some (started values r (starts values rs p))) (starts values rs p) ≡ Some s
-        → ((t : Start) → starts values rs p ≡ Some t → (t.is_mixed ≡ true) ⊎ (is_same_kind (kind_by t.kind) kind ≡ false) → Relocates values rs p (λ q. not (is_same_kind (kind_of q) kind)))
+        → ((t : Start) → starts values rs p ≡ Some t → (t.is_mixed ≡ true) ⊎ (is_same_kind t.kind kind ≡ false) → Relocates values rs p (λ q. not (is_same_kind (kind_of q) kind)))
         → Relocates values (r ∷ rs) p (λ q. not (is_same_kind (kind_of q) kind))
     by_test false t e rest = later (rest s e h)
     by_test true t e rest =
@@ -399,9 +392,9 @@ unmixed_there values relocs r s there none = by_mixed s.is_mixed refl
     by_mixed true e = let any = from_mixed values relocs r s there e in absurd (cc)
 
 pub kind_there : (values : Values) (relocs : List Reloc) (r : Reloc) (k : ℕ) (s : Start) → slice_get relocs k ≡ Some r → starts values relocs (field_of r).place ≡ Some s
-    → s.is_mixed ≡ false → kind_of r ≡ kind_by s.kind
+    → s.is_mixed ≡ false → kind_of r ≡ s.kind
 kind_there values relocs r k s at there unmixed =
     let h = start_of values relocs k r at in
     let found = h.there in
     let same : h.start ≡ s = cc in
-    h.says.kind (ap (λ (x : Start). x.is_mixed) same ∙ unmixed) ∙ ap (λ (x : Start). kind_by x.kind) same
+    h.says.kind (ap (λ (x : Start). x.is_mixed) same ∙ unmixed) ∙ ap (λ (x : Start). x.kind) same

@@ -10,7 +10,7 @@ use Rattle.link_values.specs.declared.bases.AreaBases.{AreaBases}
 use Rattle.link_values.specs.Bases.{base_of, AreBases}
 use Rattle.link_values.specs.Placed.{is_area}
 use Rattle.indexmap.specs.IndexMap.{get}
-use Rattle.link_apply.specs.declared.sites.Known.{Known}
+use Rattle.link_apply.specs.declared.sites.PlacedLink.{PlacedLink}
 use Rattle.link_apply.specs.declared.sites.Site.{Site}
 use Rattle.link_apply.specs.declared.starts.Start.{Start}
 use Rattle.link_apply.proofs.StartLemmas.{AreFew, starts_few}
@@ -41,24 +41,24 @@ address_le object area (a ∷ areas) each = by_test (is_area object area a) (add
 pub base_le : (p : Placement) (bases : AreaBases) → IsWithin p → AreBases p bases → (object area : ℕ) → base_of bases object area ≤ 2 ^ 32
 base_le p bases within known object area = subst (λ n. n ≤ 2 ^ 32) (sym (known object area)) (address_le object area p.areas within.areas)
 
-pub are_low : (known : Known) → Knows known → AreLow known.bases
+pub are_low : (known : PlacedLink) → Knows known → AreLow known.bases
 are_low known h object area = let le = base_le known.placement.now known.bases h.within h.bases object area in omega arith
 
 -- ---- what the relocations of an area do at a place
 
-pub few_at : (known : Known) → Knows known → (site : Site) → IsSite known site → (place : ℕ) (s : Start) → get nat_eq site.starts place ≡ Some s → AreFew s
+pub few_at : (known : PlacedLink) → Knows known → (site : Site) → IsSite known site → (place : ℕ) (s : Start) → get nat_eq site.starts place ≡ Some s → AreFew s
 few_at known h site at place s e =
     starts_few (base_of known.bases site.placed.area.object) site.symbols.now site.area.now.relocs (are_low known h site.placed.area.object) at.below at.few place s
     (ap (λ (v : Values). starts v site.area.now.relocs place) at.values ∙ sym (at.starts place) ∙ e)
 
 -- ---- what is told of an area
 
-pub refusals_same : (known : Known) (site : Site) (o : Named Object) (placed : PlacedArea) (area : Area) → site.placed ≡ placed → site.area.now ≡ area
+pub refusals_same : (known : PlacedLink) (site : Site) (o : Named Object) (placed : PlacedArea) (area : Area) → site.placed ≡ placed → site.area.now ≡ area
     → first_refusal known site o site.area.now.relocs ≡ slice_get (refusals_in known.placement.now (known_values known placed.area.object) placed o (Some area)) 0
 refusals_same known site o placed area e f =
     (λ i. slice_get (refusals_in known.placement.now (known_values known (e i).area.object) (e i) o (Some (f i))) 0)
 
-pub piece_same : (known : Known) (site : Site) (placed : PlacedArea) (area : Area) → site.placed ≡ placed → site.area.now ≡ area
+pub piece_same : (known : PlacedLink) (site : Site) (placed : PlacedArea) (area : Area) → site.placed ≡ placed → site.area.now ≡ area
     → site_piece known site ≡ area_region_piece (link_of known.linked.now) known.placement.now placed (Some area)
 piece_same known site placed area e f =
     (λ i. cond (bit (f i).attributes 12 == 1) None

@@ -9,8 +9,8 @@ use Rattle.patch_model.specs.Fields.{Kind, Field, Values, field_of, kind_of, is_
 use Rattle.patch_model.specs.Patched.{first_symbol}
 use Rattle.link_model.specs.Veneers.{shares_field}
 use Rattle.link_apply.specs.declared.starts.Start.{Start}
-use Rattle.link_apply.specs.Starts.{code_of, kind_by, symbol_by, started, starts}
-use Rattle.link_apply.proofs.OverlapLemmas.{coded, same_refl, same_eq}
+use Rattle.link_apply.specs.Starts.{symbol_by, started, starts}
+use Rattle.link_apply.proofs.OverlapLemmas.{same_refl, same_eq}
 
 -- the directives of a field, by the start of its place
 pub record Directs (values : Values) (base : ℕ) (rs : List Reloc) (f : Field) (s : Start) : Type 0 where
@@ -28,7 +28,7 @@ elsewhere values (r ∷ rs) f e = by_test ((field_of r).place == f.place) refl e
     by_test false t e rest =
         ap (λ (b : Bool). cond b (r ∷ directives rs f) (directives rs f)) (and_left ((field_of r).place == f.place) (is_same_kind (kind_of r) f.kind) t) ∙ rest e
 
-pub tells : (values : Values) (base : ℕ) (rs : List Reloc) (f : Field) (s : Start) → starts values rs f.place ≡ Some s → s.is_mixed ≡ false → f.kind ≡ kind_by s.kind
+pub tells : (values : Values) (base : ℕ) (rs : List Reloc) (f : Field) (s : Start) → starts values rs f.place ≡ Some s → s.is_mixed ≡ false → f.kind ≡ s.kind
     → Directs values base rs f s
 tells values base [] f s e unmixed kind = absurd (cc)
 tells values base (r ∷ rs) f s e unmixed kind = by_test ((field_of r).place == f.place) refl e (starts values rs f.place) refl (tells values base rs f)
@@ -40,7 +40,7 @@ tells values base (r ∷ rs) f s e unmixed kind = by_test ((field_of r).place ==
     keeps h = ap (λ (b : Bool). cond b (r ∷ directives rs f) (directives rs f)) h
 
     by_start : (o : Option Start) → starts values rs f.place ≡ o → started values r o ≡ s → is_field f r ≡ true → f.kind ≡ kind_of r
-        → ((t : Start) → starts values rs f.place ≡ Some t → t.is_mixed ≡ false → f.kind ≡ kind_by t.kind → Directs values base rs f t)
+        → ((t : Start) → starts values rs f.place ≡ Some t → t.is_mixed ≡ false → f.kind ≡ t.kind → Directs values base rs f t)
         → Directs values base (r ∷ rs) f s
     by_start None at e own kind rest =
         let here : directives (r ∷ rs) f ≡ r ∷ [] = keeps own ∙ ap (λ l. r ∷ l) (elsewhere values rs f at) in
@@ -57,9 +57,9 @@ tells values base (r ∷ rs) f s e unmixed kind = by_test ((field_of r).place ==
         bare : (n : ℕ) → n + 0 ≡ n
         bare n = omega arith
     by_start (Some t) at e own kind rest =
-        let m : (t.is_mixed || not (is_same_kind (kind_by t.kind) (kind_of r))) ≡ s.is_mixed = ap (λ (x : Start). x.is_mixed) e in
-        let parts = or_parts t.is_mixed (not (is_same_kind (kind_by t.kind) (kind_of r))) (m ∙ unmixed) in
-        let same = same_eq (kind_by t.kind) (kind_of r) (not-false (is_same_kind (kind_by t.kind) (kind_of r)) parts.1) in
+        let m : (t.is_mixed || not (is_same_kind t.kind (kind_of r))) ≡ s.is_mixed = ap (λ (x : Start). x.is_mixed) e in
+        let parts = or_parts t.is_mixed (not (is_same_kind t.kind (kind_of r))) (m ∙ unmixed) in
+        let same = same_eq t.kind (kind_of r) (not-false (is_same_kind t.kind (kind_of r)) parts.1) in
         let h = rest t at parts.0 (kind ∙ sym same) in
         let here = keeps own in
         let more : value_named values r + mark_of values r + t.more ≡ s.more = ap (λ (x : Start). x.more) e in
@@ -74,13 +74,13 @@ tells values base (r ∷ rs) f s e unmixed kind = by_test ((field_of r).place ==
         spread : (m n : ℕ) → base * m + base * n ≡ base * (m + n)
         spread m n = omega arith
 
-    kinds : (o : Option Start) → started values r o ≡ s → kind_by s.kind ≡ kind_of r
-    kinds None e = let k : code_of (kind_of r) ≡ s.kind = ap (λ (x : Start). x.kind) e in ap kind_by (sym k) ∙ coded (kind_of r)
-    kinds (Some t) e = let k : code_of (kind_of r) ≡ s.kind = ap (λ (x : Start). x.kind) e in ap kind_by (sym k) ∙ coded (kind_of r)
+    kinds : (o : Option Start) → started values r o ≡ s → s.kind ≡ kind_of r
+    kinds None e = let k : kind_of r ≡ s.kind = ap (λ (x : Start). x.kind) e in sym k
+    kinds (Some t) e = let k : kind_of r ≡ s.kind = ap (λ (x : Start). x.kind) e in sym k
 
     by_test : (b : Bool) → ((field_of r).place == f.place) ≡ b → cond b (Some (started values r (starts values rs f.place))) (starts values rs f.place) ≡ Some s
         → (o : Option Start) → starts values rs f.place ≡ o
-        → ((t : Start) → starts values rs f.place ≡ Some t → t.is_mixed ≡ false → f.kind ≡ kind_by t.kind → Directs values base rs f t)
+        → ((t : Start) → starts values rs f.place ≡ Some t → t.is_mixed ≡ false → f.kind ≡ t.kind → Directs values base rs f t)
         → Directs values base (r ∷ rs) f s
     by_test false t e o at rest =
         let out = drops (and_left ((field_of r).place == f.place) (is_same_kind (kind_of r) f.kind) t) in
@@ -111,7 +111,7 @@ none_counted values (r ∷ rs) f e = by_test ((field_of r).place == f.place) ref
     by_test true t e rest = absurd (cc)
     by_test false t e rest = omega (arith, counted f r rs false (and_left ((field_of r).place == f.place) (size_of (kind_of r) == size_of f.kind) t), rest e)
 
-counts : (values : Values) (rs : List Reloc) (f : Field) (s : Start) → starts values rs f.place ≡ Some s → s.is_mixed ≡ false → f.kind ≡ kind_by s.kind
+counts : (values : Values) (rs : List Reloc) (f : Field) (s : Start) → starts values rs f.place ≡ Some s → s.is_mixed ≡ false → f.kind ≡ s.kind
     → Counts s.is_alone (count_by (shares_field f) rs)
 unfolding Counts
 counts values [] f s e unmixed kind = absurd (cc)
@@ -122,27 +122,27 @@ counts values (r ∷ rs) f s e unmixed kind = by_test ((field_of r).place == f.p
     some false n h = omega arith
 
     by_start : (o : Option Start) → starts values rs f.place ≡ o → started values r o ≡ s → shares_field f r ≡ true → f.kind ≡ kind_of r
-        → ((t : Start) → starts values rs f.place ≡ Some t → t.is_mixed ≡ false → f.kind ≡ kind_by t.kind → Counts t.is_alone (count_by (shares_field f) rs))
+        → ((t : Start) → starts values rs f.place ≡ Some t → t.is_mixed ≡ false → f.kind ≡ t.kind → Counts t.is_alone (count_by (shares_field f) rs))
         → Counts s.is_alone (count_by (shares_field f) (r ∷ rs))
     by_start None at e own kind rest =
         let alone : true ≡ s.is_alone = ap (λ (x : Start). x.is_alone) e in
         let n : count_by (shares_field f) (r ∷ rs) ≡ 1 = omega (arith, counted f r rs true own, none_counted values rs f at) in
         subst (λ b. Counts b (count_by (shares_field f) (r ∷ rs))) alone n
     by_start (Some t) at e own kind rest =
-        let m : (t.is_mixed || not (is_same_kind (kind_by t.kind) (kind_of r))) ≡ s.is_mixed = ap (λ (x : Start). x.is_mixed) e in
-        let parts = or_parts t.is_mixed (not (is_same_kind (kind_by t.kind) (kind_of r))) (m ∙ unmixed) in
-        let same = same_eq (kind_by t.kind) (kind_of r) (not-false (is_same_kind (kind_by t.kind) (kind_of r)) parts.1) in
+        let m : (t.is_mixed || not (is_same_kind t.kind (kind_of r))) ≡ s.is_mixed = ap (λ (x : Start). x.is_mixed) e in
+        let parts = or_parts t.is_mixed (not (is_same_kind t.kind (kind_of r))) (m ∙ unmixed) in
+        let same = same_eq t.kind (kind_of r) (not-false (is_same_kind t.kind (kind_of r)) parts.1) in
         let h = some t.is_alone (count_by (shares_field f) rs) (rest t at parts.0 (kind ∙ sym same)) in
         let alone : false ≡ s.is_alone = ap (λ (x : Start). x.is_alone) e in
         let n : 2 ≤ count_by (shares_field f) (r ∷ rs) = omega (arith, counted f r rs true own, h) in
         subst (λ b. Counts b (count_by (shares_field f) (r ∷ rs))) alone n
 
-    kinds : (o : Option Start) → started values r o ≡ s → kind_by s.kind ≡ kind_of r
-    kinds None e = let k : code_of (kind_of r) ≡ s.kind = ap (λ (x : Start). x.kind) e in ap kind_by (sym k) ∙ coded (kind_of r)
-    kinds (Some t) e = let k : code_of (kind_of r) ≡ s.kind = ap (λ (x : Start). x.kind) e in ap kind_by (sym k) ∙ coded (kind_of r)
+    kinds : (o : Option Start) → started values r o ≡ s → s.kind ≡ kind_of r
+    kinds None e = let k : kind_of r ≡ s.kind = ap (λ (x : Start). x.kind) e in sym k
+    kinds (Some t) e = let k : kind_of r ≡ s.kind = ap (λ (x : Start). x.kind) e in sym k
 
     by_test : (b : Bool) → ((field_of r).place == f.place) ≡ b → cond b (Some (started values r (starts values rs f.place))) (starts values rs f.place) ≡ Some s
-        → ((t : Start) → starts values rs f.place ≡ Some t → t.is_mixed ≡ false → f.kind ≡ kind_by t.kind → Counts t.is_alone (count_by (shares_field f) rs))
+        → ((t : Start) → starts values rs f.place ≡ Some t → t.is_mixed ≡ false → f.kind ≡ t.kind → Counts t.is_alone (count_by (shares_field f) rs))
         → Counts s.is_alone (count_by (shares_field f) (r ∷ rs))
     by_test false t e rest =
         let n : count_by (shares_field f) (r ∷ rs) ≡ count_by (shares_field f) rs = omega (arith, counted f r rs false (and_left ((field_of r).place == f.place) (size_of (kind_of r) == size_of f.kind) t)) in
@@ -153,7 +153,7 @@ counts values (r ∷ rs) f s e unmixed kind = by_test ((field_of r).place == f.p
         let sizes : (size_of (kind_of r) == size_of f.kind) ≡ true = eq-eqb (size_of (kind_of r)) (size_of f.kind) (ap size_of (sym k)) in
         by_start (starts values rs f.place) refl same (and_from ((field_of r).place == f.place) (size_of (kind_of r) == size_of f.kind) t sizes) k rest
 
-pub alone_is : (values : Values) (rs : List Reloc) (f : Field) (s : Start) → starts values rs f.place ≡ Some s → s.is_mixed ≡ false → f.kind ≡ kind_by s.kind
+pub alone_is : (values : Values) (rs : List Reloc) (f : Field) (s : Start) → starts values rs f.place ≡ Some s → s.is_mixed ≡ false → f.kind ≡ s.kind
     → s.is_alone ≡ (count_by (shares_field f) rs == 1)
 unfolding Counts
 alone_is values rs f s e unmixed kind = by_alone s.is_alone (count_by (shares_field f) rs) (counts values rs f s e unmixed kind)

@@ -21,7 +21,7 @@ use Rattle.link_model.specs.declared.selection.Named.{Named}
 use Rattle.link_model.specs.Members.{link_of}
 use Rattle.link_model.specs.Veneers.{shares_field}
 use Rattle.link_apply.specs.declared.flaws.Flaw.{Flaw}
-use Rattle.link_apply.specs.declared.flaws.Flaw.TheVariants.{Form, Sum, Distance}
+use Rattle.link_apply.specs.declared.flaws.Flaw.TheVariants.{Malformed, Overflow, OutOfReach}
 use Rattle.link_values.specs.Placed.{values_in}
 use Rattle.link_apply.specs.Placed.{veneers_at, target_in}
 
@@ -90,7 +90,7 @@ abbrev pub unless : Flaw → Bool → Option Flaw → Option Flaw
 unless flaw wrong next = if wrong then Some flaw else next
 
 abbrev pub narrow_flaw : ℕ → ℕ → Option Flaw
-narrow_flaw width sum = if nat_lt sum (2 ^ width) || nat_le (2 ^ 32 - 2 ^ (width - 1)) sum then None else Some Sum
+narrow_flaw width sum = if nat_lt sum (2 ^ width) || nat_le (2 ^ 32 - 2 ^ (width - 1)) sum then None else Some Overflow
 
 -- where a way's veneer stands, and its target
 abbrev pub veneer_of : Placement → ℕ → Way → ℕ
@@ -107,12 +107,12 @@ goal_of p (ByVeneer home state) = target_in p home
 
 abbrev pub way_flaw : Bool → ℕ → ℕ → ℕ → ℕ → ℕ → Way → ℕ → Option Flaw
 way_flaw thumb at old more less veneer way target =
-    unless Form (has_bad_way thumb at old more less veneer way target)
-    (unless Distance (is_far_way thumb at old more less veneer way target) None)
+    unless Malformed (has_bad_way thumb at old more less veneer way target)
+    (unless OutOfReach (is_far_way thumb at old more less veneer way target) None)
 
 abbrev pub branch_flaw : Placement → Values → ℕ → ℕ → Bool → List ℕ → Field → List Reloc → Way → Option Flaw
 branch_flaw p values region base thumb bytes f rs way =
-    unless Form (lacks_veneer p region way)
+    unless Malformed (lacks_veneer p region way)
     (way_flaw thumb (base + f.place) (number_in bytes f) (added values rs) (taken base rs) (veneer_of p region way) way (goal_of p way))
 
 -- of a field that is none of the bad ones, by its directives
@@ -121,13 +121,13 @@ value_flaw p values region base a r Byte rs = narrow_flaw 8 (total (number_in a.
 value_flaw p values region base a r Half rs = narrow_flaw 16 (total (number_in a.bytes (field_of r)) (added values rs) (taken base rs))
 value_flaw p values region base a r Word rs = None
 value_flaw p values region base a r (Branch thumb) rs =
-    unless Form (not (is_only a.relocs r && is_branch thumb (number_in a.bytes (field_of r))))
+    unless Malformed (not (is_only a.relocs r && is_branch thumb (number_in a.bytes (field_of r))))
     (branch_flaw p values region base thumb a.bytes (field_of r) rs (way_of base values a.bytes (field_of r) thumb rs))
 
 -- of a relocation of an area of a number, which stands in a region at a base
 abbrev pub flaw_of : Placement → Values → ℕ → ℕ → ℕ → Area → Reloc → Option Flaw
 flaw_of p values region base area a r =
-    unless Form (has_bad_field area a r) (value_flaw p values region base a r (kind_of r) (directives a.relocs (field_of r)))
+    unless Malformed (has_bad_field area a r) (value_flaw p values region base a r (kind_of r) (directives a.relocs (field_of r)))
 
 -- ---- what is told of it
 
@@ -137,9 +137,9 @@ symbol_name o r =
     else unwrap_or (option_map (λ a. a.name) (slice_get o.areas (number_named r))) []
 
 abbrev pub told : List ℕ → Object → Area → Reloc → Flaw → Refusal
-told name o a r Form = BadRelocation name a.name (field_of r).place
-told name o a r Sum = FieldOverflow name a.name (field_of r).place
-told name o a r Distance = Unreachable name a.name (field_of r).place (symbol_name o r)
+told name o a r Malformed = BadRelocation name a.name (field_of r).place
+told name o a r Overflow = FieldOverflow name a.name (field_of r).place
+told name o a r OutOfReach = Unreachable name a.name (field_of r).place (symbol_name o r)
 
 abbrev pub refusal_of : Placement → Values → PlacedArea → Named Object → Area → Reloc → Option Refusal
 refusal_of p values placed o a r =

@@ -6,7 +6,7 @@ use Rattle.patch_model.specs.Fields.{Kind, Byte, Half, Word, Branch, Values, fie
 use Rattle.patch_model.specs.Patched.{total, is_branch, Way, way_of}
 use Rattle.link_model.specs.declared.placing.Placement.{Placement}
 use Rattle.link_apply.specs.declared.flaws.Flaw.{Flaw}
-use Rattle.link_apply.specs.declared.flaws.Flaw.TheVariants.{Form}
+use Rattle.link_apply.specs.declared.flaws.Flaw.TheVariants.{Malformed}
 use Rattle.link_apply.specs.Flaws.{unless, narrow_flaw, veneer_of, lacks_veneer, goal_of, way_flaw, has_bad_field}
 use Rattle.link_apply.specs.PatchedBytes.{turned}
 use Rattle.link_apply.specs.Starts.{Starts, AreStarts}
@@ -18,8 +18,8 @@ flaw_by p region at old more less only way Byte = narrow_flaw 8 (total old more 
 flaw_by p region at old more less only way Half = narrow_flaw 16 (total old more less)
 flaw_by p region at old more less only way Word = None
 flaw_by p region at old more less only way (Branch thumb) =
-    unless Form (not (only && is_branch thumb old))
-    (unless Form (lacks_veneer p region way) (way_flaw thumb at old more less (veneer_of p region way) way (goal_of p way)))
+    unless Malformed (not (only && is_branch thumb old))
+    (unless Malformed (lacks_veneer p region way) (way_flaw thumb at old more less (veneer_of p region way) way (goal_of p way)))
 
 -- an index of what relocations do, by some values
 abbrev pub IsIndex : List Reloc → Starts → Type 0

@@ -7,7 +7,7 @@ use Rattle.aof_object.specs.declared.records.Reloc.{Reloc}
 use Rattle.patch_model.specs.Fields.{field_of}
 use Rattle.link_model.specs.declared.selection.Named.{Named}
 use Rattle.link_apply.specs.declared.flaws.Flaw.{Flaw}
-use Rattle.link_apply.specs.declared.sites.Known.{Known}
+use Rattle.link_apply.specs.declared.sites.PlacedLink.{PlacedLink}
 use Rattle.link_apply.specs.declared.sites.Site.{Site}
 use Rattle.link_apply.specs.Flaws.{flaw_of, refusal_of}
 use Rattle.link_apply.specs.PatchedBytes.{patched_number, patched_bytes}
@@ -15,20 +15,20 @@ use Rattle.link_apply.specs.Sites.{values_at}
 
 -- ---- of a site
 
-abbrev pub flaw_at : Known → Site → Reloc → Option Flaw
+abbrev pub flaw_at : PlacedLink → Site → Reloc → Option Flaw
 flaw_at known site r =
     flaw_of known.placement.now (values_at known site) site.placed.region site.placed.address site.placed.area.area site.area.now r
 
-abbrev pub number_at : Known → Site → Reloc → ℕ
+abbrev pub number_at : PlacedLink → Site → Reloc → ℕ
 number_at known site r =
     patched_number known.placement.now (values_at known site) site.placed.region site.placed.address site.area.now (field_of r)
 
-abbrev pub refusal_at : Known → Site → Named Object → Reloc → Option Refusal
+abbrev pub refusal_at : PlacedLink → Site → Named Object → Reloc → Option Refusal
 refusal_at known site o r = refusal_of known.placement.now (values_at known site) site.placed o site.area.now r
 
 -- the refusal of the first of these relocations that has a flaw
-abbrev pub first_refusal : Known → Site → Named Object → List Reloc → Option Refusal
+abbrev pub first_refusal : PlacedLink → Site → Named Object → List Reloc → Option Refusal
 first_refusal known site o relocs = slice_get (filter_map (refusal_at known site o) relocs) 0
 
-abbrev pub bytes_at : Known → Site → List ℕ
+abbrev pub bytes_at : PlacedLink → Site → List ℕ
 bytes_at known site = patched_bytes known.placement.now (values_at known site) site.placed.region site.placed.address site.area.now

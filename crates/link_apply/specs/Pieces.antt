@@ -12,7 +12,7 @@ use Rattle.link_model.specs.RegionValues.{area_of}
 use Rattle.link_values.specs.Placed.{values_in}
 use Rattle.link_apply.specs.declared.laying.Growing.{Growing}
 use Rattle.link_apply.specs.declared.laying.RegionPiece.{RegionPiece}
-use Rattle.link_apply.specs.declared.sites.Known.{Known}
+use Rattle.link_apply.specs.declared.sites.PlacedLink.{PlacedLink}
 use Rattle.link_apply.specs.declared.sites.Site.{Site}
 use Rattle.link_apply.specs.PatchedBytes.{patched_bytes}
 use Rattle.link_apply.specs.Patching.{bytes_at}
@@ -43,7 +43,7 @@ grown_from pieces i (g ∷ growing) = filled_up g.length (g.bytes.items ++ laid 
 
 -- ---- all pieces
 
-abbrev pub site_piece : Known → Site → Option RegionPiece
+abbrev pub site_piece : PlacedLink → Site → Option RegionPiece
 site_piece known site =
     if bit site.area.now.attributes 12 == 1 then None
     else Some (record { region = site.placed.region; address = site.placed.address; bytes = bytes_at known site })

@@ -6,7 +6,7 @@ use Rattle.link_values.specs.declared.values.SymbolValue.{SymbolValue}
 use Rattle.link_values.specs.Bases.{base_of, AreBases}
 use Rattle.link_values.specs.Placed.{values_in}
 use Rattle.link_values.specs.Values.{AreValues}
-use Rattle.link_apply.specs.declared.sites.Known.{Known}
+use Rattle.link_apply.specs.declared.sites.PlacedLink.{PlacedLink}
 use Rattle.link_apply.specs.declared.sites.Site.{Site}
 use Rattle.link_apply.specs.Applied.{IsWithin}
 use Rattle.link_apply.specs.Detours.{AreVeneers}
@@ -17,7 +17,7 @@ abbrev pub AreAllBelow : List (List SymbolValue) → Type 0
 AreAllBelow values = (object : ℕ) (symbols : List SymbolValue) → slice_get values object ≡ Some symbols → AreBelow symbols
 
 -- the indexes are those of the placement
-pub record Knows (known : Known) : Type 0 where
+pub record Knows (known : PlacedLink) : Type 0 where
   pub within : IsWithin known.placement.now
   pub bases : AreBases known.placement.now known.bases
   pub values : AreValues (link_of known.linked.now) known.placement.now known.values
@@ -25,14 +25,14 @@ pub record Knows (known : Known) : Type 0 where
   pub veneers : AreVeneers known.placement.now.veneers known.veneers
 
 -- the values of the symbols of an object
-abbrev pub known_values : Known → ℕ → Values
+abbrev pub known_values : PlacedLink → ℕ → Values
 known_values known object = values_in (link_of known.linked.now) known.placement.now object
 
-abbrev pub values_at : Known → Site → Values
+abbrev pub values_at : PlacedLink → Site → Values
 values_at known site = known_values known site.placed.area.object
 
 -- what the site has is of its area and object
-pub record IsSite (known : Known) (site : Site) : Type 0 where
+pub record IsSite (known : PlacedLink) (site : Site) : Type 0 where
   pub address : site.placed.address ≤ 2 ^ 32
   pub values : values_by (base_of known.bases site.placed.area.object) site.symbols.now ≡ values_at known site
   pub below : AreBelow site.symbols.now

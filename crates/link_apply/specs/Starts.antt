@@ -5,32 +5,11 @@ use Rattle.std.specs.declared.hash.BuildHasherDefault.{BuildHasherDefault}
 use Rattle.indexmap.specs.IndexMap.{IndexMap, get}
 use Rattle.sdt_word.specs.Numbers.{flag}
 use Rattle.aof_object.specs.declared.records.Reloc.{Reloc}
-use Rattle.patch_model.specs.Fields.{Kind, Byte, Half, Word, Branch, Field, Values, field_of, kind_of, is_relative, is_by_symbol, is_same_kind, number_named, value_named, mark_of, size_of}
-use Rattle.link_apply.specs.declared.starts.FieldKind.{FieldKind}
-use Rattle.link_apply.specs.declared.starts.FieldKind.TheVariants as code
+use Rattle.patch_model.specs.Fields.{Values, field_of, kind_of, is_relative, is_by_symbol, is_same_kind, number_named, value_named, mark_of, size_of}
 use Rattle.link_apply.specs.declared.starts.Start.{Start}
 use Rattle.link_values.specs.declared.bases.AreaBases.{AreaBases}
 use Rattle.link_values.specs.declared.values.SymbolValue.{SymbolValue}
 use Rattle.link_values.specs.Bases.{base_of}
-
--- ---- kinds of fields
-
-abbrev pub code_of : Kind → FieldKind
-code_of Byte = code.Byte
-code_of Half = code.Half
-code_of Word = code.Word
-code_of (Branch false) = code.Arm
-code_of (Branch true) = code.Thumb
-
-abbrev pub kind_by : FieldKind → Kind
-kind_by code.Byte = Byte
-kind_by code.Half = Half
-kind_by code.Word = Word
-kind_by code.Arm = Branch false
-kind_by code.Thumb = Branch true
-
-abbrev pub field_by : ℕ → FieldKind → Field
-field_by place kind = record { place = place; kind = kind_by kind }
 
 -- ---- a place
 
@@ -40,7 +19,7 @@ symbol_by r next = if is_by_symbol r then Some (number_named r) else next
 -- with a relocation before those that are there
 abbrev pub started : Values → Reloc → Option Start → Start
 started values r None = record {
-  kind = code_of (kind_of r);
+  kind = kind_of r;
   is_mixed = false;
   widest = size_of (kind_of r);
   is_alone = true;
@@ -49,8 +28,8 @@ started values r None = record {
   symbol = symbol_by r None;
 }
 started values r (Some s) = record {
-  kind = code_of (kind_of r);
-  is_mixed = s.is_mixed || not (is_same_kind (kind_by s.kind) (kind_of r));
+  kind = kind_of r;
+  is_mixed = s.is_mixed || not (is_same_kind s.kind (kind_of r));
   widest = max s.widest (size_of (kind_of r));
   is_alone = false;
   more = value_named values r + mark_of values r + s.more;

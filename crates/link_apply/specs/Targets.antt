@@ -5,7 +5,7 @@ use Rattle.patch_model.specs.Patched.{Way, Directly, ByVeneer}
 use Rattle.link_model.specs.declared.placing.Placement.{Placement}
 use Rattle.link_apply.specs.Placed.{veneers_at, target_in}
 use Rattle.link_values.specs.declared.values.SymbolValue.{SymbolValue}
-use Rattle.link_apply.specs.declared.targets.Target.{Target}
+use Rattle.link_values.specs.declared.values.BranchTarget.{BranchTarget}
 use Rattle.link_values.specs.Values.{home, meant}
 
 -- of a number that no symbol has
@@ -17,11 +17,11 @@ meant_at (Some s) = meant s
 abbrev pub values_by : (ℕ → ℕ) → List SymbolValue → Values
 values_by bases symbols = record { base = bases; symbol = λ k. meant_at (slice_get symbols k) }
 
-abbrev pub way_by : Option Target → Way
+abbrev pub way_by : Option BranchTarget → Way
 way_by None = Directly
 way_by (Some t) = ByVeneer (home t.place) t.thumb
 
 -- a veneer of the region, and its target's address
-abbrev pub IsWayOf : Placement → ℕ → Option Target → Option ℕ → ℕ → Type 0
+abbrev pub IsWayOf : Placement → ℕ → Option BranchTarget → Option ℕ → ℕ → Type 0
 IsWayOf p region None veneer goal = Unit {0}
 IsWayOf p region (Some t) veneer goal = (veneers_at p region (home t.place) t.thumb ≡ veneer) × (target_in p (home t.place) ≡ goal)

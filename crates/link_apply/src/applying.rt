@@ -11,7 +11,7 @@ ghost use Rattle.link_apply.specs.Starts.{AreBelow};
 use crate::detours::index_veneers;
 use crate::laying::lay;
 use crate::placing::pieces_of_areas;
-use crate::sites::Known;
+use crate::sites::PlacedLink;
 use crate::startup::add_startup;
 use crate::veneers::add_veneers;
 use link_model::{Linked, Placement};
@@ -48,7 +48,7 @@ fn known_of<'a>(
     alloc: Global,
     linked: &'a Linked,
     placement: &'a Placement,
-) -> Result<Known<'a>, NoMemory>
+) -> Result<PlacedLink<'a>, NoMemory>
     requires objects { AllByRecursion (λ o. IsValid o.value) linked.now.objects }
     requires within { IsWithin placement.now }
     ensures knows { IfOk result (λ known. Knows known) }
@@ -61,7 +61,7 @@ fn known_of<'a>(
         return Err(NoMemory);
     }
     let veneers = index_veneers(alloc, placement.veneers.as_slice())?;
-    Ok(Known {
+    Ok(PlacedLink {
         linked,
         placement,
         bases,
@@ -70,7 +70,7 @@ fn known_of<'a>(
     })
 }
 
-fn applied_to(alloc: Global, known: &Known<'_>) -> Result<List<Bytes>, Fault>
+fn applied_to(alloc: Global, known: &PlacedLink<'_>) -> Result<List<Bytes>, Fault>
     requires { Knows known.now }
     ensures { Gives result (applied known.now.linked.now known.now.placement.now) }
 {

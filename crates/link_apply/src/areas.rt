@@ -18,8 +18,8 @@ use crate::flaws::Flaw;
 use crate::judging::is_outside_of;
 use crate::patching::new_number;
 use crate::relocations::{Detour, flaw_of_relocation};
-use crate::sites::{Known, Site};
-use crate::starts::{Start, place_of};
+use crate::sites::{PlacedLink, Site};
+use crate::starts::Start;
 use crate::telling::refusal_of;
 use crate::writing::put_numbers;
 use aof_object::{Object, Reloc};
@@ -33,12 +33,12 @@ use std::alloc::Global;
 fn start_at(starts: &IndexMap<u64, Start>, reloc: Reloc) -> Option<Start>
     ensures { result ≡ get nat_eq starts.now (field_of reloc).place }
 {
-    starts.get(&(place_of(reloc) as u64)).copied()
+    starts.get(&u64::from(reloc.field().place)).copied()
 }
 
 /// What the field of a relocation is to hold, or the relocation's flaw, by how its branch goes.
 fn judged_by(
-    known: &Known<'_>,
+    known: &PlacedLink<'_>,
     site: &Site<'_>,
     start: Start,
     reloc: Reloc,
@@ -68,7 +68,7 @@ fn judged_by(
 }
 
 /// What the field of a relocation of an area is to hold, or the relocation's flaw.
-fn judged(known: &Known<'_>, site: &Site<'_>, reloc: Reloc) -> Result<u32, Flaw>
+fn judged(known: &PlacedLink<'_>, site: &Site<'_>, reloc: Reloc) -> Result<u32, Flaw>
     requires known { Knows known.now }
     requires site { IsSite known.now site.now }
     requires own { IsIn site.now.area.now.relocs reloc }
@@ -79,10 +79,10 @@ fn judged(known: &Known<'_>, site: &Site<'_>, reloc: Reloc) -> Result<u32, Flaw>
         ≤ length site.now.area.now.bytes) }
 {
     if is_outside_of(site.area.bytes.as_slice(), reloc) {
-        return Err(Flaw::Form);
+        return Err(Flaw::Malformed);
     }
     let Some(start) = start_at(&site.starts, reloc) else {
-        return Err(Flaw::Form);
+        return Err(Flaw::Malformed);
     };
     let detour = detour_at(known, site, start, reloc);
     judged_by(known, site, start, reloc, detour)
@@ -92,7 +92,7 @@ fn judged(known: &Known<'_>, site: &Site<'_>, reloc: Reloc) -> Result<u32, Flaw>
 /// a flaw.
 fn numbers_of(
     alloc: Global,
-    known: &Known<'_>,
+    known: &PlacedLink<'_>,
     site: &Site<'_>,
     object: &Named<Object>,
 ) -> Result<List<u32>, Fault>
@@ -121,7 +121,7 @@ fn numbers_of(
 /// The bytes of an area with its fields patched, or the refusal of its first relocation that has a flaw.
 pub fn patched(
     alloc: Global,
-    known: &Known<'_>,
+    known: &PlacedLink<'_>,
     site: &Site<'_>,
     object: &Named<Object>,
 ) -> Result<Bytes, Fault>

@@ -16,13 +16,12 @@ ghost use Rattle.link_apply.specs.Targets.{way_by, IsWayOf};
 
 use crate::patching::target_at;
 use crate::relocations::Detour;
-use crate::sites::{Known, Site};
+use crate::sites::{PlacedLink, Site};
 use crate::starts::Start;
-use crate::targets::Target;
 use aof_object::Reloc;
 use indexmap::IndexMap;
 use link_model::{AreaName, PlacedVeneer, Veneer};
-use link_values::{Place, base_at};
+use link_values::{AreaOffset, BranchTarget, base_at};
 use sdt_fault::NoMemory;
 use std::alloc::Global;
 
@@ -56,7 +55,7 @@ fn find_veneer(veneers: &IndexMap<Veneer, u32>, veneer: Veneer) -> Option<u32>
 }
 
 /// The address of a region's veneer.
-fn veneer_at(known: &Known<'_>, region: u32, target: Target) -> Option<u32>
+fn veneer_at(known: &PlacedLink<'_>, region: u32, target: BranchTarget) -> Option<u32>
     requires { Knows known.now }
     ensures { result ≡ veneers_at known.now.placement.now region (home target.place) target.thumb }
 {
@@ -73,7 +72,7 @@ fn veneer_at(known: &Known<'_>, region: u32, target: Target) -> Option<u32>
 }
 
 /// The address of an area.
-fn address_at(known: &Known<'_>, object: u32, area: u32) -> u64
+fn address_at(known: &PlacedLink<'_>, object: u32, area: u32) -> u64
     requires { Knows known.now }
     ensures value { result ≡ base_in known.now.placement.now object area }
     ensures bound { result ≤ 2 ^ 32 }
@@ -82,7 +81,7 @@ fn address_at(known: &Known<'_>, object: u32, area: u32) -> u64
 }
 
 /// The address of a place, reduced modulo 2^32.
-pub fn address_of(known: &Known<'_>, place: Place) -> u64
+pub fn address_of(known: &PlacedLink<'_>, place: AreaOffset) -> u64
     requires { Knows known.now }
     ensures value { result ≡ target_in known.now.placement.now (home place) }
     ensures bound { result < 2 ^ 32 }
@@ -91,7 +90,7 @@ pub fn address_of(known: &Known<'_>, place: Place) -> u64
 }
 
 /// How a branch of a region goes to its target.
-fn detour_to(known: &Known<'_>, region: u32, target: Option<Target>) -> Detour
+fn detour_to(known: &PlacedLink<'_>, region: u32, target: Option<BranchTarget>) -> Detour
     requires { Knows known.now }
     ensures way { IsWayOf known.now.placement.now region target result.veneer result.goal }
     ensures target { result.target ≡ target }
@@ -112,7 +111,7 @@ fn detour_to(known: &Known<'_>, region: u32, target: Option<Target>) -> Detour
 }
 
 /// How the branch of a relocation of an area goes. `start` is what the area's relocations do where it begins.
-pub fn detour_at(known: &Known<'_>, site: &Site<'_>, start: Start, reloc: Reloc) -> Detour
+pub fn detour_at(known: &PlacedLink<'_>, site: &Site<'_>, start: Start, reloc: Reloc) -> Detour
     requires known { Knows known.now }
     requires site { IsSite known.now site.now }
     requires inside { is_outside site.now.area.now.bytes (field_of reloc) ≡ false }

@@ -5,14 +5,14 @@ ghost use Rattle.link_apply.specs.Flaws.{has_bad_way, is_far, is_far_behind, is_
 ghost use Rattle.link_apply.specs.Targets.{way_by};
 
 use crate::numbers::{ahead, middle, span, total};
-use crate::targets::Target;
+use link_values::BranchTarget;
 
 /// The form, the sum of a byte or a half-word, or the distance of a branch.
 #[derive(Clone, Copy, PartialEq, Eq, Debug)]
 pub enum Flaw {
-    Form,
-    Sum,
-    Distance,
+    Malformed,
+    Overflow,
+    OutOfReach,
 }
 
 /// Of a byte's sum.
@@ -25,7 +25,7 @@ pub fn flaw_of_byte(sum: u64) -> Option<Flaw>
     if sum >= 0xFFFF_FF80 {
         return None;
     }
-    Some(Flaw::Sum)
+    Some(Flaw::Overflow)
 }
 
 /// Of a half-word's sum.
@@ -38,7 +38,7 @@ pub fn flaw_of_half(sum: u64) -> Option<Flaw>
     if sum >= 0xFFFF_8000 {
         return None;
     }
-    Some(Flaw::Sum)
+    Some(Flaw::Overflow)
 }
 
 /// Whether no branch of a state has the displacement.
@@ -70,10 +70,10 @@ pub fn flaw_of_direct(thumb: bool, word: u32, more: u64, less: u64) -> Option<Fl
 {
     let from = span(thumb, word);
     if is_unaligned(thumb, total(from, more, less)) {
-        return Some(Flaw::Form);
+        return Some(Flaw::Malformed);
     }
     if is_too_far(thumb, less, from + more) {
-        return Some(Flaw::Distance);
+        return Some(Flaw::OutOfReach);
     }
     None
 }
@@ -91,23 +91,29 @@ fn is_too_far_behind(thumb: bool, veneer: u64, goal: u64) -> bool
 }
 
 /// Of a branch at an address that goes by a veneer.
-pub fn flaw_of_detour(thumb: bool, at: u64, veneer: u64, target: Target, goal: u64) -> Option<Flaw>
+pub fn flaw_of_detour(
+    thumb: bool,
+    at: u64,
+    veneer: u64,
+    target: BranchTarget,
+    goal: u64,
+) -> Option<Flaw>
     requires at { at < 2 ^ 34 }
     requires veneer { veneer < 2 ^ 33 }
     requires goal { goal < 2 ^ 33 }
     ensures { result ≡ way_flaw thumb at 0 0 0 veneer (way_by (Some target)) goal }
 {
     if is_unaligned(target.thumb, goal) {
-        return Some(Flaw::Form);
+        return Some(Flaw::Malformed);
     }
     if is_unaligned(thumb, total(veneer, middle(thumb), at + ahead(thumb))) {
-        return Some(Flaw::Form);
+        return Some(Flaw::Malformed);
     }
     if is_too_far(thumb, at + ahead(thumb), veneer + middle(thumb)) {
-        return Some(Flaw::Distance);
+        return Some(Flaw::OutOfReach);
     }
     if is_too_far_behind(target.thumb, veneer, goal) {
-        return Some(Flaw::Distance);
+        return Some(Flaw::OutOfReach);
     }
     None
 }

@@ -7,18 +7,19 @@ ghost use Rattle.aof_object.specs.declared.records.Reloc.{Reloc as Relocation};
 ghost use Rattle.link_model.specs.Veneers.{IsIn};
 ghost use Rattle.patch_model.specs.Fields.{field_of, Field, Values};
 ghost use Rattle.link_apply.specs.Flaws.{has_bad_field, is_based, is_of_itself, is_outside};
-ghost use Rattle.link_apply.specs.Starts.{kind_by, starts, AreStarts};
+ghost use Rattle.link_apply.specs.Starts.{starts, AreStarts};
 
 use crate::overlaps::is_overlapping;
-use crate::starts::{Start, kind_of, place_of, size_of};
-use aof_object::{Area, Reloc};
+use crate::starts::Start;
+use aof_object::{Area, Reloc, RelocationTarget};
 use indexmap::IndexMap;
 
 /// Whether the field of a relocation goes beyond the bytes.
 pub fn is_outside_of(bytes: &[u8], reloc: Reloc) -> bool
     ensures { result ≡ is_outside bytes.now (field_of reloc) }
 {
-    let end = place_of(reloc) as u64 + size_of(kind_of(reloc)) as u64;
+    let field = reloc.field();
+    let end = u64::from(field.place) + u64::from(field.kind.size());
     (bytes.len() as u64) < end
 }
 
@@ -26,23 +27,20 @@ pub fn is_outside_of(bytes: &[u8], reloc: Reloc) -> bool
 fn is_by_own_area(area: u32, reloc: Reloc) -> bool
     ensures { result ≡ is_of_itself area reloc }
 {
-    if reloc.word / 0x400_0000 % 2 != 1 {
+    if !reloc.is_relative() {
         return false;
     }
-    if reloc.word / 0x800_0000 % 2 == 1 {
-        return false;
+    match reloc.target() {
+        RelocationTarget::Symbol(_) => false,
+        RelocationTarget::Area(number) => number == area,
     }
-    reloc.word % 0x100_0000 == area
 }
 
 /// Whether bit 28 stands without bit 26.
 fn is_based_alone(reloc: Reloc) -> bool
     ensures { result ≡ is_based reloc }
 {
-    if reloc.word / 0x1000_0000 % 2 != 1 {
-        return false;
-    }
-    reloc.word / 0x400_0000 % 2 != 1
+    reloc.is_based() && !reloc.is_relative()
 }
 
 /// Whether the field of a relocation of an area of a number is a bad one. `start` is what the area's relocations do
@@ -93,7 +91,7 @@ pub fn sums_of(start: Start, base: u64) -> Sums
     requires small { start.relative < 2 ^ 30 }
     ensures tells { (values : Values) (relocs : List Relocation) (f : Field)
         → starts values relocs f.place ≡ Some start → start.is_mixed ≡ false
-        → f.kind ≡ kind_by start.kind → Tells values base relocs f start result }
+        → f.kind ≡ start.kind → Tells values base relocs f start result }
     ensures more { result.more ≡ start.more }
     ensures less { result.less < 2 ^ 63 }
 {

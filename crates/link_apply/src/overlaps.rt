@@ -9,7 +9,7 @@ ghost use Rattle.patch_model.specs.Fields.{field_of, Values};
 ghost use Rattle.link_apply.specs.Flaws.{overlaps};
 ghost use Rattle.link_apply.specs.Starts.{begins, is_crowded, reaches, AreStarts};
 
-use crate::starts::{Start, kind_of, place_of, size_of};
+use crate::starts::Start;
 use aof_object::Reloc;
 use indexmap::IndexMap;
 
@@ -70,6 +70,7 @@ pub fn is_overlapping(starts: &IndexMap<u64, Start>, start: Start, reloc: Reloc)
         → AreStarts values relocs starts.now
         → result ≡ list_any (λ q. overlaps (field_of q) (field_of reloc)) relocs }
 {
-    let size = size_of(kind_of(reloc)) as u64;
-    is_crowded_at(starts, place_of(reloc) as u64, size, start.is_mixed)
+    let field = reloc.field();
+    let size = u64::from(field.kind.size());
+    is_crowded_at(starts, u64::from(field.place), size, start.is_mixed)
 }

@@ -7,17 +7,15 @@ ghost use Rattle.patch_model.specs.Fields.{field_of, size_of as kind_size, kind_
 ghost use Rattle.link_apply.specs.Flaws.{has_bad_field, is_outside, veneer_of};
 ghost use Rattle.link_apply.specs.Judged.{number_with, IsWay};
 ghost use Rattle.link_apply.specs.PatchedBytes.{patched_number, turned};
-ghost use Rattle.link_apply.specs.Starts.{code_of, kind_by, starts, AreBelow};
+ghost use Rattle.link_apply.specs.Starts.{starts, AreBelow};
 ghost use Rattle.link_apply.specs.Targets.{values_by, way_by, IsWayOf};
 
 use crate::judging::{Sums, sums_of};
 use crate::numbers::total;
 use crate::relocations::{Detour, number_of};
-use crate::starts::{FieldKind, Start, kind_of, place_of};
-use crate::targets::Target;
+use crate::starts::Start;
 use crate::ways::{target_by, turned_word};
-use aof_object::{Area, Reloc};
-use link_values::SymbolValue;
+use aof_object::{Area, FieldKind, Reloc};
 
 /// The branch of a word at an address with the displacement that it is to have.
 fn branch_with(thumb: bool, at: u64, word: u32, sums: Sums, detour: Detour) -> u32
@@ -41,15 +39,15 @@ fn number_by(kind: FieldKind, at: u64, word: u32, sums: Sums, detour: Detour) ->
     requires at { at < 2 ^ 34 }
     requires more { sums.more < 2 ^ 63 }
     ensures value { (p : Placement) (region : ℕ) → IsWayOf p region detour.target detour.veneer detour.goal
-        → result ≡ number_with p region at word sums.more sums.less (way_by detour.target) (kind_by kind) }
-    ensures bound { result < 256 ^ kind_size (kind_by kind) }
+        → result ≡ number_with p region at word sums.more sums.less (way_by detour.target) kind }
+    ensures bound { result < 256 ^ kind_size kind }
 {
     match kind {
         FieldKind::Byte => (total(word as u64, sums.more, sums.less) % 0x100) as u32,
         FieldKind::Half => (total(word as u64, sums.more, sums.less) % 0x1_0000) as u32,
         FieldKind::Word => total(word as u64, sums.more, sums.less) as u32,
-        FieldKind::Arm => branch_with(false, at, word, sums, detour),
-        FieldKind::Thumb => branch_with(true, at, word, sums, detour),
+        FieldKind::Branch(false) => branch_with(false, at, word, sums, detour),
+        FieldKind::Branch(true) => branch_with(true, at, word, sums, detour),
     }
 }
 
@@ -69,14 +67,18 @@ pub fn new_number(start: Start, base: u64, area: &Area, reloc: Reloc, detour: De
     ensures bound { result < 256 ^ kind_size (field_kind reloc) }
 {
     let word = number_of(area.bytes.as_slice(), reloc);
-    let at = base + place_of(reloc) as u64;
-    number_by(kind_of(reloc), at, word, sums_of(start, base), detour)
+    let field = reloc.field();
+    let at = base + u64::from(field.place);
+    number_by(field.kind, at, word, sums_of(start, base), detour)
 }
 
 fn is_thumb(kind: FieldKind) -> bool
-    ensures { (thumb : Bool) → kind ≡ code_of (Branch thumb) → result ≡ thumb }
+    ensures { (thumb : Bool) → kind ≡ Branch thumb → result ≡ thumb }
 {
-    kind == FieldKind::Thumb
+    match kind {
+        FieldKind::Branch(thumb) => thumb,
+        _ => false,
+    }
 }
 
 /// The target of the branch of a relocation of an area at a base, where it goes by a veneer.
@@ -86,7 +88,7 @@ pub fn target_at(
     base: u64,
     area: &Area,
     reloc: Reloc,
-) -> Option<Target>
+) -> Option<BranchTarget>
     requires symbols { AreBelow symbols.now }
     requires inside { is_outside area.now.bytes (field_of reloc) ≡ false }
     requires base { base < 2 ^ 33 }
@@ -96,7 +98,10 @@ pub fn target_at(
         → IsWay (values_by bases symbols.now) base number area.now reloc (way_by result) }
 {
     let word = number_of(area.bytes.as_slice(), reloc);
-    let at = base + place_of(reloc) as u64;
-    let thumb = is_thumb(kind_of(reloc));
+    let field = reloc.field();
+    let at = base + u64::from(field.place);
+    let thumb = is_thumb(field.kind);
     target_by(symbols, thumb, at, word, sums_of(start, base), start.symbol)
 }
+
+use link_values::{BranchTarget, SymbolValue};

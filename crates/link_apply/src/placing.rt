@@ -14,7 +14,7 @@ ghost use Rattle.link_apply.specs.Sites.{known_values, IsSite, Knows};
 
 use crate::areas::patched;
 use crate::laying::RegionPiece;
-use crate::sites::{Known, Site, site_of};
+use crate::sites::{PlacedLink, Site, site_of};
 use aof_object::{Area, Object};
 use link_model::{Named, PlacedArea};
 use sdt_fault::answer::Fault;
@@ -24,7 +24,7 @@ use std::alloc::Global;
 /// The piece of an area of an object, which a zero-initialised one doesn't have, or its refusal.
 fn piece_of(
     alloc: Global,
-    known: &Known<'_>,
+    known: &PlacedLink<'_>,
     site: &Site<'_>,
     object: &Named<Object>,
 ) -> Result<Option<RegionPiece>, Fault>
@@ -35,7 +35,7 @@ fn piece_of(
         (site_piece known.now site.now)) }
 {
     let bytes = patched(alloc, known, site, object)?;
-    if site.area.attributes / 0x1000 % 2 == 1 {
+    if site.area.flags().is_zero_initialised() {
         return Ok(None);
     }
     Ok(Some(RegionPiece {
@@ -48,7 +48,7 @@ fn piece_of(
 /// The piece of a placed area of an object, or its refusal.
 fn piece_in(
     alloc: Global,
-    known: &Known<'_>,
+    known: &PlacedLink<'_>,
     placed: PlacedArea,
     object: &Named<Object>,
     area: &Area,
@@ -68,7 +68,7 @@ fn piece_in(
 /// The piece of a placed area, or its refusal.
 fn piece_at(
     alloc: Global,
-    known: &Known<'_>,
+    known: &PlacedLink<'_>,
     placed: PlacedArea,
 ) -> Result<Option<RegionPiece>, Fault>
     requires known { Knows known.now }
@@ -100,7 +100,7 @@ fn add_piece(pieces: &mut Vec<RegionPiece>, piece: Option<RegionPiece>) -> Resul
 }
 
 /// The pieces of all placed areas, or the first refusal in their order.
-pub fn pieces_of_areas(alloc: Global, known: &Known<'_>) -> Result<List<RegionPiece>, Fault>
+pub fn pieces_of_areas(alloc: Global, known: &PlacedLink<'_>) -> Result<List<RegionPiece>, Fault>
     requires { Knows known.now }
     ensures { Gives result (refused_or (apply_refusal known.now.linked.now known.now.placement.now)
         (area_region_pieces (link_of known.now.linked.now) known.now.placement.now

@@ -7,23 +7,23 @@ ghost use Rattle.link_model.specs.declared.placing.Placement.{Placement};
 ghost use Rattle.patch_model.specs.Fields.{field_of, is_relative, number_in, Branch, Values};
 ghost use Rattle.link_apply.specs.Flaws.{flaw_of, is_outside};
 ghost use Rattle.link_apply.specs.Judged.{flaw_by, IsIndex, IsWay};
-ghost use Rattle.link_apply.specs.Starts.{kind_by, AreStarts};
+ghost use Rattle.link_apply.specs.Starts.{AreStarts};
 ghost use Rattle.link_apply.specs.Targets.{way_by, IsWayOf};
 
 use crate::fields::number_at;
 use crate::flaws::{Flaw, flaw_of_byte, flaw_of_half};
 use crate::judging::{Sums, is_bad_field, sums_of};
 use crate::numbers::{is_branch_word, total};
-use crate::starts::{FieldKind, Start, kind_of, place_of};
-use crate::targets::Target;
+use crate::starts::Start;
 use crate::ways::flaw_of_way;
-use aof_object::{Area, Reloc};
+use aof_object::{Area, FieldKind, Reloc};
 use indexmap::IndexMap;
+use link_values::BranchTarget;
 
 /// How a branch goes: to its target by a veneer, which is missing where it has no address.
 #[derive(Clone, Copy)]
 pub struct Detour {
-    pub target: Option<Target>,
+    pub target: Option<BranchTarget>,
     pub veneer: Option<u32>,
     /// The target's address.
     pub goal: u64,
@@ -46,10 +46,10 @@ fn flaw_of_branch(
         → result ≡ flaw_by p region at word sums.more sums.less only (way_by detour.target) (Branch thumb) }
 {
     if !only {
-        return Some(Flaw::Form);
+        return Some(Flaw::Malformed);
     }
     if !is_branch_word(thumb, word) {
-        return Some(Flaw::Form);
+        return Some(Flaw::Malformed);
     }
     flaw_of_way(
         thumb,
@@ -76,14 +76,14 @@ fn flaw_of_field(
     requires less { sums.less < 2 ^ 63 }
     requires goal { detour.goal < 2 ^ 33 }
     ensures { (p : Placement) (region : ℕ) → IsWayOf p region detour.target detour.veneer detour.goal
-        → result ≡ flaw_by p region at word sums.more sums.less only (way_by detour.target) (kind_by kind) }
+        → result ≡ flaw_by p region at word sums.more sums.less only (way_by detour.target) kind }
 {
     match kind {
         FieldKind::Byte => flaw_of_byte(total(word as u64, sums.more, sums.less)),
         FieldKind::Half => flaw_of_half(total(word as u64, sums.more, sums.less)),
         FieldKind::Word => None,
-        FieldKind::Arm => flaw_of_branch(false, at, word, sums, only, detour),
-        FieldKind::Thumb => flaw_of_branch(true, at, word, sums, only, detour),
+        FieldKind::Branch(false) => flaw_of_branch(false, at, word, sums, only, detour),
+        FieldKind::Branch(true) => flaw_of_branch(true, at, word, sums, only, detour),
     }
 }
 
@@ -91,10 +91,7 @@ fn flaw_of_field(
 fn is_only_at(start: Start, reloc: Reloc) -> bool
     ensures { result ≡ (is_relative reloc && start.is_alone) }
 {
-    if reloc.word / 0x400_0000 % 2 != 1 {
-        return false;
-    }
-    start.is_alone
+    reloc.is_relative() && start.is_alone
 }
 
 /// What the field of a relocation holds.
@@ -102,7 +99,8 @@ pub fn number_of(bytes: &[u8], reloc: Reloc) -> u32
     requires { is_outside bytes.now (field_of reloc) ≡ false }
     ensures { result ≡ number_in bytes.now (field_of reloc) }
 {
-    number_at(bytes, place_of(reloc) as usize, kind_of(reloc))
+    let field = reloc.field();
+    number_at(bytes, field.place as usize, field.kind)
 }
 
 /// Of a relocation of an area of a number at a base. `start` is what the area's relocations do where its field
@@ -130,11 +128,12 @@ pub fn flaw_of_relocation(
         → result ≡ flaw_of p values region base number area.now reloc }
 {
     if is_bad_field(starts, start, number, area, reloc) {
-        return Some(Flaw::Form);
+        return Some(Flaw::Malformed);
     }
     let word = number_of(area.bytes.as_slice(), reloc);
-    let at = base + place_of(reloc) as u64;
+    let field = reloc.field();
+    let at = base + u64::from(field.place);
     let sums = sums_of(start, base);
     let only = is_only_at(start, reloc);
-    flaw_of_field(kind_of(reloc), at, word, sums, only, detour)
+    flaw_of_field(field.kind, at, word, sums, only, detour)
 }

@@ -17,7 +17,7 @@ use std::alloc::Global;
 /// A link and its placement, with the addresses of areas, the values of symbols by the numbers of objects
 /// and symbols, and the addresses of veneers.
 #[derive(Drop)]
-pub struct Known<'a> {
+pub struct PlacedLink<'a> {
     pub linked: &'a Linked,
     pub placement: &'a Placement,
     pub bases: AreaBases,
@@ -49,7 +49,7 @@ fn symbols_of(values: &[List<SymbolValue>], object: u32) -> &[SymbolValue]
 /// The site of a placed area. An area of 2^28 relocations or more counts as want of memory.
 pub fn site_of<'a>(
     alloc: Global,
-    known: &'a Known<'_>,
+    known: &'a PlacedLink<'_>,
     placed: PlacedArea,
     area: &'a Area,
 ) -> Result<Site<'a>, NoMemory>

@@ -1,27 +1,17 @@
 //! What relocations do to the fields that begin at each place of an area.
 
 ghost use Rattle.std.specs.Prelude.{◌≡◌, ℕ, ◌<◌, ◌^◌, ◌==◌, ◌||◌, not, Some, nat_eq, length, OnOk, IfOk, IfSome, if◌then◌else◌};
-ghost use Rattle.patch_model.specs.Fields.{field_of, kind_of as field_kind, mark_of as field_mark, size_of as kind_size, value_named, is_thumb_label as is_label, is_same_kind};
+ghost use Rattle.patch_model.specs.Fields.{field_of, mark_of as field_mark, value_named, is_thumb_label as is_label, is_same_kind};
 ghost use Rattle.indexmap.specs.IndexMap.{get};
 ghost use Rattle.link_apply.specs.Targets.{values_by};
-ghost use Rattle.link_apply.specs.Starts.{code_of, kind_by, symbol_by, started as start_with, AreBelow, AreLow, AreSmall, AreStarts, IsSmall};
+ghost use Rattle.link_apply.specs.Starts.{symbol_by, started as start_with, AreBelow, AreLow, AreSmall, AreStarts, IsSmall};
 ghost use Rattle.link_values.specs.Bases.{base_of};
 
-use aof_object::Reloc;
+use aof_object::{FieldKind, Reloc, RelocationTarget};
 use indexmap::IndexMap;
 use link_values::{AreaBases, SymbolValue, base_at};
 use sdt_fault::NoMemory;
 use std::alloc::Global;
-
-/// What a field is: a byte, a half-word, a word, or a branch of ARM or of Thumb code.
-#[derive(Clone, Copy, PartialEq, Eq, Debug)]
-pub enum FieldKind {
-    Byte,
-    Half,
-    Word,
-    Arm,
-    Thumb,
-}
 
 /// What the relocations of one place do.
 #[derive(Clone, Copy)]
@@ -40,47 +30,6 @@ pub struct Start {
     pub relative: u64,
     /// The first symbol.
     pub symbol: Option<u32>,
-}
-
-/// What a relocation's field is, by bits 24 and 25 of its word; bit 0 of an instruction's offset marks Thumb code.
-pub fn kind_of(reloc: Reloc) -> FieldKind
-    ensures { result ≡ code_of (field_kind reloc) }
-{
-    let kind = reloc.word / 0x100_0000 % 4;
-    if kind == 0 {
-        return FieldKind::Byte;
-    }
-    if kind == 1 {
-        return FieldKind::Half;
-    }
-    if kind == 2 {
-        return FieldKind::Word;
-    }
-    if reloc.offset % 2 == 1 {
-        return FieldKind::Thumb;
-    }
-    FieldKind::Arm
-}
-
-/// Where its field begins.
-pub fn place_of(reloc: Reloc) -> u32
-    ensures { result ≡ (field_of reloc).place }
-{
-    if reloc.word / 0x100_0000 % 4 == 3 {
-        return reloc.offset - reloc.offset % 2;
-    }
-    reloc.offset
-}
-
-/// In bytes.
-pub fn size_of(kind: FieldKind) -> u32
-    ensures { result ≡ kind_size (kind_by kind) }
-{
-    match kind {
-        FieldKind::Byte => 1,
-        FieldKind::Half => 2,
-        _ => 4,
-    }
 }
 
 fn symbol_number(symbols: &[SymbolValue], number: u32) -> u64
@@ -110,11 +59,10 @@ fn number_of(bases: &AreaBases, object: u32, symbols: &[SymbolValue], reloc: Rel
     ensures value { result ≡ value_named (values_by (base_of bases.now object) symbols.now) reloc }
     ensures bound { result < 2 ^ 34 }
 {
-    let number = reloc.word % 0x100_0000;
-    if reloc.word / 0x800_0000 % 2 == 1 {
-        return symbol_number(symbols, number);
+    match reloc.target() {
+        RelocationTarget::Symbol(number) => symbol_number(symbols, number),
+        RelocationTarget::Area(number) => base_at(bases, object, number),
     }
-    base_at(bases, object, number)
 }
 
 /// The 1 that a label of Thumb code counts more in a word.
@@ -122,33 +70,30 @@ fn label_mark(symbols: &[SymbolValue], reloc: Reloc) -> u64
     ensures value { result ≡ field_mark (values_by (λ k. 0) symbols.now) reloc }
     ensures bound { result < 2 }
 {
-    if kind_of(reloc) != FieldKind::Word {
+    let FieldKind::Word = reloc.kind() else {
+        return 0;
+    };
+    if reloc.is_relative() {
         return 0;
     }
-    if reloc.word / 0x400_0000 % 2 == 1 {
+    let Some(number) = reloc.symbol() else {
         return 0;
-    }
-    if reloc.word / 0x800_0000 % 2 != 1 {
-        return 0;
-    }
-    if is_thumb_label(symbols, reloc.word % 0x100_0000) {
-        return 1;
-    }
-    0
+    };
+    u64::from(is_thumb_label(symbols, number))
 }
 
 fn symbol_of(reloc: Reloc, next: Option<u32>) -> Option<u32>
     ensures { result ≡ symbol_by reloc next }
 {
-    if reloc.word / 0x800_0000 % 2 == 1 {
-        return Some(reloc.word % 0x100_0000);
+    match reloc.symbol() {
+        Some(number) => Some(number),
+        None => next,
     }
-    next
 }
 
 /// Whether the kinds of relocations at a place, with one before them, differ.
 fn is_mixed_with(start: Start, kind: FieldKind) -> bool
-    ensures { result ≡ (start.is_mixed || not (is_same_kind (kind_by start.kind) (kind_by kind))) }
+    ensures { result ≡ (start.is_mixed || not (is_same_kind start.kind kind)) }
 {
     if start.is_mixed {
         return true;
@@ -169,14 +114,14 @@ fn started(
     requires rest { IfSome rest IsSmall }
     ensures { result ≡ start_with (values_by (base_of bases.now object) symbols.now) reloc rest }
 {
-    let kind = kind_of(reloc);
+    let kind = reloc.kind();
     let more = number_of(bases, object, symbols, reloc) + label_mark(symbols, reloc);
-    let relative = (reloc.word / 0x400_0000 % 2) as u64;
+    let relative = u64::from(reloc.is_relative());
     match rest {
         None => Start {
             kind,
             is_mixed: false,
-            widest: size_of(kind),
+            widest: kind.size(),
             is_alone: true,
             more,
             relative,
@@ -185,7 +130,7 @@ fn started(
         Some(start) => Start {
             kind,
             is_mixed: is_mixed_with(start, kind),
-            widest: start.widest.max(size_of(kind)),
+            widest: start.widest.max(kind.size()),
             is_alone: false,
             more: more + start.more,
             relative: relative + start.relative,
@@ -209,7 +154,7 @@ fn note(
         then Some (start_with (values_by (base_of bases.now object) symbols.now) reloc (get nat_eq starts.old p))
         else get nat_eq starts.old p)) }
 {
-    let place = place_of(reloc) as u64;
+    let place = u64::from(reloc.field().place);
     let rest = starts.get(&place).copied();
     let start = started(bases, object, symbols, reloc, rest);
     starts.insert(place, start)?;

@@ -14,10 +14,10 @@ ghost use Rattle.link_apply.specs.Sites.{Knows};
 
 use crate::detours::address_of;
 use crate::laying::{RegionPiece, push_zeros};
-use crate::sites::Known;
+use crate::sites::PlacedLink;
 use boot_code::{CopyRow, ZeroRow, boot_words, table};
 use link_model::Region;
-use link_values::Place;
+use link_values::AreaOffset;
 use sdt_fault::{Bytes, NoMemory};
 use sdt_word::push_word;
 use std::alloc::Global;
@@ -88,12 +88,12 @@ fn mark(thumb: bool) -> u64
 }
 
 /// The entry's address with bit 0 set for Thumb, as the low 32 bits of it.
-fn entry_word(known: &Known<'_>) -> u32
+fn entry_word(known: &PlacedLink<'_>) -> u32
     requires { Knows known.now }
     ensures { result ≡ entry_of (link_of known.now.linked.now) known.now.placement.now % 2 ^ 32 }
 {
     let entry = known.linked.entry;
-    let place = Place {
+    let place = AreaOffset {
         object: entry.object,
         area: entry.area,
         offset: entry.offset,
@@ -111,7 +111,7 @@ fn push_words(bytes: &mut Vec<u8>, words: &[u32]) -> Result<(), NoMemory>
 }
 
 /// The table behind the startup code.
-fn table_words(alloc: Global, known: &Known<'_>) -> Result<Vec<u32>, NoMemory>
+fn table_words(alloc: Global, known: &PlacedLink<'_>) -> Result<Vec<u32>, NoMemory>
     requires { Knows known.now }
     ensures { IfOk result (λ words. words.items
         ≡ table_list (copy_rows known.now.placement.now) (zero_rows known.now.placement.now)
@@ -128,7 +128,7 @@ fn table_words(alloc: Global, known: &Known<'_>) -> Result<Vec<u32>, NoMemory>
     )
 }
 
-fn startup_bytes(alloc: Global, known: &Known<'_>) -> Result<Vec<u8>, NoMemory>
+fn startup_bytes(alloc: Global, known: &PlacedLink<'_>) -> Result<Vec<u8>, NoMemory>
     requires { Knows known.now }
     ensures { IfOk result (λ bytes. bytes.items
         ≡ startup_list (link_of known.now.linked.now) known.now.placement.now) }
@@ -143,7 +143,7 @@ fn startup_bytes(alloc: Global, known: &Known<'_>) -> Result<Vec<u8>, NoMemory>
 /// The startup code at its address, which fills the first region.
 fn startup_piece(
     alloc: Global,
-    known: &Known<'_>,
+    known: &PlacedLink<'_>,
     boot: u32,
     region: &Region,
 ) -> Result<RegionPiece, NoMemory>
@@ -168,7 +168,7 @@ fn startup_piece(
 /// Appends the piece of the startup code, where a placement has one.
 pub fn add_startup(
     alloc: Global,
-    known: &Known<'_>,
+    known: &PlacedLink<'_>,
     pieces: &mut Vec<RegionPiece>,
 ) -> Result<(), NoMemory>
     requires { Knows known.now }

@@ -7,14 +7,7 @@ ghost use Rattle.patch_model.specs.Patched.{way_home};
 ghost use Rattle.std.specs.Option.{option_map};
 
 use crate::numbers::total;
-use link_values::{Place, SymbolValue};
-
-/// What a veneer leads to.
-#[derive(Clone, Copy, PartialEq, Eq, Debug)]
-pub struct Target {
-    pub place: Place,
-    pub thumb: bool,
-}
+use link_values::{AreaOffset, BranchTarget, SymbolValue};
 
 /// The target of a branch by a symbol, where it goes by a veneer. Without its directives the branch leads
 /// to a place `reach` behind it.
@@ -24,7 +17,7 @@ pub fn target_of(
     more: u64,
     less: u64,
     symbol: SymbolValue,
-) -> Option<Target>
+) -> Option<BranchTarget>
     requires reach { reach < 2 ^ 32 }
     requires sums { less + symbol.number < 2 ^ 64 }
     ensures { way_by result ≡ way_home thumb reach more less (meant symbol)
@@ -37,12 +30,12 @@ pub fn target_of(
         return None;
     }
     let offset = total(home.offset as u64 + reach, more, less + symbol.number) as u32;
-    let place = Place {
+    let place = AreaOffset {
         object: home.object,
         area: home.area,
         offset,
     };
-    Some(Target {
+    Some(BranchTarget {
         place,
         thumb: symbol.thumb,
     })

@@ -4,8 +4,7 @@ ghost use Rattle.std.specs.Prelude.{◌≡◌, IfOk};
 ghost use Rattle.link_apply.specs.Flaws.{symbol_name, told};
 
 use crate::flaws::Flaw;
-use crate::starts::place_of;
-use aof_object::{Area, Object, Reloc};
+use aof_object::{Area, Object, Reloc, RelocationTarget};
 use link_model::Named;
 use sdt_fault::refusal::Refusal;
 use sdt_fault::{NoMemory, Text};
@@ -15,16 +14,15 @@ use std::alloc::Global;
 fn name_of(alloc: Global, object: &Object, reloc: Reloc) -> Result<Text, NoMemory>
     ensures { IfOk result (λ name. name ≡ symbol_name object.now reloc) }
 {
-    let number = (reloc.word % 0x100_0000) as usize;
-    if reloc.word / 0x800_0000 % 2 == 1 {
-        return match object.symbols.as_slice().get(number) {
+    match reloc.target() {
+        RelocationTarget::Symbol(number) => match object.symbols.as_slice().get(number as usize) {
             None => Ok(Text::from_vec(Vec::new(alloc))),
             Some(symbol) => symbol.name.try_clone(alloc),
-        };
-    }
-    match object.areas.as_slice().get(number) {
-        None => Ok(Text::from_vec(Vec::new(alloc))),
-        Some(area) => area.name.try_clone(alloc),
+        },
+        RelocationTarget::Area(number) => match object.areas.as_slice().get(number as usize) {
+            None => Ok(Text::from_vec(Vec::new(alloc))),
+            Some(area) => area.name.try_clone(alloc),
+        },
     }
 }
 
@@ -41,19 +39,19 @@ pub fn refusal_of(
 {
     let name = object.name.try_clone(alloc)?;
     let place = area.name.try_clone(alloc)?;
-    let offset = place_of(reloc);
+    let offset = reloc.field().place;
     Ok(match flaw {
-        Flaw::Form => Refusal::BadRelocation {
+        Flaw::Malformed => Refusal::BadRelocation {
             object: name,
             area: place,
             offset,
         },
-        Flaw::Sum => Refusal::FieldOverflow {
+        Flaw::Overflow => Refusal::FieldOverflow {
             object: name,
             area: place,
             offset,
         },
-        Flaw::Distance => Refusal::Unreachable {
+        Flaw::OutOfReach => Refusal::Unreachable {
             object: name,
             area: place,
             offset,

@@ -8,9 +8,9 @@ ghost use Rattle.link_apply.specs.Sites.{Knows};
 use crate::detours::address_of;
 use crate::laying::RegionPiece;
 use crate::numbers::{ahead, middle, total, with_span};
-use crate::sites::Known;
+use crate::sites::PlacedLink;
 use link_model::PlacedVeneer;
-use link_values::Place;
+use link_values::AreaOffset;
 use sdt_fault::{Bytes, NoMemory};
 use sdt_word::{push_half, push_word};
 use std::alloc::Global;
@@ -60,13 +60,13 @@ fn bytes_of_veneer(
 
 fn piece_of_veneer(
     alloc: Global,
-    known: &Known<'_>,
+    known: &PlacedLink<'_>,
     placed: &PlacedVeneer,
 ) -> Result<RegionPiece, NoMemory>
     requires { Knows known.now }
     ensures { IfOk result (λ piece. piece ≡ veneer_region_piece known.now.placement.now placed.now) }
 {
-    let place = Place {
+    let place = AreaOffset {
         object: placed.veneer.area.object,
         area: placed.veneer.area.area,
         offset: placed.veneer.offset,
@@ -83,7 +83,7 @@ fn piece_of_veneer(
 /// Appends the pieces of a placement's veneers.
 pub fn add_veneers(
     alloc: Global,
-    known: &Known<'_>,
+    known: &PlacedLink<'_>,
     pieces: &mut Vec<RegionPiece>,
 ) -> Result<(), NoMemory>
     requires { Knows known.now }

@@ -5,15 +5,15 @@ ghost use Rattle.patch_model.specs.Patched.{ahead as ahead_of, middle as middle_
 ghost use Rattle.link_apply.specs.Starts.{AreBelow};
 ghost use Rattle.link_model.specs.declared.placing.Placement.{Placement};
 ghost use Rattle.link_apply.specs.Flaws.{goal_of, lacks_veneer, unless, veneer_of, way_flaw};
-ghost use Rattle.link_apply.specs.declared.flaws.Flaw.TheVariants.{Form};
+ghost use Rattle.link_apply.specs.declared.flaws.Flaw.TheVariants.{Malformed};
 ghost use Rattle.link_apply.specs.PatchedBytes.{turned};
 ghost use Rattle.link_apply.specs.Targets.{values_by, way_by, IsWayOf};
 
 use crate::flaws::{Flaw, flaw_of_detour, flaw_of_direct};
 use crate::judging::Sums;
 use crate::numbers::{ahead, middle, span, total, with_span};
-use crate::targets::{Target, target_of};
-use link_values::SymbolValue;
+use crate::targets::target_of;
+use link_values::{BranchTarget, SymbolValue};
 
 /// What is wrong with the branch of a word at an address, by the veneer of its target and the target's address.
 pub fn flaw_of_way(
@@ -21,7 +21,7 @@ pub fn flaw_of_way(
     at: u64,
     word: u32,
     sums: Sums,
-    target: Option<Target>,
+    target: Option<BranchTarget>,
     veneer: Option<u32>,
     goal: u64,
 ) -> Option<Flaw>
@@ -30,7 +30,7 @@ pub fn flaw_of_way(
     requires less { sums.less < 2 ^ 63 }
     requires goal { goal < 2 ^ 33 }
     ensures { (p : Placement) (region : ℕ) → IsWayOf p region target veneer goal
-        → result ≡ unless Form (lacks_veneer p region (way_by target))
+        → result ≡ unless Malformed (lacks_veneer p region (way_by target))
         (way_flaw thumb at word sums.more sums.less (veneer_of p region (way_by target))
         (way_by target) (goal_of p (way_by target))) }
 {
@@ -38,7 +38,7 @@ pub fn flaw_of_way(
         return flaw_of_direct(thumb, word, sums.more, sums.less);
     };
     let Some(veneer) = veneer else {
-        return Some(Flaw::Form);
+        return Some(Flaw::Malformed);
     };
     flaw_of_detour(thumb, at, veneer as u64, target, goal)
 }
@@ -49,7 +49,7 @@ pub fn turned_word(
     at: u64,
     word: u32,
     sums: Sums,
-    target: Option<Target>,
+    target: Option<BranchTarget>,
     veneer: u32,
 ) -> u32
     requires at { at < 2 ^ 34 }
@@ -76,7 +76,7 @@ pub fn target_by(
     word: u32,
     sums: Sums,
     symbol: Option<u32>,
-) -> Option<Target>
+) -> Option<BranchTarget>
     requires symbols { AreBelow symbols.now }
     requires at { at < 2 ^ 34 }
     requires less { sums.less < 2 ^ 63 }
@@ -89,3 +89,4 @@ pub fn target_by(
     let reach = total(at + ahead(thumb) + span(thumb, word), 0, middle(thumb));
     target_of(thumb, reach, sums.more, sums.less, *found)
 }
+

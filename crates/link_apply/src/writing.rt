@@ -11,7 +11,6 @@ ghost use Rattle.link_apply.specs.PatchedBytes.{patched_bytes};
 ghost use Rattle.link_apply.specs.Written.{AreInside, AreFitting, AreNumbers};
 
 use crate::fields::put_number;
-use crate::starts::{kind_of, place_of};
 use aof_object::Reloc;
 
 /// Writes the number of the field of one of these relocations.
@@ -25,7 +24,8 @@ fn put_field(bytes: &mut [u8], relocs: &[Reloc], numbers: &[u32], i: usize)
         (bytes_of (get_or numbers.now i 0) (size_of (field_kind r))) }
 {
     let reloc = relocs[i];
-    put_number(bytes, place_of(reloc) as usize, kind_of(reloc), numbers[i]);
+    let field = reloc.field();
+    put_number(bytes, field.place as usize, field.kind, numbers[i]);
 }
 
 /// Writes the number of each field. Relocations of one field have the same number.

@@ -69,17 +69,17 @@ pub fn items_of_objects<'a>(
 pub fn is_code(item: &Item) -> bool
     ensures { result ≡ placing.is_code (shown_item item.now) }
 {
-    item.area.attributes / 0x200 % 2 == 1
+    item.area.flags().is_code()
 }
 
 pub fn is_zero_initialised(item: &Item) -> bool
     ensures { result ≡ placing.is_zero_initialised (shown_item item.now) }
 {
-    item.area.attributes / 0x1000 % 2 == 1
+    item.area.flags().is_zero_initialised()
 }
 
 pub fn is_read_only(item: &Item) -> bool
     ensures { result ≡ placing.is_read_only (shown_item item.now) }
 {
-    item.area.attributes / 0x2000 % 2 == 1
+    item.area.flags().is_read_only()
 }

@@ -16,7 +16,7 @@ use Rattle.link_model.specs.declared.placing.PlacedVeneer.{PlacedVeneer}
 use Rattle.link_model.specs.declared.placing.Region.{Region}
 use Rattle.link_values.specs.Placed.{is_area, base_in}
 use Rattle.link_place.specs.Placed.{placed_region, placed_regions, area_of, veneer_of, areas_of, veneers_of, placement_of}
-use Rattle.link_place.specs.declared.layouts.Laid.{Laid}
+use Rattle.link_place.specs.declared.layouts.RegionLayout.{RegionLayout}
 use Rattle.link_place.specs.declared.parts.Part.{Part}
 use Rattle.link_place.specs.Parts.{parts_of}
 use Rattle.link_place.proofs.PlanLemmas.{AreOf, laid_plan}
@@ -214,7 +214,7 @@ abbrev pub AreCounted : ℕ → List Planned → Type 0
 AreCounted n [] = Unit {0}
 AreCounted n (r ∷ rs) = (r.number ≡ n) × AreCounted (suc n) rs
 
-pub counted : (words origin n : ℕ) (rs : List Planned) (ps : List Part) (ls : List Laid) → AreOf words origin n rs ps ls → AreCounted n rs
+pub counted : (words origin n : ℕ) (rs : List Planned) (ps : List Part) (ls : List RegionLayout) → AreOf words origin n rs ps ls → AreCounted n rs
 counted words origin n [] ps ls all = tt
 counted words origin n (r ∷ rs) [] ls all = absurd all
 counted words origin n (r ∷ rs) (p ∷ ps) [] all = absurd all

@@ -28,7 +28,7 @@ use Rattle.link_model.specs.Members.{link_of, objects_in}
 use Rattle.link_model.specs.RegionValues.{area_of}
 use Rattle.link_model.specs.Values.{home_area}
 use Rattle.link_values.specs.Placed.{is_area, base_in, values_in}
-use Rattle.link_apply.specs.declared.flaws.Flaw.TheVariants.{Form}
+use Rattle.link_apply.specs.declared.flaws.Flaw.TheVariants.{Malformed}
 use Rattle.link_apply.specs.Flaws.{overlaps, is_of_itself, is_based, is_outside, has_bad_field, is_only, lacks_veneer, branch_flaw, way_flaw, veneer_of, goal_of, value_flaw, flaw_of, told, refusal_of, refusals_in, refusals_at, apply_refusal}
 use Rattle.link_apply.specs.PatchedBytes.{patched_bytes}
 use Rattle.link_values.specs.Shifts.{names_moving, gains, losses, word_shifts, image_base, has_bad_shifts, is_bad_branch, is_unmovable, unmovable, unmovable_in, unmovable_from, not_relocatable}
@@ -221,19 +221,19 @@ module _ (l : Linked) (p : Placement) (w : IsWholeImage l p) where
           → lacks_veneer q at.region (way_of (at.address + base) (values_in (link_of l) q own) a.bytes (field_of r) thumb (directives a.relocs (field_of r))) ≡ false
       way_there i r reloc_at thumb e =
           let values : Values = values_in (link_of l) q own in
-          let parts = none_of Form (has_bad_field area a r) (value_flaw q values at.region (at.address + base) a r (kind_of r) (directives a.relocs (field_of r))) (no_flaw i r reloc_at) in
+          let parts = none_of Malformed (has_bad_field area a r) (value_flaw q values at.region (at.address + base) a r (kind_of r) (directives a.relocs (field_of r))) (no_flaw i r reloc_at) in
           let branch : value_flaw q values at.region (at.address + base) a r (Branch thumb) (directives a.relocs (field_of r)) ≡ None =
           ap (λ (z : Kind). value_flaw q values at.region (at.address + base) a r z (directives a.relocs (field_of r))) (sym e) ∙ parts.1 in
           let way = way_of (at.address + base) values a.bytes (field_of r) thumb (directives a.relocs (field_of r)) in
-          let inner = none_of Form (not (is_only a.relocs r && is_branch thumb (number_in a.bytes (field_of r))))
+          let inner = none_of Malformed (not (is_only a.relocs r && is_branch thumb (number_in a.bytes (field_of r))))
           (branch_flaw q values at.region (at.address + base) thumb a.bytes (field_of r) (directives a.relocs (field_of r)) way) branch in
-          (none_of Form (lacks_veneer q at.region way)
+          (none_of Malformed (lacks_veneer q at.region way)
           (way_flaw thumb (at.address + base + (field_of r).place) (number_in a.bytes (field_of r)) (added values (directives a.relocs (field_of r))) (taken (at.address + base) (directives a.relocs (field_of r))) (veneer_of q at.region way) way (goal_of q way))
           inner.1).0
 
       apart_there : (i : ℕ) (r : Reloc) → slice_get a.relocs i ≡ Some r → (k : ℕ) (y : Reloc) → slice_get a.relocs k ≡ Some y → overlaps (field_of y) (field_of r) ≡ false
       apart_there i r reloc_at =
-          let parts = none_of Form (has_bad_field area a r) (value_flaw q (values_in (link_of l) q own) at.region (at.address + base) a r (kind_of r) (directives a.relocs (field_of r))) (no_flaw i r reloc_at) in
+          let parts = none_of Malformed (has_bad_field area a r) (value_flaw q (values_in (link_of l) q own) at.region (at.address + base) a r (kind_of r) (directives a.relocs (field_of r))) (no_flaw i r reloc_at) in
           let overlapping : Bool = list_any (λ y. overlaps (field_of y) (field_of r)) a.relocs in
           let one = or_parts (is_outside a.bytes (field_of r)) (is_of_itself area r || (is_based r || overlapping)) parts.0 in
           let two = or_parts (is_of_itself area r) (is_based r || overlapping) one.1 in
@@ -242,7 +242,7 @@ module _ (l : Linked) (p : Placement) (w : IsWholeImage l p) where
 
       pub within_there : (i : ℕ) (r : Reloc) → slice_get a.relocs i ≡ Some r → (field_of r).place + size_of (field_of r).kind ≤ length a.bytes
       within_there i r reloc_at =
-          let parts = none_of Form (has_bad_field area a r) (value_flaw q (values_in (link_of l) q own) at.region (at.address + base) a r (kind_of r) (directives a.relocs (field_of r))) (no_flaw i r reloc_at) in
+          let parts = none_of Malformed (has_bad_field area a r) (value_flaw q (values_in (link_of l) q own) at.region (at.address + base) a r (kind_of r) (directives a.relocs (field_of r))) (no_flaw i r reloc_at) in
           let one = or_parts (is_outside a.bytes (field_of r)) (is_of_itself area r || (is_based r || list_any (λ y. overlaps (field_of y) (field_of r)) a.relocs)) parts.0 in
           ltb-false (length a.bytes) ((field_of r).place + size_of (field_of r).kind) one.0
 

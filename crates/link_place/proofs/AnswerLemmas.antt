@@ -15,7 +15,7 @@ use Rattle.place_model.specs.declared.scatter.ScatterRegion.{ScatterRegion}
 use Rattle.place_model.specs.Assignment.{description, described_regions, plain_regions, plain_load}
 use Rattle.place_model.specs.Plans.{Contents, origin_of, Planned, length_of, execution_size, end_of, planned, planned_from, PlannedLoad, load_size, loads_from, Plan, plan_for, regions_of, suffices, first_from, table_words, plan_of}
 use Rattle.place_model.specs.Faults as model
-use Rattle.link_place.specs.declared.layouts.Laid.{Laid}
+use Rattle.link_place.specs.declared.layouts.RegionLayout.{RegionLayout}
 use Rattle.link_place.specs.declared.layouts.Layout.{Layout}
 use Rattle.link_place.specs.declared.layouts.Load.{Load}
 use Rattle.link_model.specs.declared.placing.Placement.{Placement}
@@ -46,7 +46,7 @@ are_planned k c words = are_of k c words 0 0 (description k)
 
 passes_same : (k : Kind) (c : Contents) (words : ℕ) → passes (origin_of k) (groups_of k) (parts_of k c) words ≡ suffices k c words
 passes_same k c words =
-    ap (λ (ls : List Laid). nat_le (sum_by row_words ls + 6) words) (planned_regions k c words)
+    ap (λ (ls : List RegionLayout). nat_le (sum_by row_words ls + 6) words) (planned_regions k c words)
     ∙ ap (λ (n : ℕ). nat_le (n + 6) words) (rows_same words (origin_of k) 0 _ _ _ (are_planned k c words))
 
 pub words_same : (k : Kind) (c : Contents) → first_from (passes (origin_of k) (groups_of k) (parts_of k c)) 0 (most_of k (parts_of k c)) ≡ table_words k c
@@ -78,7 +78,7 @@ planned_length k c words region (r ∷ rs) before load =
 
 sum_map : (n : ℕ) (rs : List Planned) → loaded (map (laid_of n) rs) ≡ sum_by length_of rs
 sum_map n [] = refl
-sum_map n (r ∷ rs) = omega (arith, sum_map n rs, sum_by-cons (λ (l : Laid). l.region.length) (laid_of n r) (map (laid_of n) rs), sum_by-cons length_of r rs)
+sum_map n (r ∷ rs) = omega (arith, sum_map n rs, sum_by-cons (λ (l : RegionLayout). l.region.length) (laid_of n r) (map (laid_of n) rs), sum_by-cons length_of r rs)
 
 loads_same : (k : Kind) (c : Contents) (words n region : ℕ) (loads : List ScatterLoad)
     → loads_by words (origin_of k) n (map load_group loads) (parts_from k c region (flat_map (λ l. l.regions) loads)) ≡ map load_of (loads_from k c words region loads)
@@ -180,8 +180,8 @@ refusal_same k c words ram =
 placed_same : (n : ℕ) (p : Plan) → map (λ l. l.region) (laid_plan n p) ≡ placed_regions n p
 placed_same n [] = refl
 placed_same n (l ∷ p) =
-    let split = map-append (λ (x : Laid). x.region) (map (laid_of n) l.regions) (laid_plan (suc n) p) in
-    let own = map_map (λ (x : Laid). x.region) (laid_of n) l.regions in
+    let split = map-append (λ (x : RegionLayout). x.region) (map (laid_of n) l.regions) (laid_plan (suc n) p) in
+    let own = map_map (λ (x : RegionLayout). x.region) (laid_of n) l.regions in
     let rest = placed_same (suc n) p in
     cc
 

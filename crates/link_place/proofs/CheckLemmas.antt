@@ -9,7 +9,7 @@ use Rattle.std.proofs.lemmas.List.{take-append-drop}
 use Rattle.place_model.proofs.ListLemmas.{all_map, all_of_map, all_filter, none_given}
 use Rattle.place_model.proofs.ToldLemmas.{told_law}
 use Rattle.base_lemmas.proofs.BaseLemmas.{all_append, all_front, all_back, all_weaker}
-use Rattle.link_place.specs.declared.layouts.Laid.{Laid}
+use Rattle.link_place.specs.declared.layouts.RegionLayout.{RegionLayout}
 use Rattle.link_place.specs.declared.layouts.Load.{Load}
 use Rattle.link_place.specs.declared.faults.Move.{Move}
 use Rattle.link_place.specs.Layouts.{is_copied}
@@ -39,13 +39,13 @@ told_in d own later = told_cons overfull d (own ++ later) ∙ go (overfull d)
     go None = told_append overfull own later
     go (Some r) = refl
 
-pub told_here : (d : Load) (ds : List Load) (rest : List Laid) (r : Refusal) (all : Option Refusal) → first_told overfull (judged_by (d ∷ ds) rest) ≡ all
+pub told_here : (d : Load) (ds : List Load) (rest : List RegionLayout) (r : Refusal) (all : Option Refusal) → first_told overfull (judged_by (d ∷ ds) rest) ≡ all
     → Some r ≡ overfull_by d (take d.count rest) → Some r ≡ all
 told_here d ds rest r all known here =
     ap (λ (o : Option Refusal). option_or o (first_told overfull (judged_by ds (drop d.count rest)))) here
     ∙ (sym (told_in (judged_load d) (map judged_laid (take d.count rest)) (judged_by ds (drop d.count rest))) ∙ known)
 
-pub told_later : (d : Load) (ds : List Load) (rest : List Laid) (all : Option Refusal) → first_told overfull (judged_by (d ∷ ds) rest) ≡ all
+pub told_later : (d : Load) (ds : List Load) (rest : List RegionLayout) (all : Option Refusal) → first_told overfull (judged_by (d ∷ ds) rest) ≡ all
     → None ≡ overfull_by d (take d.count rest) → first_told overfull (judged_by ds (drop d.count rest)) ≡ all
 told_later d ds rest all known here =
     ap (λ (o : Option Refusal). option_or o (first_told overfull (judged_by ds (drop d.count rest)))) here
@@ -57,10 +57,10 @@ IsLowMove m = m.written.base + m.written.size ≤ 2 ^ 32
 pub low_loads : (ds : List Load) → AllByRecursion IsLowLoad ds → AllByRecursion IsLowMove (map move_of_load ds)
 low_loads ds all = all_map IsLowMove move_of_load ds all
 
-pub low_regions : (ls : List Laid) → AllByRecursion IsLow ls → AllByRecursion IsLowMove (map move_of_region ls)
+pub low_regions : (ls : List RegionLayout) → AllByRecursion IsLow ls → AllByRecursion IsLowMove (map move_of_region ls)
 low_regions ls all = all_map IsLowMove move_of_region ls all
 
-pub low_copies : (ls : List Laid) → AllByRecursion IsLow ls → AllByRecursion IsLowMove (map move_of_copy (filter is_copied ls))
+pub low_copies : (ls : List RegionLayout) → AllByRecursion IsLow ls → AllByRecursion IsLowMove (map move_of_copy (filter is_copied ls))
 low_copies ls all =
     all_map IsLowMove move_of_copy (filter is_copied ls)
     (all_filter (λ l. IsLowMove (move_of_copy l)) is_copied ls (all_weaker IsLow (λ l. IsLowMove (move_of_copy l)) (λ l h. omega arith) ls all))
@@ -70,7 +70,7 @@ low_copies ls all =
 abbrev pub HasNoFault : Judged → Type 0
 HasNoFault j = overfull j ≡ None
 
-all_judged : (ds : List Load) (ls : List Laid) → AllByRecursion HasNoFault (judged_by ds ls) → AllByRecursion (λ l. HasNoFault (judged_laid l)) ls × AllByRecursion (λ d. HasNoFault (judged_load d)) ds
+all_judged : (ds : List Load) (ls : List RegionLayout) → AllByRecursion HasNoFault (judged_by ds ls) → AllByRecursion (λ l. HasNoFault (judged_laid l)) ls × AllByRecursion (λ d. HasNoFault (judged_load d)) ds
 all_judged [] ls all = (all_of_map HasNoFault judged_laid ls all, tt)
 all_judged (d ∷ ds) ls (first, all) =
     let own = all_of_map HasNoFault judged_laid (take d.count ls) (all_front HasNoFault (map judged_laid (take d.count ls)) (judged_by ds (drop d.count ls)) all) in
@@ -78,7 +78,7 @@ all_judged (d ∷ ds) ls (first, all) =
     let both = all_append (λ l. HasNoFault (judged_laid l)) (take d.count ls) (drop d.count ls) own later.0 in
     (rw (take-append-drop d.count ls) at both, (first, later.1))
 
-pub low_of : (ds : List Load) (ls : List Laid) → first_told overfull (judged_by ds ls) ≡ None → AllByRecursion IsLow ls × AllByRecursion IsLowLoad ds
+pub low_of : (ds : List Load) (ls : List RegionLayout) → first_told overfull (judged_by ds ls) ≡ None → AllByRecursion IsLow ls × AllByRecursion IsLowLoad ds
 low_of ds ls none =
     let all = all_judged ds ls (none_given overfull (judged_by ds ls) none) in (
       all_weaker (λ l. HasNoFault (judged_laid l)) IsLow (λ l h. ((told_law.room (judged_laid l)).0 h).memory) ls all.0,

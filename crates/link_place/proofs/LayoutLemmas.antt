@@ -2,7 +2,7 @@
 use Rattle.std.proofs.Common.{◌≡◌, ℕ, suc, ◌+◌, ◌-◌, ◌<◌, Bool, false, List, ◌∷◌, ◌++◌, refl, ap, sym, ◌∙◌, append_assoc, arith}
 use Rattle.std.specs.Prelude.{take, drop}
 use Rattle.place_model.specs.Plans.{first_from}
-use Rattle.link_place.specs.declared.layouts.Laid.{Laid}
+use Rattle.link_place.specs.declared.layouts.RegionLayout.{RegionLayout}
 use Rattle.link_place.specs.declared.layouts.Load.{Load}
 use Rattle.link_place.specs.declared.parts.Group.{Group}
 use Rattle.link_place.specs.declared.parts.Part.{Part}
@@ -13,7 +13,7 @@ first_next passes n most h not_yet = let e : most - n ≡ suc (most - (n + 1)) =
     ap (λ (k : ℕ). first_from passes k (most - (n + 1))) f ∙ sym (rw e (rw not_yet refl))
 
 -- one load region more
-pub regions_next : (words origin number : ℕ) (g : Group) (gs : List Group) (ps : List Part) (before after all : List Laid)
+pub regions_next : (words origin number : ℕ) (g : Group) (gs : List Group) (ps : List Part) (before after all : List RegionLayout)
     → before ++ regions_by words origin number (g ∷ gs) ps ≡ all → after ≡ before ++ laid_from words origin number (take g.count ps) g.base g.base
     → after ++ regions_by words origin (number + 1) gs (drop g.count ps) ≡ all
 regions_next words origin number g gs ps before after all known more =

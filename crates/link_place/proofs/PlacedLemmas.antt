@@ -13,7 +13,7 @@ use Rattle.place_model.specs.Faults as model
 use Rattle.place_model.specs.Items.{is_read_only}
 use Rattle.place_model.specs.Things as things
 use Rattle.place_model.specs.Things.{Thing, AnArea, AVeneer, Stood, stood, extent}
-use Rattle.link_place.specs.declared.layouts.Laid.{Laid}
+use Rattle.link_place.specs.declared.layouts.RegionLayout.{RegionLayout}
 use Rattle.link_place.specs.declared.parts.Part.{Part}
 use Rattle.link_place.specs.declared.pieces.Piece.{Piece}
 use Rattle.link_place.specs.Pieces.{reach, Seat, seats}
@@ -40,19 +40,19 @@ of_row r rest rs h = go (plans.is_copied r) (is_cleared r)
     go false true = omega (arith, h)
     go false false = omega (arith, h)
 
-pub rows_same : (words origin number : ℕ) (rs : List Planned) (ps : List Part) (ls : List Laid) → AreOf words origin number rs ps ls → sum_by row_words ls ≡ row_count rs
+pub rows_same : (words origin number : ℕ) (rs : List Planned) (ps : List Part) (ls : List RegionLayout) → AreOf words origin number rs ps ls → sum_by row_words ls ≡ row_count rs
 rows_same words origin number [] [] [] all = refl
 rows_same words origin number [] [] (l ∷ ls) all = absurd all
 rows_same words origin number [] (p ∷ ps) ls all = absurd all
 rows_same words origin number (r ∷ rs) [] ls all = absurd all
 rows_same words origin number (r ∷ rs) (p ∷ ps) [] all = absurd all
 rows_same words origin number (r ∷ rs) (p ∷ ps) (l ∷ ls) (h, all) =
-    sum_by-cons row_words l ls ∙ (ap (λ (x : Laid). row_words x + sum_by row_words ls) h.laid ∙ of_row r (sum_by row_words ls) rs (rows_same words origin (suc number) rs ps ls all))
+    sum_by-cons row_words l ls ∙ (ap (λ (x : RegionLayout). row_words x + sum_by row_words ls) h.laid ∙ of_row r (sum_by row_words ls) rs (rows_same words origin (suc number) rs ps ls all))
 
 -- ---- what a function of each region gives
 
-pub mapped_same : {X : Type 0} (f : Laid → X) (g : Planned → X) → ((n : ℕ) (r : Planned) → f (laid_of n r) ≡ g r)
-    → (words origin number : ℕ) (rs : List Planned) (ps : List Part) (ls : List Laid) → AreOf words origin number rs ps ls → map f ls ≡ map g rs
+pub mapped_same : {X : Type 0} (f : RegionLayout → X) (g : Planned → X) → ((n : ℕ) (r : Planned) → f (laid_of n r) ≡ g r)
+    → (words origin number : ℕ) (rs : List Planned) (ps : List Part) (ls : List RegionLayout) → AreOf words origin number rs ps ls → map f ls ≡ map g rs
 mapped_same f g same words origin number [] [] [] all = refl
 mapped_same f g same words origin number [] [] (l ∷ ls) all = absurd all
 mapped_same f g same words origin number [] (p ∷ ps) ls all = absurd all
@@ -67,8 +67,8 @@ pub map_map : {X Y Z : Type 0} (g : Y → Z) (f : X → Y) (xs : List X) → map
 map_map g f [] = refl
 map_map {X} {Y} {Z} g f (x ∷ xs) = ap (λ (zs : List Z). g (f x) ∷ zs) (map_map g f xs)
 
-pub sums_same : (f : Laid → ℕ) (g : Planned → ℕ) → ((n : ℕ) (r : Planned) → f (laid_of n r) ≡ g r)
-    → (words origin number : ℕ) (rs : List Planned) (ps : List Part) (ls : List Laid) → AreOf words origin number rs ps ls → sum_by f ls ≡ sum_by g rs
+pub sums_same : (f : RegionLayout → ℕ) (g : Planned → ℕ) → ((n : ℕ) (r : Planned) → f (laid_of n r) ≡ g r)
+    → (words origin number : ℕ) (rs : List Planned) (ps : List Part) (ls : List RegionLayout) → AreOf words origin number rs ps ls → sum_by f ls ≡ sum_by g rs
 sums_same f g same words origin number [] [] [] all = refl
 sums_same f g same words origin number [] [] (l ∷ ls) all = absurd all
 sums_same f g same words origin number [] (p ∷ ps) ls all = absurd all
@@ -79,7 +79,7 @@ sums_same f g same words origin number (r ∷ rs) (p ∷ ps) (l ∷ ls) (h, all)
     let rest = sums_same f g same words origin (suc number) rs ps ls all in
     omega (arith, first, rest, sum_by-cons f l ls, sum_by-cons g r rs)
 
-copied_same : (words origin number : ℕ) (rs : List Planned) (ps : List Part) (ls : List Laid) → AreOf words origin number rs ps ls
+copied_same : (words origin number : ℕ) (rs : List Planned) (ps : List Part) (ls : List RegionLayout) → AreOf words origin number rs ps ls
     → map (λ l. move_of (move_of_copy l)) (filter is_copied ls) ≡ map model.copy_move (filter plans.is_copied rs)
 copied_same words origin number [] [] [] all = refl
 copied_same words origin number [] [] (l ∷ ls) all = absurd all
@@ -87,7 +87,7 @@ copied_same words origin number [] (p ∷ ps) ls all = absurd all
 copied_same words origin number (r ∷ rs) [] ls all = absurd all
 copied_same words origin number (r ∷ rs) (p ∷ ps) [] all = absurd all
 copied_same words origin number (r ∷ rs) (p ∷ ps) (l ∷ ls) (h, all) =
-    ap (λ (x : Laid). map (λ y. move_of (move_of_copy y)) (cond (is_copied x) (x ∷ filter is_copied ls) (filter is_copied ls))) h.laid
+    ap (λ (x : RegionLayout). map (λ y. move_of (move_of_copy y)) (cond (is_copied x) (x ∷ filter is_copied ls) (filter is_copied ls))) h.laid
     ∙ go (plans.is_copied r) (copied_same words origin (suc number) rs ps ls all)
   where
     go : (b : Bool) → map (λ y. move_of (move_of_copy y)) (filter is_copied ls) ≡ map model.copy_move (filter plans.is_copied rs)
@@ -95,26 +95,26 @@ copied_same words origin number (r ∷ rs) (p ∷ ps) (l ∷ ls) (h, all) =
     go true rest = ap (λ (ms : List model.Move). model.copy_move r ∷ ms) rest
     go false rest = rest
 
-pub rootless_same : (words origin number : ℕ) (rs : List Planned) (ps : List Part) (ls : List Laid) → AreOf words origin number rs ps ls → rootless ls ≡ model.rootless rs
+pub rootless_same : (words origin number : ℕ) (rs : List Planned) (ps : List Part) (ls : List RegionLayout) → AreOf words origin number rs ps ls → rootless ls ≡ model.rootless rs
 rootless_same words origin number [] [] [] all = refl
 rootless_same words origin number [] [] (l ∷ ls) all = absurd all
 rootless_same words origin number [] (p ∷ ps) ls all = absurd all
 rootless_same words origin number (r ∷ rs) [] ls all = absurd all
 rootless_same words origin number (r ∷ rs) (p ∷ ps) [] all = absurd all
-rootless_same words origin number (r ∷ rs) (p ∷ ps) (l ∷ ls) (h, all) = ap (λ (x : Laid). rootless (x ∷ ls)) h.laid
+rootless_same words origin number (r ∷ rs) (p ∷ ps) (l ∷ ls) (h, all) = ap (λ (x : RegionLayout). rootless (x ∷ ls)) h.laid
 
-pub conflict_same : (words origin number : ℕ) (rs : List Planned) (ps : List Part) (ls : List Laid) → AreOf words origin number rs ps ls
+pub conflict_same : (words origin number : ℕ) (rs : List Planned) (ps : List Part) (ls : List RegionLayout) → AreOf words origin number rs ps ls
     → map move_of (map move_of_copy (filter is_copied ls)) ≡ map model.copy_move (filter plans.is_copied rs)
 conflict_same words origin number rs ps ls all = map_map move_of move_of_copy (filter is_copied ls) ∙ copied_same words origin number rs ps ls all
 
-pub execution_same : (words origin number : ℕ) (rs : List Planned) (ps : List Part) (ls : List Laid) → AreOf words origin number rs ps ls
+pub execution_same : (words origin number : ℕ) (rs : List Planned) (ps : List Part) (ls : List RegionLayout) → AreOf words origin number rs ps ls
     → map move_of (map move_of_region ls) ≡ map (λ r. model.standing (model.execution_span r)) rs
 execution_same words origin number rs ps ls all =
     map_map move_of move_of_region ls ∙ mapped_same (λ l. move_of (move_of_region l)) (λ r. model.standing (model.execution_span r)) (λ n r. refl) words origin number rs ps ls all
 
 -- ---- each part is laid with its sizes
 
-pub are_for : (words origin number : ℕ) (rs : List Planned) (ps : List Part) (ls : List Laid) → AreOf words origin number rs ps ls → AreFor words origin ps ls
+pub are_for : (words origin number : ℕ) (rs : List Planned) (ps : List Part) (ls : List RegionLayout) → AreOf words origin number rs ps ls → AreFor words origin ps ls
 are_for words origin number [] [] [] all = tt
 are_for words origin number [] [] (l ∷ ls) all = absurd all
 are_for words origin number [] (p ∷ ps) ls all = absurd all
@@ -123,7 +123,7 @@ are_for words origin number (r ∷ rs) (p ∷ ps) [] all = absurd all
 are_for words origin number (r ∷ rs) (p ∷ ps) (l ∷ ls) (h, all) =
     let things = extent_same words origin number r.base r.things h.tables in
     let zeros = extent_same words origin number (r.base + length_of r) r.zeros h.no_tables in
-    let IsHere : Laid → Type 0 = λ x. IsFor words origin p x in (
+    let IsHere : RegionLayout → Type 0 = λ x. IsFor words origin p x in (
       subst IsHere (sym h.laid) (record {
         length = ap (λ (o : ℕ). extent o r.base r.things) h.based ∙ sym (ap (reach words origin r.base) h.things ∙ things);
         zero_part = ap (λ (o : ℕ). extent o (r.base + length_of r) r.zeros) h.based ∙ sym (ap (reach words origin (r.base + length_of r)) h.zeros ∙ zeros);
@@ -162,7 +162,7 @@ copy_same ram r n = go (plans.is_copied r)
     go true = sym (append-nil (model.lacking ram (model.execution_span r)))
     go false = refl
 
-region_lacked_same : (ram : List Range32) (words origin number : ℕ) (r : Planned) (p : Part) (l : Laid) → IsOf words origin number r p l
+region_lacked_same : (ram : List Range32) (words origin number : ℕ) (r : Planned) (p : Part) (l : RegionLayout) → IsOf words origin number r p l
     → lacked_in ram words origin p l.region ≡ flat_map (model.lacking ram) (model.written_spans r)
 region_lacked_same ram words origin number r p l h =
     let F : List Piece → List Seat = λ ps. seats words origin 0 r.base ps in
@@ -172,9 +172,9 @@ region_lacked_same ram words origin number r p l h =
     ap (flat_map (lacked ram words)) same ∙ all_lacked_same ram words 0 number (stood r.origin r.base r.things) in
     let copy = copy_same ram r h.load_region in
     let split = flat_map-append (model.lacking ram) (cond (plans.is_copied r) (model.execution_span r ∷ []) []) (model.zero_span r ∷ flat_map model.written_thing (stood r.origin r.base r.things)) in
-    ap (λ (x : Laid). lacked_in ram words origin p x.region) h.laid ∙ cc
+    ap (λ (x : RegionLayout). lacked_in ram words origin p x.region) h.laid ∙ cc
 
-pub unwritable_same : (ram : List Range32) (words origin number : ℕ) (rs : List Planned) (ps : List Part) (ls : List Laid) → AreOf words origin number rs ps ls
+pub unwritable_same : (ram : List Range32) (words origin number : ℕ) (rs : List Planned) (ps : List Part) (ls : List RegionLayout) → AreOf words origin number rs ps ls
     → first_unwritable_by ram words origin ps ls ≡ model.first_told (model.unwritable ram) rs
 unwritable_same ram words origin number [] [] [] all = refl
 unwritable_same ram words origin number [] [] (l ∷ ls) all = absurd all
@@ -182,7 +182,7 @@ unwritable_same ram words origin number [] (p ∷ ps) ls all = absurd all
 unwritable_same ram words origin number (r ∷ rs) [] ls all = absurd all
 unwritable_same ram words origin number (r ∷ rs) (p ∷ ps) [] all = absurd all
 unwritable_same ram words origin number (r ∷ rs) (p ∷ ps) (l ∷ ls) (h, all) =
-    let name : l.region.name ≡ r.name = ap (λ (x : Laid). x.region.name) h.laid in
+    let name : l.region.name ≡ r.name = ap (λ (x : RegionLayout). x.region.name) h.laid in
     let lacking = region_lacked_same ram words origin number r p l h in
     let first : unwritable_by ram words origin p l ≡ model.unwritable ram r = cc in
     let rest = unwritable_same ram words origin (suc number) rs ps ls all in
@@ -194,7 +194,7 @@ unwritable_same ram words origin number (r ∷ rs) (p ∷ ps) (l ∷ ls) (h, all
 abbrev pub located : Planned → List Seat
 located r = map (seat_of r.number r.number) (stood_in r)
 
-pub located_same : (words origin number : ℕ) (rs : List Planned) (ps : List Part) (ls : List Laid) → AreOf words origin number rs ps ls
+pub located_same : (words origin number : ℕ) (rs : List Planned) (ps : List Part) (ls : List RegionLayout) → AreOf words origin number rs ps ls
     → all_seats words origin number ps ls ≡ flat_map located rs
 located_same words origin number [] [] [] all = refl
 located_same words origin number [] [] (l ∷ ls) all = absurd all
@@ -203,8 +203,8 @@ located_same words origin number (r ∷ rs) [] ls all = absurd all
 located_same words origin number (r ∷ rs) (p ∷ ps) [] all = absurd all
 located_same words origin number (r ∷ rs) (p ∷ ps) (l ∷ ls) (h, all) =
     let rest = located_same words origin (suc number) rs ps ls all in
-    let base : l.region.base ≡ r.base = ap (λ (x : Laid). x.region.base) h.laid in
-    let len : l.region.length ≡ length_of r = ap (λ (x : Laid). x.region.length) h.laid in
+    let base : l.region.base ≡ r.base = ap (λ (x : RegionLayout). x.region.base) h.laid in
+    let len : l.region.length ≡ length_of r = ap (λ (x : RegionLayout). x.region.length) h.laid in
     let named = h.named in
     let based = h.based in
     let things = h.things in

@@ -4,7 +4,7 @@ use Rattle.std.specs.Prelude.{OnOk}
 use Rattle.std.specs.List.{flat_map}
 use Rattle.std.specs.Option.{option_or}
 use Rattle.std.proofs.lemmas.Grind.{flat_map-append}
-use Rattle.link_place.specs.declared.layouts.Laid.{Laid}
+use Rattle.link_place.specs.declared.layouts.RegionLayout.{RegionLayout}
 use Rattle.link_place.specs.declared.parts.Part.{Part}
 use Rattle.link_place.specs.declared.placing.Placing.{Placing}
 use Rattle.link_place.specs.Pieces.{Seat}
@@ -37,26 +37,26 @@ ok_more (Err e) P Q f h = tt
 
 -- ---- one region more
 
-pub seats_step : {X : Type 0} (f : Seat → List X) (words origin i : ℕ) (p : Part) (ps : List Part) (l : Laid) (ls : List Laid) (before after all : List X)
+pub seats_step : {X : Type 0} (f : Seat → List X) (words origin i : ℕ) (p : Part) (ps : List Part) (l : RegionLayout) (ls : List RegionLayout) (before after all : List X)
     → before ++ flat_map f (all_seats words origin i (p ∷ ps) (l ∷ ls)) ≡ all → after ≡ before ++ flat_map f (region_seats words origin i p l)
     → after ++ flat_map f (all_seats words origin (i + 1) ps ls) ≡ all
 seats_step f words origin i p ps l ls before after all known more =
     let e : i + 1 ≡ suc i = omega arith in
     rw e (list_more f (region_seats words origin i p l) (all_seats words origin (suc i) ps ls) before after all known more)
 
-pub boot_step : (words origin i : ℕ) (p : Part) (ps : List Part) (l : Laid) (ls : List Laid) (before after all : Option ℕ)
+pub boot_step : (words origin i : ℕ) (p : Part) (ps : List Part) (l : RegionLayout) (ls : List RegionLayout) (before after all : Option ℕ)
     → option_or before (boot_in (all_seats words origin i (p ∷ ps) (l ∷ ls))) ≡ all → after ≡ option_or before (boot_in (region_seats words origin i p l))
     → option_or after (boot_in (all_seats words origin (i + 1) ps ls)) ≡ all
 boot_step words origin i p ps l ls before after all known more =
     let e : i + 1 ≡ suc i = omega arith in
     rw e (boot_more (region_seats words origin i p l) (all_seats words origin (suc i) ps ls) before after all known more)
 
-pub has_more : (words origin i : ℕ) (p : Part) (ps : List Part) (ls : List Laid) → AreFor words origin (p ∷ ps) (drop i ls) → i < length ls
+pub has_more : (words origin i : ℕ) (p : Part) (ps : List Part) (ls : List RegionLayout) → AreFor words origin (p ∷ ps) (drop i ls) → i < length ls
 has_more words origin i p ps ls own = go (drop i ls) refl own
   where
-    go : (rest : List Laid) → drop i ls ≡ rest → AreFor words origin (p ∷ ps) rest → i < length ls
+    go : (rest : List RegionLayout) → drop i ls ≡ rest → AreFor words origin (p ∷ ps) rest → i < length ls
     go [] e h = absurd h
-    go (l ∷ rest) e h = omega (arith, length-drop i ls, ap (λ (xs : List Laid). length xs) e)
+    go (l ∷ rest) e h = omega (arith, length-drop i ls, ap (λ (xs : List RegionLayout). length xs) e)
 
 -- ---- what is told first
 

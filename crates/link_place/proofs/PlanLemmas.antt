@@ -13,7 +13,7 @@ use Rattle.place_model.specs.Items.{Item, is_zero_initialised}
 use Rattle.place_model.specs.Things as things
 use Rattle.place_model.specs.Things.{Thing, AnArea, AVeneer, alignment_of, size_of, start_of, extent, Stood, stood}
 use Rattle.place_model.specs.Plans.{RegionVeneer, Contents, areas_in, veneers_in, header_in, startup_in, origin_of, Planned, length_of, zero_length_of, end_of, base_behind, planned, planned_from, loads_from, Plan, regions_of}
-use Rattle.link_place.specs.declared.layouts.Laid.{Laid}
+use Rattle.link_place.specs.declared.layouts.RegionLayout.{RegionLayout}
 use Rattle.link_place.specs.declared.parts.Part.{Part}
 use Rattle.link_place.specs.declared.pieces.Piece.{Piece}
 use Rattle.link_place.specs.Pieces.{size_in, multiple_in, reach, Seat, seats}
@@ -113,13 +113,13 @@ things_have k c words region r before load =
 
 -- ---- a region is laid where it is planned
 
-abbrev pub laid_of : ℕ → Planned → Laid
+abbrev pub laid_of : ℕ → Planned → RegionLayout
 laid_of n p = record {
   region = record { name = p.name; load_region = n; load = p.load; base = p.base; length = length_of p; zero = zero_length_of p };
   maximum = p.maximum;
 }
 
-pub record IsOf (words origin number : ℕ) (r : Planned) (p : Part) (l : Laid) : Type 0 where
+pub record IsOf (words origin number : ℕ) (r : Planned) (p : Part) (l : RegionLayout) : Type 0 where
   pub named : r.number ≡ number
   pub based : r.origin ≡ origin
   pub load_region : ℕ
@@ -129,7 +129,7 @@ pub record IsOf (words origin number : ℕ) (r : Planned) (p : Part) (l : Laid) 
   pub tables : AllByRecursion (HasTable words) r.things
   pub no_tables : AllByRecursion (HasTable words) r.zeros
 
-abbrev pub AreOf : ℕ → ℕ → ℕ → List Planned → List Part → List Laid → Type 0
+abbrev pub AreOf : ℕ → ℕ → ℕ → List Planned → List Part → List RegionLayout → Type 0
 AreOf words origin number [] [] [] = Unit {0}
 AreOf words origin number [] [] (l ∷ ls) = ⊥
 AreOf words origin number [] (p ∷ ps) ls = ⊥
@@ -155,9 +155,9 @@ laid_same k c words n region (r ∷ rs) before load =
     let zero_same : reach words (origin_of k) (base + length_of p) (map (piece_of region) (zeros_in c region)) ≡ zero_length_of p =
     extent_same words (origin_of k) region (base + length_of p) p.zeros (areas_have words (filter is_zero_initialised (areas_in c region))) in
     laid_next n load base words (origin_of k) (part_by k c region r.name r.base r.max) (parts_from k c (suc region) rs) p _ length_same refl refl refl refl zero_same
-    ∙ ap (λ (ls : List Laid). laid_of n p ∷ ls) (laid_same k c words n (suc region) rs (end_of p) (load + length_of p))
+    ∙ ap (λ (ls : List RegionLayout). laid_of n p ∷ ls) (laid_same k c words n (suc region) rs (end_of p) (load + length_of p))
 
-pub of_same : (k : Kind) (c : Contents) (words n region : ℕ) (rs : List ScatterRegion) (before load : ℕ) (later : List Planned) (ps : List Part) (ls : List Laid)
+pub of_same : (k : Kind) (c : Contents) (words n region : ℕ) (rs : List ScatterRegion) (before load : ℕ) (later : List Planned) (ps : List Part) (ls : List RegionLayout)
     → AreOf words (origin_of k) (region + length rs) later ps ls
     → AreOf words (origin_of k) region (planned_from k c words region rs before load ++ later) (parts_from k c region rs ++ ps) (map (laid_of n) (planned_from k c words region rs before load) ++ ls)
 of_same k c words n region [] before load later ps ls rest = let e : region + 0 ≡ region = omega arith in rw e at rest
@@ -179,7 +179,7 @@ of_same k c words n region (r ∷ rs) before load later ps ls rest =
 
 -- ---- load regions
 
-abbrev pub laid_plan : ℕ → Plan → List Laid
+abbrev pub laid_plan : ℕ → Plan → List RegionLayout
 laid_plan n [] = []
 laid_plan n (l ∷ loads) = map (laid_of n) l.regions ++ laid_plan (suc n) loads
 

@@ -8,14 +8,14 @@ use Rattle.sdt_fault.specs.declared.kinds.Quantity.TheVariants.{ImageBytes, AifB
 use Rattle.place_model.specs.declared.scatter.Kind.{Kind}
 use Rattle.place_model.specs.declared.scatter.Kind.TheVariants as kind
 use Rattle.place_model.specs.Faults as model
-use Rattle.link_place.specs.declared.layouts.Laid.{Laid}
+use Rattle.link_place.specs.declared.layouts.RegionLayout.{RegionLayout}
 use Rattle.link_place.specs.declared.layouts.Load.{Load}
 use Rattle.link_place.specs.declared.faults.Meeting.{Meeting}
 use Rattle.link_place.specs.declared.faults.Move.{Move}
 use Rattle.link_place.specs.declared.faults.Range.{Range}
 use Rattle.link_place.specs.Layouts.{is_root, is_copied, size_of}
 
-abbrev pub rootless : List Laid → Option Refusal
+abbrev pub rootless : List RegionLayout → Option Refusal
 rootless [] = None
 rootless (l ∷ ls) = if is_root l then None else Some (NoRoot l.region.name)
 
@@ -31,17 +31,17 @@ above_maximum_by name size (Some most) = above_by name size most
 abbrev pub judging : List ℕ → ℕ → ℕ → Option ℕ → model.Judged
 judging name base size maximum = record { name = name; base = base; size = size; maximum = maximum }
 
-abbrev pub judged_laid : Laid → model.Judged
+abbrev pub judged_laid : RegionLayout → model.Judged
 judged_laid l = judging l.region.name l.region.base (size_of l) l.maximum
 
 abbrev pub judged_load : Load → model.Judged
 judged_load l = judging l.name l.base l.size l.maximum
 
-abbrev pub overfull_by : Load → List Laid → Option Refusal
+abbrev pub overfull_by : Load → List RegionLayout → Option Refusal
 overfull_by d own = option_or (model.overfull (judged_load d)) (model.first_told model.overfull (map judged_laid own))
 
 -- each load region, and then its regions, of which it has so many
-abbrev pub judged_by : List Load → List Laid → List model.Judged
+abbrev pub judged_by : List Load → List RegionLayout → List model.Judged
 judged_by [] ls = map judged_laid ls
 judged_by (d ∷ ds) ls = judged_load d ∷ (map judged_laid (take d.count ls) ++ judged_by ds (drop d.count ls))
 
@@ -57,7 +57,7 @@ abbrev pub told_by : Meeting → model.Meeting
 told_by m = record { first = m.first; second = m.second; address = m.address }
 
 -- where it ends at 2^32 or below
-abbrev pub IsLow : Laid → Type 0
+abbrev pub IsLow : RegionLayout → Type 0
 IsLow l = l.region.base + size_of l ≤ 2 ^ 32
 
 abbrev pub IsLowLoad : Load → Type 0
@@ -69,17 +69,17 @@ range_by base size = record { base = base; size = size }
 abbrev pub move_of_load : Load → Move
 move_of_load d = record { name = d.name; written = range_by d.base d.size; read = range_by d.base d.size }
 
-abbrev pub move_of_region : Laid → Move
+abbrev pub move_of_region : RegionLayout → Move
 move_of_region l = record { name = l.region.name; written = range_by l.region.base (size_of l); read = range_by l.region.base (size_of l) }
 
-abbrev pub move_of_copy : Laid → Move
+abbrev pub move_of_copy : RegionLayout → Move
 move_of_copy l = record { name = l.region.name; written = range_by l.region.base l.region.length; read = range_by l.region.load l.region.length }
 
-abbrev pub overlap_of : List Load → List Laid → Option model.Meeting
+abbrev pub overlap_of : List Load → List RegionLayout → Option model.Meeting
 overlap_of ds ls =
     option_or (model.first_meeting (map move_of (map move_of_load ds))) (model.first_meeting (map move_of (map move_of_region ls)))
 
-abbrev pub conflict_of : List Laid → Option model.Meeting
+abbrev pub conflict_of : List RegionLayout → Option model.Meeting
 conflict_of ls = model.first_meeting (map move_of (map move_of_copy (filter is_copied ls)))
 
 -- ---- TooLarge

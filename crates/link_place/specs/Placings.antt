@@ -4,7 +4,7 @@ use Rattle.std.specs.List.{flat_map}
 use Rattle.std.specs.Option.{option_or}
 use Rattle.link_model.specs.declared.placing.PlacedArea.{PlacedArea}
 use Rattle.link_model.specs.declared.placing.PlacedVeneer.{PlacedVeneer}
-use Rattle.link_place.specs.declared.layouts.Laid.{Laid}
+use Rattle.link_place.specs.declared.layouts.RegionLayout.{RegionLayout}
 use Rattle.link_place.specs.declared.parts.Part.{Part}
 use Rattle.link_place.specs.declared.pieces.Piece.{Piece}
 use Rattle.link_place.specs.declared.pieces.Piece.TheVariants.{Area, Veneer, Startup}
@@ -39,12 +39,12 @@ boot_in (s ∷ ss) = option_or (boot_at s) (boot_in ss)
 abbrev pub seat_at : ℕ → Piece → ℕ → Seat
 seat_at region p address = record { region = region; piece = p; address = address }
 
-abbrev pub region_seats : ℕ → ℕ → ℕ → Part → Laid → List Seat
+abbrev pub region_seats : ℕ → ℕ → ℕ → Part → RegionLayout → List Seat
 region_seats words origin number p l =
     seats words origin number l.region.base p.things ++ seats words origin number (l.region.base + l.region.length) p.zeros
 
 -- of regions that are counted from a number on
-abbrev pub all_seats : ℕ → ℕ → ℕ → List Part → List Laid → List Seat
+abbrev pub all_seats : ℕ → ℕ → ℕ → List Part → List RegionLayout → List Seat
 all_seats words origin number [] ls = []
 all_seats words origin number (p ∷ ps) [] = []
 all_seats words origin number (p ∷ ps) (l ∷ ls) =
@@ -63,11 +63,11 @@ pub record AreAll (out : Placing) (ss : List Seat) : Type 0 where
   pub boot : out.boot ≡ boot_in ss
 
 -- a region where its part stands, and all of them
-pub record IsFor (words origin : ℕ) (p : Part) (l : Laid) : Type 0 where
+pub record IsFor (words origin : ℕ) (p : Part) (l : RegionLayout) : Type 0 where
   pub length : l.region.length ≡ reach words origin l.region.base p.things
   pub zero_part : l.region.zero ≡ reach words origin (l.region.base + l.region.length) p.zeros
 
-abbrev pub AreFor : ℕ → ℕ → List Part → List Laid → Type 0
+abbrev pub AreFor : ℕ → ℕ → List Part → List RegionLayout → Type 0
 AreFor words origin [] [] = Unit {0}
 AreFor words origin [] (l ∷ ls) = ⊥
 AreFor words origin (p ∷ ps) [] = ⊥

@@ -9,7 +9,7 @@ use Rattle.boot_code.specs.Boots.{covers}
 use Rattle.place_model.specs.Faults.{in_range, lacking, least}
 use Rattle.link_model.specs.declared.placing.Region.{Region}
 use Rattle.link_place.specs.declared.faults.Range.{Range}
-use Rattle.link_place.specs.declared.layouts.Laid.{Laid}
+use Rattle.link_place.specs.declared.layouts.RegionLayout.{RegionLayout}
 use Rattle.link_place.specs.declared.parts.Part.{Part}
 use Rattle.link_place.specs.declared.pieces.Piece.{Piece}
 use Rattle.link_place.specs.declared.pieces.Piece.TheVariants.{Area}
@@ -49,10 +49,10 @@ lacked_in ram words origin p r =
     copy_lacking ram r
     ++ (lacking ram (span_of [] (range_by (r.base + r.length) r.zero)) ++ flat_map (lacked ram words) (seats words origin 0 r.base p.things))
 
-abbrev pub unwritable_by : List Range32 → ℕ → ℕ → Part → Laid → Option Refusal
+abbrev pub unwritable_by : List Range32 → ℕ → ℕ → Part → RegionLayout → Option Refusal
 unwritable_by ram words origin p l = option_map (λ a. NotWritable l.region.name a) (least (lacked_in ram words origin p l.region))
 
-abbrev pub first_unwritable_by : List Range32 → ℕ → ℕ → List Part → List Laid → Option Refusal
+abbrev pub first_unwritable_by : List Range32 → ℕ → ℕ → List Part → List RegionLayout → Option Refusal
 first_unwritable_by ram words origin [] ls = None
 first_unwritable_by ram words origin (p ∷ ps) [] = None
 first_unwritable_by ram words origin (p ∷ ps) (l ∷ ls) = option_or (unwritable_by ram words origin p l) (first_unwritable_by ram words origin ps ls)

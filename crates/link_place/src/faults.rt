@@ -8,7 +8,7 @@ ghost use Rattle.link_place.specs.Layouts.{size_of, is_copied as is_moved};
 ghost use Rattle.link_place.specs.Checks.{rootless as rootless_of, judging, judged_laid, judged_load, judged_by, overfull_by, above_by, above_maximum_by, span_of, move_of, told_by, IsLow, IsLowLoad};
 ghost use Rattle.link_place.specs.Checks.{move_of_load, move_of_region, move_of_copy, overlap_of, conflict_of, too_large_by};
 
-use crate::layouts::{Laid, Load, is_copied, is_root};
+use crate::layouts::{Load, RegionLayout, is_copied, is_root};
 use place_model::Kind;
 use sdt_fault::kinds::Quantity;
 use sdt_fault::refusal::Refusal;
@@ -16,7 +16,7 @@ use sdt_fault::{NoMemory, Text};
 use std::alloc::Global;
 
 /// The refusal of an image whose first region isn't loaded where it runs.
-pub fn rootless(alloc: Global, regions: &[Laid]) -> Result<Option<Refusal>, NoMemory>
+pub fn rootless(alloc: Global, regions: &[RegionLayout]) -> Result<Option<Refusal>, NoMemory>
     ensures { IfOk result (λ refusal. refusal ≡ rootless_of regions.now) }
 {
     let Some(first) = regions.first() else {
@@ -85,7 +85,7 @@ fn overfull(
 }
 
 // The sum is below 2^64, since no memory has so many pieces.
-fn overfull_laid(alloc: Global, laid: &Laid) -> Result<Option<Refusal>, NoMemory>
+fn overfull_laid(alloc: Global, laid: &RegionLayout) -> Result<Option<Refusal>, NoMemory>
     ensures { IfOk result (λ refusal. refusal ≡ overfull_of (judged_laid laid.now)) }
 {
     let region = &laid.region;
@@ -107,7 +107,7 @@ fn overfull_load(alloc: Global, load: &Load) -> Result<Option<Refusal>, NoMemory
     )
 }
 
-fn first_overfull_laid(alloc: Global, regions: &[Laid]) -> Result<Option<Refusal>, NoMemory>
+fn first_overfull_laid(alloc: Global, regions: &[RegionLayout]) -> Result<Option<Refusal>, NoMemory>
     ensures { IfOk result (λ refusal. refusal ≡ first_told overfull_of (map judged_laid regions.now)) }
 {
     for laid in regions {
@@ -120,7 +120,11 @@ fn first_overfull_laid(alloc: Global, regions: &[Laid]) -> Result<Option<Refusal
 }
 
 /// The refusal of a load region, or of the first of its regions.
-fn overfull_in(alloc: Global, load: &Load, own: &[Laid]) -> Result<Option<Refusal>, NoMemory>
+fn overfull_in(
+    alloc: Global,
+    load: &Load,
+    own: &[RegionLayout],
+) -> Result<Option<Refusal>, NoMemory>
     ensures { IfOk result (λ refusal. refusal ≡ overfull_by load.now own.now) }
 {
     if let Some(refusal) = overfull_load(alloc, load)? {
@@ -133,7 +137,7 @@ fn overfull_in(alloc: Global, load: &Load, own: &[Laid]) -> Result<Option<Refusa
 pub fn first_overfull(
     alloc: Global,
     loads: &[Load],
-    regions: &[Laid],
+    regions: &[RegionLayout],
 ) -> Result<Option<Refusal>, NoMemory>
     requires { sum_by (λ l. l.count) loads.now ≤ length regions.now }
     ensures { IfOk result (λ refusal. refusal ≡ first_told overfull_of (judged_by loads.now regions.now)) }
@@ -246,7 +250,7 @@ fn load_moves(alloc: Global, loads: &[Load]) -> Result<Vec<Move>, NoMemory>
     Ok(moves)
 }
 
-fn execution_move(alloc: Global, laid: &Laid) -> Result<Move, NoMemory>
+fn execution_move(alloc: Global, laid: &RegionLayout) -> Result<Move, NoMemory>
     requires { IsLow laid.now }
     ensures { IfOk result (λ m. m ≡ move_of_region laid.now) }
 {
@@ -261,7 +265,7 @@ fn execution_move(alloc: Global, laid: &Laid) -> Result<Move, NoMemory>
     })
 }
 
-fn execution_moves(alloc: Global, regions: &[Laid]) -> Result<Vec<Move>, NoMemory>
+fn execution_moves(alloc: Global, regions: &[RegionLayout]) -> Result<Vec<Move>, NoMemory>
     requires { AllByRecursion IsLow regions.now }
     ensures { IfOk result (λ moves. moves.items ≡ map move_of_region regions.now) }
 {
@@ -272,7 +276,7 @@ fn execution_moves(alloc: Global, regions: &[Laid]) -> Result<Vec<Move>, NoMemor
     Ok(moves)
 }
 
-fn copy_move(alloc: Global, laid: &Laid) -> Result<Move, NoMemory>
+fn copy_move(alloc: Global, laid: &RegionLayout) -> Result<Move, NoMemory>
     ensures { IfOk result (λ m. m ≡ move_of_copy laid.now) }
 {
     let region = &laid.region;
@@ -289,7 +293,7 @@ fn copy_move(alloc: Global, laid: &Laid) -> Result<Move, NoMemory>
     })
 }
 
-fn copy_moves(alloc: Global, regions: &[Laid]) -> Result<Vec<Move>, NoMemory>
+fn copy_moves(alloc: Global, regions: &[RegionLayout]) -> Result<Vec<Move>, NoMemory>
     ensures { IfOk result (λ moves. moves.items ≡ map move_of_copy (filter is_moved regions.now)) }
 {
     let mut moves = Vec::new(alloc);
@@ -302,7 +306,11 @@ fn copy_moves(alloc: Global, regions: &[Laid]) -> Result<Vec<Move>, NoMemory>
 }
 
 /// The first two load ranges that meet, or else the first two execution ranges.
-fn overlapping(alloc: Global, loads: &[Load], regions: &[Laid]) -> Result<Option<Meeting>, NoMemory>
+fn overlapping(
+    alloc: Global,
+    loads: &[Load],
+    regions: &[RegionLayout],
+) -> Result<Option<Meeting>, NoMemory>
     requires loads { AllByRecursion IsLowLoad loads.now }
     requires regions { AllByRecursion IsLow regions.now }
     ensures { IfOk result (λ met. option_map told_by met ≡ overlap_of loads.now regions.now) }
@@ -315,7 +323,11 @@ fn overlapping(alloc: Global, loads: &[Load], regions: &[Laid]) -> Result<Option
 }
 
 /// The refusal of ranges that overlap.
-pub fn overlap(alloc: Global, loads: &[Load], regions: &[Laid]) -> Result<Option<Refusal>, NoMemory>
+pub fn overlap(
+    alloc: Global,
+    loads: &[Load],
+    regions: &[RegionLayout],
+) -> Result<Option<Refusal>, NoMemory>
     requires loads { AllByRecursion IsLowLoad loads.now }
     requires regions { AllByRecursion IsLow regions.now }
     ensures { IfOk result (λ refusal. refusal ≡ option_map as_overlap (overlap_of loads.now regions.now)) }
@@ -336,7 +348,7 @@ pub fn overlap(alloc: Global, loads: &[Load], regions: &[Laid]) -> Result<Option
     }
 }
 
-fn conflicting(alloc: Global, regions: &[Laid]) -> Result<Option<Meeting>, NoMemory>
+fn conflicting(alloc: Global, regions: &[RegionLayout]) -> Result<Option<Meeting>, NoMemory>
     requires { AllByRecursion IsLow regions.now }
     ensures { IfOk result (λ met. option_map told_by met ≡ conflict_of regions.now) }
 {
@@ -344,7 +356,7 @@ fn conflicting(alloc: Global, regions: &[Laid]) -> Result<Option<Meeting>, NoMem
 }
 
 /// The refusal of a copy that writes what a later one reads.
-pub fn conflict(alloc: Global, regions: &[Laid]) -> Result<Option<Refusal>, NoMemory>
+pub fn conflict(alloc: Global, regions: &[RegionLayout]) -> Result<Option<Refusal>, NoMemory>
     requires { AllByRecursion IsLow regions.now }
     ensures { IfOk result (λ refusal. refusal ≡ option_map as_conflict (conflict_of regions.now)) }
 {
@@ -367,7 +379,7 @@ pub fn conflict(alloc: Global, regions: &[Laid]) -> Result<Option<Refusal>, NoMe
 // ---- TooLarge
 
 /// Whether the regions have more bytes than a limit, zero parts counted.
-fn more_bytes_than(limit: u64, regions: &[Laid]) -> bool
+fn more_bytes_than(limit: u64, regions: &[RegionLayout]) -> bool
     requires { limit < 2 ^ 63 }
     ensures { result ≡ nat_lt limit (sum_by size_of regions.now) }
 {
@@ -383,7 +395,7 @@ fn more_bytes_than(limit: u64, regions: &[Laid]) -> bool
 }
 
 /// The refusal of an image, or of an AIF, that is too large.
-pub fn too_large(kind: &Kind, regions: &[Laid]) -> Option<Refusal>
+pub fn too_large(kind: &Kind, regions: &[RegionLayout]) -> Option<Refusal>
     ensures { result ≡ too_large_by kind.now (sum_by size_of regions.now) }
 {
     if more_bytes_than(0x400_0000, regions) {

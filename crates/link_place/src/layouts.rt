@@ -14,7 +14,7 @@ use std::alloc::Global;
 
 /// A region where it stands, with its declared maximum.
 #[derive(Drop)]
-pub struct Laid {
+pub struct RegionLayout {
     pub region: Region,
     pub maximum: Option<u32>,
 }
@@ -34,7 +34,7 @@ pub struct Load {
 pub struct Layout {
     pub words: u32,
     pub loads: List<Load>,
-    pub regions: List<Laid>,
+    pub regions: List<RegionLayout>,
 }
 
 fn base_of(base: ScatterBase, before: u64) -> u64
@@ -57,7 +57,7 @@ fn lay_part(
     part: &Part,
     load: u64,
     before: u64,
-) -> Result<Laid, NoMemory>
+) -> Result<RegionLayout, NoMemory>
     requires words { words < 2 ^ 30 }
     requires room { before + 2 ^ 34 * piece_count part.now < 2 ^ 63 }
     ensures laid { IfOk result (λ l. l ≡ laid_at words origin number part.now load (base_behind part.now.base before)) }
@@ -67,7 +67,7 @@ fn lay_part(
     let base = base_of(part.base, before);
     let length = reach(words, origin, base, part.things.as_slice());
     let zero = reach(words, origin, base + length, part.zeros.as_slice());
-    Ok(Laid {
+    Ok(RegionLayout {
         region: Region {
             name: part.name.try_clone(alloc)?,
             load_region: number,
@@ -83,7 +83,7 @@ fn lay_part(
 /// Adds the parts of the load region of a number, and gives the bytes that are loaded.
 fn lay_parts(
     alloc: Global,
-    out: &mut Vec<Laid>,
+    out: &mut Vec<RegionLayout>,
     words: u32,
     origin: u32,
     number: u32,
@@ -178,7 +178,7 @@ pub fn is_copied(region: &Region) -> bool
     !is_root(region) && region.length > 0
 }
 
-fn rows_of(laid: &Laid) -> u32
+fn rows_of(laid: &RegionLayout) -> u32
     ensures words { result ≡ row_words laid.now }
     ensures bound { result ≤ 5 }
 {
@@ -188,7 +188,7 @@ fn rows_of(laid: &Laid) -> u32
 }
 
 /// Whether a table of so many words has room for the rows, two rows of zeros and the entry.
-fn has_room(regions: &[Laid], words: u32) -> bool
+fn has_room(regions: &[RegionLayout], words: u32) -> bool
     ensures { result ≡ has_enough regions.now words }
 {
     if words < 6 {

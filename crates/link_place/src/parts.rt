@@ -79,9 +79,9 @@ fn area_piece(name: AreaName, area: &Area) -> Piece
 {
     Piece::Area(AreaPiece {
         name,
-        multiple: 1 << (area.attributes % 256),
+        multiple: 1 << area.flags().alignment(),
         size: area.size,
-        written: area.attributes / 0x2000 % 2 == 0,
+        written: !area.flags().is_read_only(),
     })
 }
 
@@ -107,8 +107,7 @@ fn push_area(
     let Some(area) = area_of(objects, name) else {
         return Ok(());
     };
-    let zero_initialised = area.attributes / 0x1000 % 2 == 1;
-    if zero_initialised == zero {
+    if area.flags().is_zero_initialised() == zero {
         out.push(area_piece(name, area))?;
     }
     Ok(())

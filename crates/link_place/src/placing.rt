@@ -8,7 +8,7 @@ ghost use Rattle.link_place.specs.Checks.{IsLow};
 ghost use Rattle.link_place.specs.Placings.{area_at, veneer_at, boot_at, seat_at, region_seats, all_seats, AreStood, AreAll, IsFor, AreFor};
 ghost use Rattle.link_place.specs.Judgements.{placement_by};
 
-use crate::layouts::{Laid, Layout};
+use crate::layouts::{Layout, RegionLayout};
 use crate::parts::Part;
 use crate::pieces::{Piece, size_of, start_of};
 use link_model::{PlacedArea, PlacedVeneer, Placement, Region};
@@ -91,7 +91,7 @@ fn put_region(
     origin: u32,
     number: u32,
     part: &Part,
-    laid: &Laid,
+    laid: &RegionLayout,
 ) -> Result<(), NoMemory>
     requires words { words < 2 ^ 30 }
     requires low { IsLow laid.now }
@@ -116,7 +116,7 @@ fn put_regions(
     words: u32,
     origin: u32,
     parts: &[Part],
-    regions: &[Laid],
+    regions: &[RegionLayout],
 ) -> Result<Placing, NoMemory>
     requires words { words < 2 ^ 30 }
     requires few { length parts.now < 2 ^ 32 }
@@ -135,7 +135,7 @@ fn put_regions(
     Ok(out)
 }
 
-fn region_of(alloc: Global, laid: &Laid) -> Result<Region, NoMemory>
+fn region_of(alloc: Global, laid: &RegionLayout) -> Result<Region, NoMemory>
     ensures { IfOk result (λ region. region ≡ laid.now.region) }
 {
     let region = &laid.region;
@@ -149,7 +149,7 @@ fn region_of(alloc: Global, laid: &Laid) -> Result<Region, NoMemory>
     })
 }
 
-fn regions_of(alloc: Global, regions: &[Laid]) -> Result<Vec<Region>, NoMemory>
+fn regions_of(alloc: Global, regions: &[RegionLayout]) -> Result<Vec<Region>, NoMemory>
     ensures { IfOk result (λ out. out.items ≡ map (λ l. l.region) regions.now) }
 {
     let mut out = Vec::new(alloc);

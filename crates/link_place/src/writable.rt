@@ -9,7 +9,7 @@ ghost use Rattle.link_place.specs.Writable.{lacks, with_address, least_with, is_
 ghost use Rattle.link_place.specs.Placings.{seat_at, IsFor, AreFor};
 
 use crate::faults::Range;
-use crate::layouts::{Laid, is_copied};
+use crate::layouts::{RegionLayout, is_copied};
 use crate::parts::Part;
 use crate::pieces::{Piece, size_of, start_of};
 use link_model::Region;
@@ -171,7 +171,7 @@ fn unwritable(
     words: u32,
     origin: u32,
     part: &Part,
-    laid: &Laid,
+    laid: &RegionLayout,
 ) -> Result<Option<Refusal>, NoMemory>
     requires words { words < 2 ^ 30 }
     requires low { IsLow laid.now }
@@ -195,7 +195,7 @@ pub fn first_unwritable(
     words: u32,
     origin: u32,
     parts: &[Part],
-    regions: &[Laid],
+    regions: &[RegionLayout],
 ) -> Result<Option<Refusal>, NoMemory>
     requires words { words < 2 ^ 30 }
     requires low { AllByRecursion IsLow regions.now }

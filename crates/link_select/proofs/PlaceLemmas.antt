@@ -9,7 +9,7 @@ use Rattle.alf_archive.specs.declared.records.Member.{Member}
 use Rattle.alf_archive.specs.declared.records.Archive.{Archive}
 use Rattle.link_model.specs.declared.selection.Named.{Named}
 use Rattle.link_model.specs.Members.{named_member, members_in, members_of, objects_in}
-use Rattle.link_select.specs.declared.members.Place.{Place}
+use Rattle.link_select.specs.declared.members.MemberPlace.{MemberPlace}
 use Rattle.link_select.specs.Places.{places_in, places_from, member_in, member_at}
 use Rattle.base_lemmas.proofs.BaseLemmas.{get_back, get_before as get_front}
 
@@ -26,11 +26,11 @@ length_in : (a k : ℕ) (ms : List Member) → length (places_in a k ms) ≡ len
 length_in a k [] = refl
 length_in a k (m ∷ ms) = ap suc (length_in a (suc k) ms)
 
-place_in : (a k : ℕ) (ms : List Member) (i : ℕ) (p : Place) → slice_get (places_in a k ms) i ≡ Some p → (p.archive ≡ a) × (p.member ≡ k + i)
+place_in : (a k : ℕ) (ms : List Member) (i : ℕ) (p : MemberPlace) → slice_get (places_in a k ms) i ≡ Some p → (p.archive ≡ a) × (p.member ≡ k + i)
 place_in a k [] i p h = absurd (cc)
 place_in a k (m ∷ ms) zero p h =
     let e : record { archive = a; member = k } ≡ p = cc in
-    (sym (ap (λ (r : Place). r.archive) e), sym (ap (λ (r : Place). r.member) e) ∙ omega arith)
+    (sym (ap (λ (r : MemberPlace). r.archive) e), sym (ap (λ (r : MemberPlace). r.member) e) ∙ omega arith)
 place_in a k (m ∷ ms) (suc i) p h = let r = place_in a (suc k) ms i p h in (r.0, omega (arith, r.1))
 
 get_seam : {X : Type 0} (xs ys : List X) (x : X) → slice_get (xs ++ x ∷ ys) (length xs) ≡ Some x
@@ -44,7 +44,7 @@ length_from a (x ∷ xs) =
     ∙ (λ i. (length_in a 0 x.value.members ∙ sym (length_from_map (named_member x.name) x.value.members)) i + length_from (suc a) xs i)
     ∙ sym (length-append (members_in x) (members_of xs))
 
-place_from : (all front xs : List (Named Archive)) (a : ℕ) → all ≡ front ++ xs → length front ≡ a → (i : ℕ) (p : Place) → slice_get (places_from a xs) i ≡ Some p → member_at all p ≡ slice_get (members_of xs) i
+place_from : (all front xs : List (Named Archive)) (a : ℕ) → all ≡ front ++ xs → length front ≡ a → (i : ℕ) (p : MemberPlace) → slice_get (places_from a xs) i ≡ Some p → member_at all p ≡ slice_get (members_of xs) i
 place_from all front [] a e len i p h = absurd (cc)
 place_from all front (x ∷ xs) a e len i p h = by (cases_lt i (length x.value.members)) (place_from all (front ++ x ∷ []) xs (suc a) longer_all longer)
   where
@@ -58,7 +58,7 @@ place_from all front (x ∷ xs) a e len i p h = by (cases_lt i (length x.value.m
     here = ap (λ (l : List (Named Archive)). slice_get l a) e ∙ ap (slice_get (front ++ x ∷ xs)) (sym len) ∙ get_seam front xs x
 
     by : (i < length x.value.members) ⊎ (length x.value.members ≤ i)
-        → ((j : ℕ) (r : Place) → slice_get (places_from (suc a) xs) j ≡ Some r → member_at all r ≡ slice_get (members_of xs) j)
+        → ((j : ℕ) (r : MemberPlace) → slice_get (places_from (suc a) xs) j ≡ Some r → member_at all r ≡ slice_get (members_of xs) j)
         → member_at all p ≡ slice_get (members_in x ++ members_of xs) i
     by (inl lt) rest =
         let within : i < length (places_in a 0 x.value.members) = let n = length_in a 0 x.value.members in omega arith in
@@ -76,7 +76,7 @@ place_from all front (x ∷ xs) a e len i p h = by (cases_lt i (length x.value.m
         ∙ sym (get_back (members_in x) (members_of xs) j) ∙ ap (slice_get (members_in x ++ members_of xs)) at'
 
 -- the member at the place of a number
-pub member_at_place : (archives : List (Named Archive)) (i : ℕ) (p : Place) → slice_get (places_from 0 archives) i ≡ Some p → member_at archives p ≡ slice_get (members_of archives) i
+pub member_at_place : (archives : List (Named Archive)) (i : ℕ) (p : MemberPlace) → slice_get (places_from 0 archives) i ≡ Some p → member_at archives p ≡ slice_get (members_of archives) i
 member_at_place archives i p h = place_from archives [] archives 0 refl refl i p h
 
 -- ---- the members as objects

@@ -20,7 +20,7 @@ use Rattle.link_model.specs.Chosen.{exporter, supplied, IsLeast, AreChosen, AreL
 use Rattle.link_model.specs.Definitions.{definitions_from}
 use Rattle.std.proofs.lemmas.List.{length-append, length-map}
 use Rattle.link_select.specs.declared.choosing.Supply.{Supply}
-use Rattle.link_select.specs.declared.members.Place.{Place}
+use Rattle.link_select.specs.declared.members.MemberPlace.{MemberPlace}
 use Rattle.link_select.specs.Index.{Numbers, number_in, IsIndexOf}
 use Rattle.link_select.specs.Places.{places_from, member_at, symbols_of}
 use Rattle.link_select.specs.Search.{supply_of, marked, IsWithin}
@@ -57,7 +57,7 @@ if_ok P Q f (Err e) h = tt
 
 -- ---- members by their numbers
 
-pub member_here : (archives : List (Named Archive)) (i : ℕ) (p : Place) → slice_get (places_from 0 archives) i ≡ Some p → (n : ℕ) → n ≡ length (members_of archives) → i < n
+pub member_here : (archives : List (Named Archive)) (i : ℕ) (p : MemberPlace) → slice_get (places_from 0 archives) i ≡ Some p → (n : ℕ) → n ≡ length (members_of archives) → i < n
     → IsSomeAnd (slice_get (members_of archives) i) (λ m. m.value.symbols ≡ symbols_of (member_at archives p))
 member_here archives i p at n len h =
     let s = some_item (members_of archives) i (omega arith) in

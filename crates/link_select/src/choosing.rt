@@ -11,7 +11,7 @@ ghost use Rattle.link_select.specs.Places.{places_from};
 ghost use Rattle.link_select.specs.Search.{supply_of, marked, Takes, IsWithin};
 
 use crate::index::find;
-use crate::members::{Place, symbols_of_member};
+use crate::members::{MemberPlace, symbols_of_member};
 use alf_archive::Archive;
 use aof_object::{Object, Symbol};
 use indexmap::IndexMap;
@@ -31,10 +31,10 @@ pub struct Supply<'a> {
 fn asked_by(supply: &Supply, symbol: &Symbol) -> Option<usize>
     ensures { result ≡ asked (supply_of supply.now) symbol.now }
 {
-    if symbol.attributes % 4 != 2 {
+    if !symbol.flags().is_reference() {
         return None;
     }
-    if symbol.attributes / 16 % 2 != 0 {
+    if symbol.flags().is_weak() {
         return None;
     }
     if find(&supply.defined, symbol.name.as_slice()).is_some() {
@@ -134,7 +134,7 @@ pub fn choose(
     supply: &Supply,
     objects: &[Named<Object>],
     archives: &[Named<Archive>],
-    places: &[Place],
+    places: &[MemberPlace],
 ) -> Result<Vec<bool>, NoMemory>
     requires places { places.now ≡ places_from 0 archives.now }
     requires offered { IsIndexOf 0 (objects_in (members_of archives.now)) supply.now.offered }

@@ -25,7 +25,7 @@ fn has_thumb_code(area: Option<&Area>) -> bool
 {
     match area {
         None => false,
-        Some(area) => area.attributes / 0x10_0000 % 2 == 1,
+        Some(area) => area.flags().is_thumb(),
     }
 }
 

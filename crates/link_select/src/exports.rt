@@ -13,7 +13,7 @@ ghost use Rattle.link_select.specs.Places.{places_from};
 ghost use Rattle.link_select.specs.Exports.{clash, duplicate};
 
 use crate::index::{find, put};
-use crate::members::{Place, symbols_of_member};
+use crate::members::{MemberPlace, symbols_of_member};
 use alf_archive::Archive;
 use aof_object::{Object, Symbol};
 use indexmap::IndexMap;
@@ -29,7 +29,7 @@ fn put_export<'a>(
 ) -> Result<(), NoMemory>
     ensures { OnOk result ((q : List ℕ) → number_in index.new q ≡ (if is_exported symbol.now.attributes && bytes_eq symbol.now.name q then Some number else number_in index.old q)) }
 {
-    if symbol.attributes % 4 == 3 {
+    if symbol.flags().is_exported() {
         put(index, symbol.name.as_slice(), number)?;
     }
     Ok(())
@@ -78,7 +78,7 @@ pub fn index_objects<'a>(
 pub fn index_members<'a>(
     alloc: Global,
     archives: &'a [Named<Archive>],
-    places: &[Place],
+    places: &[MemberPlace],
 ) -> Result<IndexMap<&'a [u8], usize>, NoMemory>
     requires { places.now ≡ places_from 0 archives.now }
     ensures { IfOk result (λ index. IsIndexOf 0 (objects_in (members_of archives.now)) index) }
@@ -112,7 +112,7 @@ fn clash_of(
     requires { IsIndexOf first (objects_in (drop first objects.now)) index.now }
     ensures { IfOk result (λ refusal. refusal ≡ clash name.now (drop first objects.now) symbol.now) }
 {
-    if symbol.attributes % 4 != 3 {
+    if !symbol.flags().is_exported() {
         return Ok(None);
     }
     let Some(number) = find(index, symbol.name.as_slice()) else {

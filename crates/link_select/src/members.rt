@@ -12,22 +12,26 @@ use std::alloc::Global;
 
 /// Where a member is: the number of its library and its number there, both counted from 0.
 #[derive(Clone, Copy, PartialEq, Eq, Debug)]
-pub struct Place {
+pub struct MemberPlace {
     pub archive: usize,
     pub member: usize,
 }
 
-fn push_places(places: &mut Vec<Place>, archive: usize, members: &[Member]) -> Result<(), NoMemory>
+fn push_places(
+    places: &mut Vec<MemberPlace>,
+    archive: usize,
+    members: &[Member],
+) -> Result<(), NoMemory>
     ensures { OnOk result (places.new.items ≡ places.old.items ++ places_in archive 0 members.now) }
 {
     for member in 0..members.len() {
-        places.push(Place { archive, member })?;
+        places.push(MemberPlace { archive, member })?;
     }
     Ok(())
 }
 
 /// The place of each member.
-pub fn places_of(alloc: Global, archives: &[Named<Archive>]) -> Result<Vec<Place>, NoMemory>
+pub fn places_of(alloc: Global, archives: &[Named<Archive>]) -> Result<Vec<MemberPlace>, NoMemory>
     ensures { IfOk result (λ places. places.items ≡ places_from 0 archives.now) }
 {
     let mut places = Vec::new(alloc);
@@ -37,7 +41,7 @@ pub fn places_of(alloc: Global, archives: &[Named<Archive>]) -> Result<Vec<Place
     Ok(places)
 }
 
-fn symbols_at<'a>(archives: &'a [Named<Archive>], place: Place) -> &'a [Symbol]
+fn symbols_at<'a>(archives: &'a [Named<Archive>], place: MemberPlace) -> &'a [Symbol]
     ensures { result.now ≡ symbols_of (member_at archives.now place) }
 {
     match archives.get(place.archive) {
@@ -52,7 +56,7 @@ fn symbols_at<'a>(archives: &'a [Named<Archive>], place: Place) -> &'a [Symbol]
 /// The symbols of the member of a number in library order.
 pub fn symbols_of_member<'a>(
     archives: &'a [Named<Archive>],
-    places: &[Place],
+    places: &[MemberPlace],
     number: usize,
 ) -> &'a [Symbol]
     requires places { places.now ≡ places_from 0 archives.now }

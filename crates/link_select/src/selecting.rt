@@ -79,7 +79,7 @@ fn push_definition(
 ) -> Result<(), NoMemory>
     ensures { OnOk result (definitions.new.items ≡ definitions.old.items ++ definition_in object number symbol.now) }
 {
-    if symbol.attributes % 4 == 3 {
+    if symbol.flags().is_exported() {
         definitions.push(Definition {
             name: symbol.name.try_clone(alloc)?,
             object,

@@ -37,10 +37,10 @@ fn lacking_of(
 ) -> Result<Option<Refusal>, NoMemory>
     ensures { IfOk result (λ refusal. refusal ≡ lacking (known_by exports.now regions.now) name.now symbol.now) }
 {
-    if symbol.attributes % 4 != 2 {
+    if !symbol.flags().is_reference() {
         return Ok(None);
     }
-    if symbol.attributes / 16 % 2 != 0 {
+    if symbol.flags().is_weak() {
         return Ok(None);
     }
     if is_known(exports, regions, symbol.name.as_slice()) {

@@ -3,48 +3,46 @@ use Rattle.std.proofs.Common.{◌≡◌, ◌≢◌, ◌⊎◌, inl, inr, ℕ, ze
 use Rattle.std.specs.Prelude.{◌&&◌, ◌||◌, count_by}
 use Rattle.std.specs.List.{filter}
 use Rattle.std.proofs.lemmas.List.Sums.{sum_by-cons}
-use Rattle.sdt_word.specs.Numbers.{bits, flag}
+use Rattle.sdt_word.specs.Numbers.{flag}
 use Rattle.aof_object.specs.declared.records.Reloc.{Reloc}
-use Rattle.patch_model.specs.Fields.{Branch, kind_by, place_by, field_of, is_field, is_relative, is_same_kind, directives}
+use Rattle.patch_model.specs.Fields.{Kind, Byte, Half, Word, Branch, field_of, is_field, is_relative, is_same_kind, directives}
 use Rattle.link_values.specs.Shifts.{gains, has_bad_shifts, is_bad_branch, is_unmovable, losses}
 use Rattle.link_shifts.specs.declared.balances.Balance.{Balance}
 use Rattle.link_shifts.specs.declared.balances.Spot.{Spot}
-use Rattle.link_shifts.specs.Balances.{AreBalances, Balances, balance_in, balance_of, is_gain, is_loss, is_same, spot_of, weighed}
+use Rattle.link_shifts.specs.Balances.{AreBalances, Balances, balance_in, balance_of, code_of, is_gain, is_loss, is_same, spot_of, weighed}
 use Rattle.std.proofs.lemmas.List.{drop_more}
 use Rattle.base_lemmas.proofs.BaseLemmas.{both_true}
 use Rattle.std.proofs.lemmas.Bool.Decides.{eqb_tells}
 
-no_both : (b c : Bool) → (b && false) ≡ (c && false)
-no_both true true = refl
-no_both true false = refl
-no_both false true = refl
-no_both false false = refl
-
-branch_same : (a b : ℕ) → ((a == b) && true) ≡ ((a - a % 2 == b - b % 2) && is_same_kind (Branch (a % 2 == 1)) (Branch (b % 2 == 1)))
-branch_same a b = grind arith
-
-same_by : (s t a b : ℕ) → s < 4 → t < 4 → ((a == b) && (s == t)) ≡ ((place_by s a == place_by t b) && is_same_kind (kind_by s (a % 2 == 1)) (kind_by t (b % 2 == 1)))
-same_by zero zero a b hs ht = refl
-same_by zero (suc zero) a b hs ht = no_both (a == b) (a == b)
-same_by zero (suc (suc zero)) a b hs ht = no_both (a == b) (a == b)
-same_by zero (suc (suc (suc zero))) a b hs ht = no_both (a == b) (a == b - b % 2)
-same_by (suc zero) zero a b hs ht = no_both (a == b) (a == b)
-same_by (suc zero) (suc zero) a b hs ht = refl
-same_by (suc zero) (suc (suc zero)) a b hs ht = no_both (a == b) (a == b)
-same_by (suc zero) (suc (suc (suc zero))) a b hs ht = no_both (a == b) (a == b - b % 2)
-same_by (suc (suc zero)) zero a b hs ht = no_both (a == b) (a == b)
-same_by (suc (suc zero)) (suc zero) a b hs ht = no_both (a == b) (a == b)
-same_by (suc (suc zero)) (suc (suc zero)) a b hs ht = refl
-same_by (suc (suc zero)) (suc (suc (suc zero))) a b hs ht = no_both (a == b) (a == b - b % 2)
-same_by (suc (suc (suc zero))) zero a b hs ht = no_both (a == b) (a - a % 2 == b)
-same_by (suc (suc (suc zero))) (suc zero) a b hs ht = no_both (a == b) (a - a % 2 == b)
-same_by (suc (suc (suc zero))) (suc (suc zero)) a b hs ht = no_both (a == b) (a - a % 2 == b)
-same_by (suc (suc (suc zero))) (suc (suc (suc zero))) a b hs ht = branch_same a b
-same_by (suc (suc (suc (suc s)))) t a b hs ht = absurd (omega (arith, hs))
-same_by s (suc (suc (suc (suc t)))) a b hs ht = absurd (omega (arith, ht))
+same_kind : (a b : Kind) → (code_of a == code_of b) ≡ is_same_kind a b
+same_kind Byte Byte = refl
+same_kind Byte Half = refl
+same_kind Byte Word = refl
+same_kind Byte (Branch false) = refl
+same_kind Byte (Branch true) = refl
+same_kind Half Byte = refl
+same_kind Half Half = refl
+same_kind Half Word = refl
+same_kind Half (Branch false) = refl
+same_kind Half (Branch true) = refl
+same_kind Word Byte = refl
+same_kind Word Half = refl
+same_kind Word Word = refl
+same_kind Word (Branch false) = refl
+same_kind Word (Branch true) = refl
+same_kind (Branch false) Byte = refl
+same_kind (Branch false) Half = refl
+same_kind (Branch false) Word = refl
+same_kind (Branch false) (Branch false) = refl
+same_kind (Branch false) (Branch true) = refl
+same_kind (Branch true) Byte = refl
+same_kind (Branch true) Half = refl
+same_kind (Branch true) Word = refl
+same_kind (Branch true) (Branch false) = refl
+same_kind (Branch true) (Branch true) = refl
 
 pub same_field : (q r : Reloc) → is_same (spot_of q) (spot_of r) ≡ is_field (field_of r) q
-same_field q r = same_by (bits q.word 24 2) (bits r.word 24 2) q.offset r.offset (omega arith) (omega arith)
+same_field q r = ap (λ (b : Bool). (field_of q).place == (field_of r).place && b) (same_kind (field_of q).kind (field_of r).kind)
 
 pub step : {A : Type 0} (p : A → Bool) (x : A) (xs : List A) → count_by p (x ∷ xs) ≡ cond (p x) 1 0 + count_by p xs
 step p x xs = sum_by-cons (λ y. cond (p y) 1 0) x xs
@@ -81,8 +79,8 @@ nothing_more n = omega arith
 
 same_spot : (a s : Spot) → is_same a s ≡ true → a ≡ s
 same_spot a s h =
-    let both = both_true (a.offset == s.offset) (a.type_ == s.type_) h in
-    λ i. record { offset = equal a.offset s.offset both.0 i; type_ = equal a.type_ s.type_ both.1 i }
+    let both = both_true (a.place == s.place) (a.code == s.code) h in
+    λ i. record { place = equal a.place s.place both.0 i; code = equal a.code s.code both.1 i }
 
 pub counted : (b : Bool) → cond b 1 0 ≡ flag b
 counted true = refl

@@ -22,7 +22,7 @@ use Rattle.link_values.specs.Placed.{base_in}
 use Rattle.link_values.specs.Shifts.{area_shifts, gains, has_bad_shifts, image_base, is_bad_branch, is_unmovable, losses, names_moving, not_relocatable, shifts_at, shifts_in, shifts_of, unmovable, unmovable_from, unmovable_in, word_shifts}
 use Rattle.link_shifts.specs.declared.balances.Balance.{Balance}
 use Rattle.link_shifts.specs.Balances.{is_gain, is_loss, none}
-use Rattle.link_shifts.specs.Changes.{area_change, AreChanges, Changes, change_by, change_of, is_word_at, times_in}
+use Rattle.link_shifts.specs.Changes.{area_change, AreChanges, Changes, change_by, change_of, is_word, is_word_at, times_in}
 use Rattle.link_shifts.proofs.FieldLemmas.{count_among, step}
 
 -- ---- the relocations whose field is a word at an address
@@ -37,7 +37,7 @@ no_both false = refl
 same_place : (o address x : ℕ) → address ≤ x → (address + o == x) ≡ ((o == x - address) && true)
 same_place o address x h = grind arith
 
-word_by : (t o address x : ℕ) → t < 4 → address ≤ x → ((t == 2) && (address + o == x)) ≡ ((place_by t o == x - address) && is_same_kind (kind_by t (o % 2 == 1)) Word)
+word_by : (t o address x : ℕ) → t < 4 → address ≤ x → (is_word (kind_by t (o % 2 == 1)) && (address + place_by t o == x)) ≡ ((place_by t o == x - address) && is_same_kind (kind_by t (o % 2 == 1)) Word)
 word_by zero o address x ht h = no_both (o == x - address)
 word_by (suc zero) o address x ht h = no_both (o == x - address)
 word_by (suc (suc zero)) o address x ht h = same_place o address x h
@@ -69,8 +69,8 @@ count_none p never (r ∷ rs) = step p r rs ∙ (λ i. cond (never r i) 1 0 + co
 
 change_before : (moving : Reloc → Bool) (relocs : List Reloc) (address x : ℕ) → x < address → change_by moving address x relocs ≡ none
 change_before moving relocs address x h = λ i. record {
-  more = count_none (λ r. is_word_at address x r && is_gain moving r) (λ r. is_behind (bits r.word 24 2 == 2) r.offset address x (is_gain moving r) h) relocs i;
-  less = count_none (λ r. is_word_at address x r && is_loss moving r) (λ r. is_behind (bits r.word 24 2 == 2) r.offset address x (is_loss moving r) h) relocs i;
+  more = count_none (λ r. is_word_at address x r && is_gain moving r) (λ r. is_behind (is_word (field_of r).kind) (field_of r).place address x (is_gain moving r) h) relocs i;
+  less = count_none (λ r. is_word_at address x r && is_loss moving r) (λ r. is_behind (is_word (field_of r).kind) (field_of r).place address x (is_loss moving r) h) relocs i;
 }
 
 -- ---- of what can be moved no more is taken away than is added

@@ -1,20 +1,28 @@
 -- What is added and taken away by the relocations of each field of an area, by an index. This project's.
-use Rattle.std.specs.Prelude.{◌≡◌, ◌+◌, Bool, not, ◌&&◌, ◌==◌, count_by, unwrap_or, List}
+use Rattle.std.specs.Prelude.{◌≡◌, ℕ, ◌+◌, Bool, true, false, not, ◌&&◌, ◌==◌, count_by, unwrap_or, List}
 use Rattle.std.specs.declared.hash.FoldHasher.{FoldHasher}
 use Rattle.std.specs.declared.hash.BuildHasherDefault.{BuildHasherDefault}
 use Rattle.indexmap.specs.IndexMap.{IndexMap, get_by}
-use Rattle.sdt_word.specs.Numbers.{bits, flag}
+use Rattle.sdt_word.specs.Numbers.{flag}
 use Rattle.aof_object.specs.declared.records.Reloc.{Reloc}
-use Rattle.patch_model.specs.Fields.{is_relative}
+use Rattle.patch_model.specs.Fields.{Kind, Byte, Half, Word, Branch, field_of, is_relative}
 use Rattle.link_shifts.specs.declared.balances.Balance.{Balance}
 use Rattle.link_shifts.specs.declared.balances.Spot.{Spot}
 
+-- a number for each kind of field
+abbrev pub code_of : Kind → ℕ
+code_of Byte = 0
+code_of Half = 1
+code_of Word = 2
+code_of (Branch false) = 3
+code_of (Branch true) = 4
+
 -- relocations of one spot have one field
 abbrev pub spot_of : Reloc → Spot
-spot_of r = record { offset = r.offset; type_ = bits r.word 24 2 }
+spot_of r = record { place = (field_of r).place; code = code_of (field_of r).kind }
 
 abbrev pub is_same : Spot → Spot → Bool
-is_same a b = a.offset == b.offset && a.type_ == b.type_
+is_same a b = a.place == b.place && a.code == b.code
 
 abbrev pub is_gain : (Reloc → Bool) → Reloc → Bool
 is_gain moving r = not (is_relative r) && moving r

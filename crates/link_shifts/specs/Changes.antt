@@ -1,11 +1,11 @@
 -- What is added and taken away of what moves at the addresses of an image, by an index. This project's.
-use Rattle.std.specs.Prelude.{◌≡◌, ℕ, ◌+◌, ◌-◌, Bool, ◌&&◌, ◌==◌, nat_eq, count_by, sum_by, unwrap_or, List, Option, Some, None}
+use Rattle.std.specs.Prelude.{◌≡◌, ℕ, ◌+◌, ◌-◌, Bool, true, false, ◌&&◌, ◌==◌, nat_eq, count_by, sum_by, unwrap_or, List, Option, Some, None}
 use Rattle.std.specs.declared.hash.FoldHasher.{FoldHasher}
 use Rattle.std.specs.declared.hash.BuildHasherDefault.{BuildHasherDefault}
 use Rattle.indexmap.specs.IndexMap.{IndexMap, get}
-use Rattle.sdt_word.specs.Numbers.{bits}
 use Rattle.aof_object.specs.declared.records.Area.{Area}
 use Rattle.aof_object.specs.declared.records.Reloc.{Reloc}
+use Rattle.patch_model.specs.Fields.{Kind, Word, field_of}
 use Rattle.link_model.specs.declared.placing.PlacedArea.{PlacedArea}
 use Rattle.link_model.specs.declared.placing.PlacedVeneer.{PlacedVeneer}
 use Rattle.link_model.specs.declared.placing.Placement.{Placement}
@@ -29,9 +29,13 @@ times_in m x = (change_in m x).more - (change_in m x).less
 
 -- ---- of the words of an image
 
+abbrev pub is_word : Kind → Bool
+is_word Word = true
+is_word kind = false
+
 -- whether its field is the word at an address, where its area has this one
 abbrev pub is_word_at : ℕ → ℕ → Reloc → Bool
-is_word_at address x r = bits r.word 24 2 == 2 && address + r.offset == x
+is_word_at address x r = is_word (field_of r).kind && address + (field_of r).place == x
 
 -- by relocations of an area at an address
 abbrev pub change_by : (Reloc → Bool) → ℕ → ℕ → List Reloc → Balance

@@ -6,20 +6,20 @@ ghost use Rattle.link_values.specs.Shifts.{names_moving as names_moving_of};
 ghost use Rattle.link_shifts.specs.declared.balances.Spot.{Spot as SpotModel};
 ghost use Rattle.patch_model.specs.Fields.{is_relative};
 ghost use Rattle.link_model.specs.Members.{link_of};
-ghost use Rattle.link_shifts.specs.Balances.{balance_in, is_same, spot_of as spot, weighed as with_one, AreBalances};
+ghost use Rattle.link_shifts.specs.Balances.{balance_in, code_of as code, is_same, spot_of as spot, weighed as with_one, AreBalances};
 ghost use Rattle.link_shifts.specs.Tells.{Tells};
 
 use crate::moving::{Image, names_moving};
-use aof_object::Reloc;
+use aof_object::{FieldKind, Reloc};
 use indexmap::IndexMap;
 use sdt_fault::NoMemory;
 use std::alloc::Global;
 
-/// Where a relocation stands, and the type of its field (bits 24 and 25 of its word). These tell the field.
+/// A field: where it begins, and a number for its kind.
 #[derive(Clone, Copy, PartialEq, Eq, Hash, Debug)]
 pub struct Spot {
-    pub offset: u32,
-    pub type_: u32,
+    pub place: u32,
+    pub code: u32,
 }
 
 /// How often what moves is added to a field, and how often its area's base is taken from what stays.
@@ -29,12 +29,26 @@ pub struct Balance {
     pub less: u64,
 }
 
+fn code_of(kind: FieldKind) -> u32
+    ensures { result ≡ code kind }
+{
+    match kind {
+        FieldKind::Byte => 0,
+        FieldKind::Half => 1,
+        FieldKind::Word => 2,
+        FieldKind::Branch(false) => 3,
+        FieldKind::Branch(true) => 4,
+    }
+}
+
+/// The field of a relocation.
 pub fn spot_of(reloc: Reloc) -> Spot
     ensures { result ≡ spot reloc }
 {
+    let field = reloc.field();
     Spot {
-        offset: reloc.offset,
-        type_: reloc.word / 0x100_0000 % 4,
+        place: field.place,
+        code: code_of(field.kind),
     }
 }
 
@@ -85,7 +99,7 @@ fn note(
         else balance_in balances.old s)) }
 {
     let at = spot_of(reloc);
-    let relative = reloc.word / 0x400_0000 % 2 == 1;
+    let relative = reloc.is_relative();
     let moving = names_moving(image, object, reloc);
     let balance = weighed(relative, moving, balance_at(balances, at))?;
     balances.insert(at, balance)?;

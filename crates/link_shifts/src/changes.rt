@@ -10,7 +10,7 @@ ghost use Rattle.patch_model.specs.Fields.{is_relative};
 
 use crate::balances::{Balance, weighed};
 use crate::moving::{Image, names_moving};
-use aof_object::Reloc;
+use aof_object::{FieldKind, Reloc};
 use indexmap::IndexMap;
 use link_model::{PlacedArea, PlacedVeneer};
 use link_values::{area_at, sum};
@@ -64,11 +64,12 @@ fn note_reloc(
         (change_in changes.old x)
         else change_in changes.old x)) }
 {
-    if reloc.word / 0x100_0000 % 4 != 2 {
+    let field = reloc.field();
+    let FieldKind::Word = field.kind else {
         return Ok(());
-    }
-    let at = sum(address, u64::from(reloc.offset))?;
-    let relative = reloc.word / 0x400_0000 % 2 == 1;
+    };
+    let at = sum(address, u64::from(field.place))?;
+    let relative = reloc.is_relative();
     let moving = names_moving(image, object, reloc);
     note(changes, at, relative, moving)
 }

@@ -3,7 +3,7 @@
 ghost use Rattle.std.specs.Prelude.{◌≡◌, ◌+◌, ◌-◌, ◌||◌, slice_get, IfOk, Some};
 ghost use Rattle.std.specs.List.{filter_map};
 ghost use Rattle.std.specs.Option.{option_map};
-ghost use Rattle.link_values.specs.Shifts.{has_bad_shifts as bad_shifts, is_bad_branch, is_unmovable, names_moving as names_moving_of, image_base as base_of_image, unmovable, unmovable_from, unmovable_in, not_relocatable};
+ghost use Rattle.link_values.specs.Shifts.{has_bad_shifts as bad_shifts, is_bad_branch as bad_branch, is_unmovable, names_moving as names_moving_of, image_base as base_of_image, unmovable, unmovable_from, unmovable_in, not_relocatable};
 ghost use Rattle.link_model.specs.Members.{link_of};
 ghost use Rattle.link_shifts.specs.Balances.{AreBalances};
 ghost use Rattle.link_shifts.specs.Tells.{Tells};
@@ -12,7 +12,7 @@ ghost use Rattle.patch_model.specs.Fields.{field_of};
 
 use crate::balances::{Balance, Spot, balance_at, balances_of, spot_of};
 use crate::moving::{Image, names_moving};
-use aof_object::{Area, Object, Reloc};
+use aof_object::{Area, FieldKind, Object, Reloc};
 use indexmap::IndexMap;
 use link_model::{Linked, Named, Placement, numbered};
 use link_values::{area_bases, base_at, gathered, region_numbers};
@@ -30,35 +30,39 @@ pub fn image_base(placement: &Placement) -> u64
     }
 }
 
-/// Where the field of a relocation begins.
-pub fn place_of(reloc: Reloc) -> u32
-    ensures { result ≡ (field_of reloc).place }
+/// Whether a field at an offset in the image has shifts that can't be made.
+fn has_bad_shifts(kind: FieldKind, offset: u64, balance: Balance) -> bool
+    ensures { result ≡ bad_shifts kind offset balance.more balance.less }
 {
-    if reloc.word / 0x100_0000 % 4 == 3 {
-        return reloc.offset - reloc.offset % 2;
+    match kind {
+        FieldKind::Word => {
+            if offset % 4 == 0 {
+                return balance.more < balance.less;
+            }
+            balance.more != balance.less
+        }
+        _ => balance.more != balance.less,
     }
-    reloc.offset
 }
 
-/// Whether the field of a relocation, at an offset in the image, has shifts that can't be made.
-fn has_bad_shifts(reloc: Reloc, offset: u64, balance: Balance) -> bool
-    ensures { result ≡ bad_shifts (field_of reloc).kind offset balance.more balance.less }
+/// Whether a field is that of a branch to what stays.
+fn is_bad_branch(kind: FieldKind, moving: bool) -> bool
+    ensures { result ≡ bad_branch kind moving }
 {
-    if reloc.word / 0x100_0000 % 4 == 2 && offset % 4 == 0 {
-        return balance.more < balance.less;
+    match kind {
+        FieldKind::Branch(_) => !moving,
+        _ => false,
     }
-    balance.more != balance.less
 }
 
 /// Whether a relocation whose field is at an offset in the image can't be moved.
-fn cannot_move(moving: bool, offset: u64, balance: Balance, reloc: Reloc) -> bool
-    ensures { result ≡ (is_bad_branch (field_of reloc).kind moving
-        || bad_shifts (field_of reloc).kind offset balance.more balance.less) }
+fn cannot_move(moving: bool, offset: u64, balance: Balance, kind: FieldKind) -> bool
+    ensures { result ≡ (bad_branch kind moving || bad_shifts kind offset balance.more balance.less) }
 {
-    if reloc.word / 0x100_0000 % 4 == 3 && !moving {
+    if is_bad_branch(kind, moving) {
         return true;
     }
-    has_bad_shifts(reloc, offset, balance)
+    has_bad_shifts(kind, offset, balance)
 }
 
 /// An area of an object, both with their numbers, and what its fields gain and lose.
@@ -83,14 +87,15 @@ fn is_stuck(image: &Image<'_>, judged: &Judged<'_>, reloc: Reloc) -> Result<bool
         - base_of_image image.now.placement.now) judged.now.area.now.relocs reloc) }
 {
     let address = base_at(image.names.bases, judged.object, judged.number);
-    let place = u64::from(place_of(reloc));
+    let field = reloc.field();
+    let place = u64::from(field.place);
     if address > u64::MAX - place {
         return Err(NoMemory);
     }
     let offset = (address + place).saturating_sub(image_base(image.placement));
     let moving = names_moving(image, judged.object, reloc);
     let balance = balance_at(judged.balances, spot_of(reloc));
-    Ok(cannot_move(moving, offset, balance, reloc))
+    Ok(cannot_move(moving, offset, balance, field.kind))
 }
 
 /// The refusal of a relocation of an area, if it can't be moved.
@@ -112,7 +117,7 @@ fn refusal_at(
     Ok(Some(Refusal::NotRelocatable {
         object: judged.named.name.try_clone(alloc)?,
         area: judged.area.name.try_clone(alloc)?,
-        offset: place_of(reloc),
+        offset: reloc.field().place,
     }))
 }
 

@@ -7,14 +7,14 @@ ghost use Rattle.link_shifts.specs.Tells.{Tells};
 
 use aof_object::Reloc;
 use link_model::{Linked, Placement};
-use link_values::{Known, is_moving};
+use link_values::{SymbolContext, is_moving};
 
 /// A link with its placement, and what these tell of names and addresses.
 #[derive(Drop)]
 pub struct Image<'a> {
     pub linked: &'a Linked,
     pub placement: &'a Placement,
-    pub names: Known<'a>,
+    pub names: SymbolContext<'a>,
 }
 
 /// Whether what a relocation of an object names moves with the image.
@@ -22,8 +22,8 @@ pub fn names_moving(image: &Image<'_>, object: u32, reloc: Reloc) -> bool
     requires { Tells image.now }
     ensures { result ≡ names_moving (link_of image.now.linked.now) image.now.placement.now object reloc }
 {
-    if reloc.word / 0x800_0000 % 2 != 1 {
-        return true;
+    match reloc.symbol() {
+        None => true,
+        Some(number) => is_moving(&image.names, object, number),
     }
-    is_moving(&image.names, object, reloc.word % 0x100_0000)
 }

@@ -11,7 +11,7 @@ use Rattle.link_model.specs.Meaning.{Defined, definition_of, meaning_by, meaning
 use Rattle.link_model.specs.Members.{Link, objects_in}
 use Rattle.link_model.specs.RegionValues.{region_number}
 use Rattle.link_model.specs.Values.{meaning_at}
-use Rattle.link_values.specs.declared.values.Known.{Known}
+use Rattle.link_values.specs.declared.values.SymbolContext.{SymbolContext}
 use Rattle.link_values.specs.Index.{place_of}
 use Rattle.link_values.specs.Moving.{is_moving, is_moving_symbol, named_moving, known_moving}
 use Rattle.link_values.specs.Values.{Knows}
@@ -28,14 +28,14 @@ by_kind : (os : List Object) (object k : ℕ) (s : Symbol) → symbol_of os obje
 by_kind os object k s there true d n weak = ap is_moving_symbol (sym there)
 by_kind os object k s there false d n weak = named_same os d n weak
 
-of_symbol : (l : Link) (p : Placement) (known : Known) → Knows l p known → (object k : ℕ) (o : Option Symbol) → symbol_of l.objects object k ≡ o
+of_symbol : (l : Link) (p : Placement) (known : SymbolContext) → Knows l p known → (object k : ℕ) (o : Option Symbol) → symbol_of l.objects object k ≡ o
     → known_moving known o ≡ is_moving l.objects (option_and_then (meaning_of l.definitions (region_number l.objects p) object k) o)
 of_symbol l p known h object k None there = refl
 of_symbol l p known h object k (Some s) there =
     (λ i. cond (bit s.attributes 0 == 1) (is_moving_symbol (Some s)) (named_moving (h.objects i) (h.definitions s.name i) (h.symbols s.name i)))
     ∙ by_kind l.objects object k s there (bit s.attributes 0 == 1) (definition_of l.definitions s.name) (region_number l.objects p s.name) (bit s.attributes 4 == 1)
 
-pub known_moves : (known : Known) (object k : ℕ) (l : Link) (p : Placement) → Knows l p known
+pub known_moves : (known : SymbolContext) (object k : ℕ) (l : Link) (p : Placement) → Knows l p known
     → known_moving known (symbol_of (objects_in known.objects.now) object k) ≡ is_moving l.objects (meaning_at l (region_number l.objects p) object k)
 known_moves known object k l p h =
     ap (λ (os : List Object). known_moving known (symbol_of os object k)) h.objects ∙ of_symbol l p known h object k (symbol_of l.objects object k) refl

@@ -13,7 +13,7 @@ use Rattle.link_model.specs.Meaning.{Defined, definition_of, meaning_by, meaning
 use Rattle.link_model.specs.Members.{Link}
 use Rattle.link_model.specs.RegionValues.{region_number}
 use Rattle.link_model.specs.Values.{Bases, meant_of, meant_by, unplaced}
-use Rattle.link_values.specs.declared.values.Known.{Known}
+use Rattle.link_values.specs.declared.values.SymbolContext.{SymbolContext}
 use Rattle.link_values.specs.declared.values.SymbolValue.{SymbolValue}
 use Rattle.link_values.specs.Index.{place_of}
 use Rattle.link_values.specs.Placed.{base_in, values_in}
@@ -33,7 +33,7 @@ by_kind : (os : List Object) (base_at : Bases) (object k : ℕ) (s : Symbol) →
 by_kind os base_at object k s there true d n weak = ap (meant_of base_at object) (sym there)
 by_kind os base_at object k s there false d n weak = named_same os base_at d n weak
 
-value_same : (l : Link) (p : Placement) (known : Known) → Knows l p known → (object k : ℕ) (s : Symbol) → symbol_of l.objects object k ≡ Some s
+value_same : (l : Link) (p : Placement) (known : SymbolContext) → Knows l p known → (object k : ℕ) (s : Symbol) → symbol_of l.objects object k ≡ Some s
     → known_value known object s ≡ (values_in l p object).symbol k
 value_same l p known h object k s there =
     (λ i. cond (bit s.attributes 0 == 1) (meant_of (λ o a. h.bases o a i) object (Some s))
@@ -60,13 +60,13 @@ of_object : (f : Symbol → Meant) (o : Option Object) (k : ℕ)
 of_object f None k = refl
 of_object f (Some o) k = slice_get-map f o.symbols k
 
-there_or : (l : Link) (p : Placement) (known : Known) → Knows l p known → (object k : ℕ) (o : Option Symbol) → symbol_of l.objects object k ≡ o
+there_or : (l : Link) (p : Placement) (known : SymbolContext) → Knows l p known → (object k : ℕ) (o : Option Symbol) → symbol_of l.objects object k ≡ o
     → unwrap_or (option_map (known_value known object) o) (unplaced 0 false false) ≡ (values_in l p object).symbol k
 there_or l p known h object k None there =
     ap (λ (o : Option Symbol). meant_by l.objects (base_in p) (option_and_then (meaning_of l.definitions (region_number l.objects p) object k) o)) (sym there)
 there_or l p known h object k (Some s) there = value_same l p known h object k s there
 
-pub all_known : (l : Link) (p : Placement) (known : Known) (values : List (List SymbolValue)) → Knows l p known
+pub all_known : (l : Link) (p : Placement) (known : SymbolContext) (values : List (List SymbolValue)) → Knows l p known
     → map (map meant) values ≡ all_values (known_value known) 0 l.objects → AreValues l p values
 all_known l p known values h e object k =
     ap (λ (o : Option Meant). unwrap_or o (unplaced 0 false false))

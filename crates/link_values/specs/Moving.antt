@@ -9,7 +9,7 @@ use Rattle.link_model.specs.Meaning.{Meaning, Defined, OfRegion, symbol_of}
 use Rattle.link_model.specs.Members.{objects_in}
 use Rattle.link_model.specs.Values.{home_area}
 use Rattle.link_values.specs.declared.definitions.Defined.{Defined as Entry}
-use Rattle.link_values.specs.declared.values.Known.{Known}
+use Rattle.link_values.specs.declared.values.SymbolContext.{SymbolContext}
 use Rattle.link_values.specs.Index.{found_in}
 use Rattle.link_values.specs.Regions.{number_by}
 
@@ -31,7 +31,7 @@ named_moving os (Some d) number = is_moving_symbol (symbol_of os d.object d.symb
 named_moving os None number = is_some number
 
 -- of a symbol of an object
-abbrev pub known_moving : Known → Option Symbol → Bool
+abbrev pub known_moving : SymbolContext → Option Symbol → Bool
 known_moving known None = false
 known_moving known (Some s) =
     if bit s.attributes 0 == 1 then is_moving_symbol (Some s)

@@ -10,15 +10,15 @@ use Rattle.link_model.specs.Meaning.{symbol_of}
 use Rattle.link_model.specs.Members.{Link, objects_in}
 use Rattle.link_model.specs.Values.{Bases, meant_of, unplaced}
 use Rattle.link_values.specs.declared.definitions.Defined.{Defined}
-use Rattle.link_values.specs.declared.values.Place.{Place}
+use Rattle.link_values.specs.declared.values.AreaOffset.{AreaOffset}
 use Rattle.link_values.specs.declared.values.SymbolValue.{SymbolValue}
-use Rattle.link_values.specs.declared.values.Known.{Known}
+use Rattle.link_values.specs.declared.values.SymbolContext.{SymbolContext}
 use Rattle.link_values.specs.Bases.{base_of, AreBases}
 use Rattle.link_values.specs.Index.{found_in, IsIndexOf}
 use Rattle.link_values.specs.Regions.{number_by, AreSymbols}
 use Rattle.link_values.specs.Placed.{values_in}
 
-abbrev pub home : Place → Home
+abbrev pub home : AreaOffset → Home
 home p = record { object = p.object; area = p.area; offset = p.offset }
 
 abbrev pub meant : SymbolValue → Meant
@@ -36,7 +36,7 @@ AreValues l p values = (object k : ℕ) → value_in values object k ≡ (values
 -- ---- what indexes tell
 
 -- this is what a link and its placement tell
-pub record Knows (l : Link) (p : Placement) (known : Known) : Type 0 where
+pub record Knows (l : Link) (p : Placement) (known : SymbolContext) : Type 0 where
   pub objects : objects_in known.objects.now ≡ l.objects
   pub bases : AreBases p known.bases.now
   pub definitions : IsIndexOf l.definitions known.definitions
@@ -51,7 +51,7 @@ named_value os base_at (Some d) number = meant_of base_at d.object (symbol_of os
 named_value os base_at None number = of_region number
 
 -- of a symbol of an object
-abbrev pub known_value : Known → ℕ → Symbol → Meant
+abbrev pub known_value : SymbolContext → ℕ → Symbol → Meant
 known_value known object s =
     if bit s.attributes 0 == 1 then meant_of (base_of known.bases.now) object (Some s)
     else named_value (objects_in known.objects.now) (base_of known.bases.now) (found_in known.definitions s.name) (number_by known.symbols s.name)

@@ -11,7 +11,11 @@ mod regions;
 mod values;
 
 pub use crate::bases::{AreaBases, area_bases, base_at};
+pub use crate::definitions::{Defined, index_definitions};
 pub use crate::moving::is_moving;
-pub use crate::objects::{area_at, sum};
+pub use crate::names::find;
+pub use crate::objects::{area_at, sum, symbol_at};
 pub use crate::regions::region_numbers;
-pub use crate::values::{Known, Place, SymbolValue, gathered, symbol_values, value_at};
+pub use crate::values::{
+    AreaOffset, BranchTarget, SymbolContext, SymbolValue, gathered, symbol_values, value_at,
+};

@@ -14,7 +14,7 @@ ghost use Rattle.link_values.specs.Values.{Knows};
 use crate::names::find;
 use crate::objects::symbol_at;
 use crate::regions::region_number;
-use crate::values::{Known, home_area};
+use crate::values::{SymbolContext, home_area};
 use aof_object::Symbol;
 
 /// Whether a definition stands in an area.
@@ -28,7 +28,7 @@ fn is_in_area(symbol: Option<&Symbol>) -> bool
 }
 
 /// Whether what a name means moves: a definition in an area, or a region symbol.
-fn is_name_moving(known: &Known, name: &[u8]) -> bool
+fn is_name_moving(known: &SymbolContext, name: &[u8]) -> bool
     ensures { result ≡ named_moving (objects_in known.now.objects.now)
         (found_in known.now.definitions name.now) (number_by known.now.symbols name.now) }
 {
@@ -39,13 +39,13 @@ fn is_name_moving(known: &Known, name: &[u8]) -> bool
 }
 
 /// Whether a symbol of an object moves.
-fn is_symbol_moving(known: &Known, symbol: Option<&Symbol>) -> bool
+fn is_symbol_moving(known: &SymbolContext, symbol: Option<&Symbol>) -> bool
     ensures { result ≡ known_moving known.now (option_copied symbol.entry) }
 {
     let Some(symbol) = symbol else {
         return false;
     };
-    if symbol.attributes % 2 == 1 {
+    if symbol.flags().is_definition() {
         return is_in_area(Some(symbol));
     }
     is_name_moving(known, symbol.name.as_slice())
@@ -54,7 +54,7 @@ fn is_symbol_moving(known: &Known, symbol: Option<&Symbol>) -> bool
 /// Whether the symbol of a number of an object moves with its image: one in an area, or a region symbol. Absolute
 /// ones and undefined weak references stay.
 #[tactic(auto, using(crate::proofs::MovingLemmas::known_moves))]
-pub fn is_moving(known: &Known, object: u32, number: u32) -> bool
+pub fn is_moving(known: &SymbolContext, object: u32, number: u32) -> bool
     ensures { (l : Link) (p : Placement) → Knows l p known.now
         → result ≡ moves l.objects (meaning_at l (number_of l.objects p) object number) }
 {

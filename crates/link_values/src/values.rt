@@ -5,7 +5,6 @@ ghost use Rattle.link_model.specs.Members.{link_of, objects_in};
 ghost use Rattle.link_model.specs.Meaning.{symbol_of};
 ghost use Rattle.link_model.specs.RegionValues.{numbers_by};
 ghost use Rattle.link_model.specs.Values.{home_area as home, meant_of, unplaced as alone};
-ghost use Rattle.aof_object.specs.Checks.{is_placed as placed};
 ghost use Rattle.link_values.specs.Bases.{base_of, AreBases};
 ghost use Rattle.link_values.specs.Values.{meant, of_region, known_value, all_values, value_in, AreValues, Knows};
 
@@ -22,10 +21,17 @@ use std::alloc::Global;
 
 /// A place in an area of a linked object, by an offset in bytes.
 #[derive(Clone, Copy, PartialEq, Eq, Debug)]
-pub struct Place {
+pub struct AreaOffset {
     pub object: u32,
     pub area: u32,
     pub offset: u32,
+}
+
+/// What a branch by a veneer leads to: a place, and whether it is of Thumb code.
+#[derive(Clone, Copy, PartialEq, Eq, Debug)]
+pub struct BranchTarget {
+    pub place: AreaOffset,
+    pub thumb: bool,
 }
 
 /// A symbol's number, whether it is of Thumb code and whether it is a datum there, and its place where it
@@ -35,12 +41,12 @@ pub struct SymbolValue {
     pub number: u64,
     pub thumb: bool,
     pub datum: bool,
-    pub home: Option<Place>,
+    pub home: Option<AreaOffset>,
 }
 
 /// What tells the value of a symbol.
 #[derive(Drop)]
-pub struct Known<'a> {
+pub struct SymbolContext<'a> {
     pub objects: &'a [Named<Object>],
     pub bases: &'a AreaBases,
     pub definitions: IndexMap<&'a [u8], Defined>,
@@ -54,13 +60,13 @@ pub fn gathered<'a>(
     placement: &'a Placement,
     bases: &'a AreaBases,
     numbers: &'a [(Text, u64)],
-) -> Result<Known<'a>, NoMemory>
+) -> Result<SymbolContext<'a>, NoMemory>
     requires bases { AreBases placement.now bases.now }
     requires numbers { numbers.now ≡ numbers_by placement.now.boot placement.now.regions }
     ensures { IfOk result (λ known. Knows (link_of linked.now) placement.now known) }
 {
     let objects = linked.objects.as_slice();
-    Ok(Known {
+    Ok(SymbolContext {
         objects,
         bases,
         definitions: index_definitions(alloc, linked.definitions.as_slice())?,
@@ -68,19 +74,10 @@ pub fn gathered<'a>(
     })
 }
 
-fn is_placed(symbol: &Symbol) -> bool
-    ensures { result ≡ placed symbol.now.attributes }
-{
-    if symbol.attributes % 2 != 1 {
-        return false;
-    }
-    symbol.attributes / 4 % 2 == 0
-}
-
 pub fn home_area(symbol: &Symbol) -> Option<u32>
     ensures { result ≡ home symbol.now }
 {
-    if !is_placed(symbol) {
+    if !symbol.flags().is_placed() {
         return None;
     }
     symbol.area
@@ -101,8 +98,8 @@ fn unplaced(number: u64) -> SymbolValue
 fn own_value(bases: &AreaBases, object: u32, symbol: &Symbol) -> Result<SymbolValue, NoMemory>
     ensures { IfOk result (λ v. meant v ≡ meant_of (base_of bases.now) object (Some symbol.now)) }
 {
-    let thumb = symbol.attributes / 0x1000 % 2 == 1;
-    let datum = symbol.attributes / 0x100 % 2 == 1;
+    let thumb = symbol.flags().is_thumb();
+    let datum = symbol.flags().is_datum();
     let Some(area) = home_area(symbol) else {
         return Ok(SymbolValue {
             number: symbol.value as u64,
@@ -115,7 +112,7 @@ fn own_value(bases: &AreaBases, object: u32, symbol: &Symbol) -> Result<SymbolVa
         number: sum(base_at(bases, object, area), symbol.value as u64)?,
         thumb,
         datum,
-        home: Some(Place {
+        home: Some(AreaOffset {
             object,
             area,
             offset: symbol.value,
@@ -148,10 +145,10 @@ fn value_of_region(number: Option<u64>) -> SymbolValue
 }
 
 /// The value of a symbol of an object.
-fn value_of(known: &Known, object: u32, symbol: &Symbol) -> Result<SymbolValue, NoMemory>
+fn value_of(known: &SymbolContext, object: u32, symbol: &Symbol) -> Result<SymbolValue, NoMemory>
     ensures { IfOk result (λ v. meant v ≡ known_value known.now object symbol.now) }
 {
-    if symbol.attributes % 2 == 1 {
+    if symbol.flags().is_definition() {
         return own_value(known.bases, object, symbol);
     }
     let name = symbol.name.as_slice();
@@ -163,7 +160,7 @@ fn value_of(known: &Known, object: u32, symbol: &Symbol) -> Result<SymbolValue, 
 
 fn object_values(
     alloc: Global,
-    known: &Known,
+    known: &SymbolContext,
     object: u32,
     symbols: &[Symbol],
 ) -> Result<List<SymbolValue>, NoMemory>
@@ -178,7 +175,7 @@ fn object_values(
 
 fn values_of_objects(
     alloc: Global,
-    known: &Known,
+    known: &SymbolContext,
     objects: &[Named<Object>],
 ) -> Result<Vec<List<SymbolValue>>, NoMemory>
     ensures { IfOk result (λ vs. map (map meant) vs.items

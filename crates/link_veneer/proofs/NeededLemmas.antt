@@ -55,7 +55,7 @@ offset_same o number x d e h = omega arith
 
 way_led : (region : ℕ) (thumb : Bool) (x d : ℕ) (m : Meant) (h : Option Home) → d ≤ 2 ^ 32 → AtHome m.number h
     → veneer_by region (way_home thumb (total (0 + x) 0 d) (m.number + 0 + 0) (0 + 0) m h)
-    ≡ option_and_then (veneer_to region thumb (x + (2 ^ 32 - d))) (option_map (λ g. record { area = record { object = g.object; area = g.area }; offset = g.offset; thumb = m.thumb }) h)
+    ≡ option_and_then (veneer_to region thumb (x + (2 ^ 32 - d))) (option_map (λ g. record { place = record { object = g.object; area = g.area; offset = g.offset }; thumb = m.thumb }) h)
 way_led region thumb x d m None low home = refl
 way_led region thumb x d m (Some h) low home = by (other_state thumb m.thumb)
   where

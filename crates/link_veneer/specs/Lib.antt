@@ -1,4 +1,3 @@
-pub mod Index
 pub mod Fields
 pub mod Targets
 pub mod Needing

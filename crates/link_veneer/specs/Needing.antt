@@ -10,7 +10,7 @@ use Rattle.patch_model.specs.Patched.{ahead, is_branch, middle, other_state, spa
 use Rattle.link_model.specs.declared.placing.Veneer.{Veneer}
 use Rattle.link_model.specs.Members.{Link}
 use Rattle.link_model.specs.Veneers.{is_same, values_apart}
-use Rattle.link_veneer.specs.declared.targets.Target.{Target}
+use Rattle.link_values.specs.declared.values.BranchTarget.{BranchTarget}
 use Rattle.link_veneer.specs.Targets.{target_of}
 
 -- from the area's start, and 2^32 more
@@ -20,10 +20,10 @@ led_from bytes thumb at =
     Some (at + (ahead thumb + span thumb (word_in bytes at) + (2 ^ 32 - middle thumb)))
     else None
 
-abbrev pub veneer_to : ℕ → Bool → ℕ → Target → Option Veneer
+abbrev pub veneer_to : ℕ → Bool → ℕ → BranchTarget → Option Veneer
 veneer_to region thumb distance t =
     if other_state thumb t.thumb then
-    Some (record { region = region; area = t.area; offset = (t.offset + distance) % 2 ^ 32; thumb = t.thumb })
+    Some (record { region = region; area = record { object = t.place.object; area = t.place.area }; offset = (t.place.offset + distance) % 2 ^ 32; thumb = t.thumb })
     else None
 
 -- by a relocation of an area with these bytes, in an object

@@ -6,16 +6,15 @@ ghost use Rattle.link_model.specs.Members.{link_of, objects_in};
 ghost use Rattle.link_model.specs.Options.{first_given};
 ghost use Rattle.link_model.specs.Veneers.{IsIn};
 ghost use Rattle.link_veneer.specs.Fields.{AreMarks};
-ghost use Rattle.link_veneer.specs.Index.{IsIndexOf};
+ghost use Rattle.link_values.specs.Index.{IsIndexOf};
 ghost use Rattle.link_veneer.specs.Interworking.{not_interworking, refusal_by, refused_by, refused_in};
 
-use crate::definitions::Defined;
 use crate::fields::marks_of;
 use crate::needing::needed;
-use crate::targets::{area_at, symbol_at};
 use aof_object::{Area, Object, Reloc, Symbol};
 use indexmap::IndexMap;
 use link_model::{AreaName, Linked, Named, Veneer, numbered};
+use link_values::{Defined, area_at, symbol_at};
 use sdt_fault::NoMemory;
 use sdt_fault::refusal::Refusal;
 use std::alloc::Global;
@@ -39,7 +38,7 @@ fn refusal_of(
     let Some(area) = area_at(objects, need.area) else {
         return Ok(None);
     };
-    if area.attributes / 0x40_0000 % 2 == 1 {
+    if area.flags().interworks() {
         return Ok(None);
     }
     Ok(Some(Refusal::NotInterworking {
@@ -88,7 +87,7 @@ fn refusal_of_branch(
 {
     let objects = linked.objects.as_slice();
     let need = needed(linked, index, marks, 0, name, area, reloc);
-    let symbol = symbol_at(objects, name.object, reloc.word % 0x100_0000);
+    let symbol = symbol_at(objects, name.object, reloc.number());
     refusal_of(alloc, objects, symbol, need)
 }
 

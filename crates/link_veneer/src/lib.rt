@@ -1,7 +1,6 @@
 //! The veneers that a link needs, or the first branch that no veneer may serve.
 #![tactic(auto)]
 
-mod definitions;
 mod fields;
 mod interworking;
 mod laws;

@@ -5,15 +5,15 @@ ghost use Rattle.patch_model.specs.Patched.{ahead, is_branch as reads_as_branch,
 ghost use Rattle.link_model.specs.Members.{link_of};
 ghost use Rattle.link_model.specs.Veneers.{needed_by, needed_in, IsIn};
 ghost use Rattle.link_veneer.specs.Fields.{AreMarks};
-ghost use Rattle.link_veneer.specs.Index.{IsIndexOf};
+ghost use Rattle.link_values.specs.Index.{IsIndexOf};
 ghost use Rattle.link_veneer.specs.Needing.{led, led_from, veneer_to, with_all, with_one};
 
-use crate::definitions::Defined;
-use crate::fields::{is_alone, is_branch, marks_of, place};
-use crate::targets::{Target, named_target};
+use crate::fields::{is_alone, is_branch, marks_of};
+use crate::targets::named_target;
 use aof_object::{Area, Reloc};
 use indexmap::{IndexMap, IndexSet};
 use link_model::{AreaName, Linked, Veneer};
+use link_values::{BranchTarget, Defined};
 use sdt_fault::NoMemory;
 use sdt_word::word_at;
 use std::alloc::Global;
@@ -42,7 +42,7 @@ fn reach(thumb: bool, word: u32) -> u64
 }
 
 /// The veneer of a branch in a state, where it goes by one.
-fn led_to(region: u32, thumb: bool, distance: u64, to: Target) -> Option<Veneer>
+fn led_to(region: u32, thumb: bool, distance: u64, to: BranchTarget) -> Option<Veneer>
     requires { distance < 2 ^ 34 }
     ensures { result ≡ veneer_to region thumb distance to }
 {
@@ -51,8 +51,11 @@ fn led_to(region: u32, thumb: bool, distance: u64, to: Target) -> Option<Veneer>
     }
     Some(Veneer {
         region,
-        area: to.area,
-        offset: ((to.offset as u64 + distance) % 0x1_0000_0000) as u32,
+        area: AreaName {
+            object: to.place.object,
+            area: to.place.area,
+        },
+        offset: ((to.place.offset as u64 + distance) % 0x1_0000_0000) as u32,
         thumb: to.thumb,
     })
 }
@@ -85,8 +88,8 @@ fn led_by(
     ensures { result ≡ led (link_of linked.now) region object bytes.now reloc }
 {
     let thumb = reloc.offset % 2 == 1;
-    let far = distance(bytes, thumb, place(reloc))?;
-    let to = named_target(linked, index, object, reloc.word % 0x100_0000)?;
+    let far = distance(bytes, thumb, reloc.field().place)?;
+    let to = named_target(linked, index, object, reloc.number())?;
     led_to(region, thumb, far, to)
 }
 

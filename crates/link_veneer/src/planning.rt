@@ -6,16 +6,15 @@ ghost use Rattle.chunk_file.specs.Reading.{Gives};
 ghost use Rattle.link_model.specs.Members.{link_of, objects_in};
 ghost use Rattle.link_model.specs.RegionValues.{area_of};
 ghost use Rattle.link_model.specs.Veneers.{needed_by_header, needed_from, needed_in, veneers_of};
-ghost use Rattle.link_veneer.specs.Index.{IsIndexOf};
+ghost use Rattle.link_values.specs.Index.{IsIndexOf};
 ghost use Rattle.link_veneer.specs.Needing.{with_all};
 ghost use Rattle.link_veneer.specs.Planning.{planned_veneers};
 
-use crate::definitions::{Defined, index_definitions};
 use crate::interworking::first_refusal;
 use crate::needing::{add_area, add_one};
-use crate::targets::area_at;
 use indexmap::{IndexMap, IndexSet};
 use link_model::{AreaName, Assigned, Linked, LinkedEntry, Veneer, numbered};
+use link_values::{Defined, area_at, index_definitions};
 use sdt_fault::answer::Fault;
 use sdt_fault::{List, NoMemory};
 use std::alloc::Global;

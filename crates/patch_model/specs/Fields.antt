@@ -1,47 +1,15 @@
--- Relocation directives: which field each has, and what it adds there (SDT 2.50 Reference Guide, ARM Object Format,
--- relocation directives; that a label of Thumb code counts 1 more in a word is this project's).
-use Rattle.std.specs.Prelude.{ℕ, ◌+◌, ◌-◌, ◌*◌, ◌%◌, ◌^◌, Bool, true, false, not, ◌&&◌, ◌==◌, if◌then◌else◌, List, [], ◌∷◌, take, drop, Option}
+-- What relocation directives add to their fields (SDT 2.50 Reference Guide, ARM Object Format, relocation directives;
+-- that a label of Thumb code counts 1 more in a word is this project's).
+use Rattle.std.specs.Prelude.{ℕ, ◌+◌, ◌*◌, Bool, true, false, not, ◌&&◌, ◌==◌, if◌then◌else◌, List, [], ◌∷◌, take, drop, Option}
 use Rattle.std.specs.List.{filter}
 use Rattle.std.specs.Option.{is_some}
-use Rattle.sdt_word.specs.Numbers.{bit, bits, flag}
+use Rattle.sdt_word.specs.Numbers.{flag}
 use Rattle.sdt_word.specs.Bytes.{number_of}
 use Rattle.aof_object.specs.declared.records.Reloc.{Reloc}
-
--- a byte, a half-word, a word, or a branch of ARM code or, where true, of Thumb code
-pub data Kind : Type 0 where
-  Byte Half Word : Kind
-  Branch : Bool → Kind
-
-pub record Field : Type 0 where
-  pub place : ℕ
-  pub kind : Kind
-
--- ---- the parts of a directive
-
--- the kind of field, by bits 24 and 25 of the word; bit 0 of an instruction's offset marks Thumb
-abbrev pub kind_by : ℕ → Bool → Kind
-kind_by type thumb =
-    if type == 0 then Byte else (if type == 1 then Half else (if type == 2 then Word else Branch thumb))
-
-abbrev pub kind_of : Reloc → Kind
-kind_of r = kind_by (bits r.word 24 2) (r.offset % 2 == 1)
-
-abbrev pub place_by : ℕ → ℕ → ℕ
-place_by type offset = if type == 3 then offset - offset % 2 else offset
-
-abbrev pub field_of : Reloc → Field
-field_of r = record { place = place_by (bits r.word 24 2) r.offset; kind = kind_of r }
-
--- bit 26: less the base of the area that has the field
-abbrev pub is_relative : Reloc → Bool
-is_relative r = bit r.word 26 == 1
-
--- bit 27: by a symbol, and else by an area; the low 24 bits are its number
-abbrev pub is_by_symbol : Reloc → Bool
-is_by_symbol r = bit r.word 27 == 1
-
-abbrev pub number_named : Reloc → ℕ
-number_named r = r.word % 2 ^ 24
+pub use Rattle.aof_object.specs.declared.relocations.Field.{Field}
+pub use Rattle.aof_object.specs.declared.relocations.FieldKind.{FieldKind as Kind}
+pub use Rattle.aof_object.specs.declared.relocations.FieldKind.TheVariants.{Byte, Half, Word, Branch}
+unfoldable pub use Rattle.aof_object.specs.Relocations.{kind_by, kind_of, place_by, field_of, size_of, is_relative, is_by_symbol, number_named}
 
 -- ---- what they name
 
@@ -106,11 +74,6 @@ taken base [] = 0
 taken base (r ∷ rs) = base * flag (is_relative r) + taken base rs
 
 -- ---- what a field holds
-
-abbrev pub size_of : Kind → ℕ
-size_of Byte = 1
-size_of Half = 2
-size_of _ = 4
 
 abbrev pub number_in : List ℕ → Field → ℕ
 number_in bytes f = number_of (take (size_of f.kind) (drop f.place bytes))

@@ -1,3 +1,4 @@
+pub mod EvenLemmas
 pub mod OpeningLemmas
 pub mod PageLemmas
 pub mod PutLemmas

@@ -1,5 +1,7 @@
 //! What a run begins with.
 
+ghost use Rattle.std.specs.Prelude.{◌≡◌, ◌%◌, IsTrue};
+
 use sdt_fault::{Bytes, List};
 
 /// A file's bytes, to be loaded from an address on.
@@ -16,11 +18,13 @@ pub struct Need {
     pub size: u64,
 }
 
-/// The image of a run: its load files, the load and execution ranges with their zero parts, and the address at which
-/// the machine starts, a multiple of 4.
+/// The image of a run: its load files, the load and execution ranges with their zero parts, the address at which the
+/// machine starts, and whether it starts in Thumb state.
 #[derive(Debug, Drop)]
 pub struct Image {
     pub loads: List<Load>,
     pub needs: List<Need>,
     pub start: u32,
+    pub thumb: bool,
+    pub ghost even: { IsTrue thumb → start % 2 ≡ 0 },
 }

@@ -1,5 +1,6 @@
 -- What the clauses of the crate cite.
 pub mod ArmTexts
+pub mod Elfs
 pub mod Images
 pub mod Listings
 pub mod Parts

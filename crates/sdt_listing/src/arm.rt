@@ -13,8 +13,9 @@ use crate::arm_names::{
     marks_flags, multiply_name, operation_name, sign, status_name, transfer_name, word_suffix,
 };
 use crate::parts::{
-    Place, mark, push, push_address, push_hex, push_indexed, push_indexed_by, push_list, push_next,
-    push_number, push_operation, push_plain, push_register, push_shifted, push_shifted_by, target,
+    ListedPlace, mark, push, push_address, push_hex, push_indexed, push_indexed_by, push_list,
+    push_next, push_number, push_operation, push_plain, push_register, push_shifted,
+    push_shifted_by, target,
 };
 use arm_isa::{ArmInstr, HalfKind, Operation, decode_arm};
 use sdt_fault::{NoMemory, Text};
@@ -223,7 +224,7 @@ fn push_transfer(
 fn push_shifted_place(
     alloc: Global,
     out: &mut Vec<u8>,
-    place: Place,
+    place: ListedPlace,
     amount: u8,
     shift: ShiftKind,
     rm: u8,
@@ -241,7 +242,7 @@ fn push_shifted_place(
 fn push_half_place(
     alloc: Global,
     out: &mut Vec<u8>,
-    place: Place,
+    place: ListedPlace,
     immediate: bool,
     high: u8,
     low: u8,
@@ -265,7 +266,7 @@ fn push_block(
     condition: Condition,
     load: bool,
     user: bool,
-    place: Place,
+    place: ListedPlace,
     list: u16,
 ) -> Result<(), NoMemory>
     ensures { OnOk result (out.new.items ≡ out.old.items ++ texts.block condition place.pre place.up user place.write_back load place.base list) }
@@ -389,7 +390,7 @@ fn push_transfer_immediate(
     out: &mut Vec<u8>,
     head: TransferHead,
     byte: bool,
-    place: Place,
+    place: ListedPlace,
     offset: u16,
 ) -> Result<(), NoMemory>
     ensures { OnOk result (out.new.items ≡ out.old.items ++ texts.transfer head.condition head.load (texts.word_suffix place.pre byte place.write_back) head.rd (parts.indexed_by place.pre place.up place.write_back place.base offset)) }
@@ -409,7 +410,7 @@ fn push_transfer_shifted(
     out: &mut Vec<u8>,
     head: TransferHead,
     byte: bool,
-    place: Place,
+    place: ListedPlace,
     amount: u8,
     shift: ShiftKind,
     rm: u8,
@@ -431,7 +432,7 @@ fn push_transfer_half(
     out: &mut Vec<u8>,
     head: TransferHead,
     kind: HalfKind,
-    place: Place,
+    place: ListedPlace,
     immediate: bool,
     high: u8,
     low: u8,
@@ -612,7 +613,7 @@ fn push_instruction(
                 rd,
             },
             byte,
-            Place {
+            ListedPlace {
                 pre,
                 up,
                 write_back,
@@ -641,7 +642,7 @@ fn push_instruction(
                 rd,
             },
             byte,
-            Place {
+            ListedPlace {
                 pre,
                 up,
                 write_back,
@@ -672,7 +673,7 @@ fn push_instruction(
                 rd,
             },
             kind,
-            Place {
+            ListedPlace {
                 pre,
                 up,
                 write_back,
@@ -697,7 +698,7 @@ fn push_instruction(
             condition,
             load,
             user,
-            Place {
+            ListedPlace {
                 pre,
                 up,
                 write_back,

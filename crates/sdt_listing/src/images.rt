@@ -12,7 +12,8 @@ use link_model::Aif;
 use sdt_fault::{NoMemory, Text};
 use std::alloc::Global;
 
-fn push_number_line(out: &mut Vec<u8>, name: &[u8], number: u32) -> Result<(), NoMemory>
+/// Appends a line of a name and eight digits.
+pub fn push_number_line(out: &mut Vec<u8>, name: &[u8], number: u32) -> Result<(), NoMemory>
     ensures { OnOk result (out.new.items ≡ out.old.items ++ line (name.now ∷ eight number ∷ [])) }
 {
     push(out, name)?;

@@ -3,6 +3,7 @@
 
 mod arm;
 mod arm_names;
+mod elfs;
 mod images;
 mod laws;
 mod listing;
@@ -10,6 +11,7 @@ mod parts;
 mod thumb;
 
 pub use crate::arm::print_arm;
+pub use crate::elfs::list_elf;
 pub use crate::images::list_aif;
 pub use crate::laws::readings_law;
 pub use crate::listing::{list_archive, list_object};

@@ -11,10 +11,10 @@ use crate::arm::push_word;
 use crate::parts::{push, push_eight, push_four};
 use crate::thumb::push_half;
 use alf_archive::{Archive, Member};
-use aof_object::{Area, Entry, Object, Reloc, Symbol};
+use aof_object::{Area, AreaFlags, Entry, Object, Reloc, Symbol};
 use sdt_fault::digits::push_decimal;
 use sdt_fault::{NoMemory, Text};
-use sdt_word::{field, half_at, word_at};
+use sdt_word::{half_at, word_at};
 use std::alloc::Global;
 
 // The field behind a space.
@@ -160,13 +160,14 @@ fn push_contents(
     requires { length bytes.now < 2 ^ 32 }
     ensures { OnOk result (out.new.items ≡ out.old.items ++ listings.contents attributes bytes.now) }
 {
-    if field(attributes, 12, 1) == 1 {
+    let flags = AreaFlags(attributes);
+    if flags.is_zero_initialised() {
         return Ok(());
     }
-    if field(attributes, 9, 1) != 1 {
+    if !flags.is_code() {
         return push_data_lines(alloc, out, 0, bytes);
     }
-    if field(attributes, 20, 1) == 1 {
+    if flags.is_thumb() {
         return push_half_lines(alloc, out, bytes);
     }
     push_word_lines(alloc, out, bytes, 0, bytes.len() / 4)

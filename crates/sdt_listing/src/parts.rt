@@ -12,7 +12,7 @@ use std::alloc::Global;
 /// Where a transfer reaches: before or after an offset is added to the base or taken away, which may be
 /// written back.
 #[derive(Clone, Copy, PartialEq, Eq, Debug)]
-pub struct Place {
+pub struct ListedPlace {
     pub pre: bool,
     pub up: bool,
     pub write_back: bool,
@@ -223,7 +223,7 @@ pub fn push_plain(alloc: Global, out: &mut Vec<u8>, n: u8) -> Result<(), NoMemor
 pub fn push_indexed(
     alloc: Global,
     out: &mut Vec<u8>,
-    place: Place,
+    place: ListedPlace,
     by: &[u8],
 ) -> Result<(), NoMemory>
     ensures { OnOk result (out.new.items ≡ out.old.items ++ parts.indexed place.pre place.write_back place.base by.now) }
@@ -246,7 +246,7 @@ pub fn push_indexed(
 pub fn push_indexed_by(
     alloc: Global,
     out: &mut Vec<u8>,
-    place: Place,
+    place: ListedPlace,
     v: u32,
 ) -> Result<(), NoMemory>
     ensures { OnOk result (out.new.items ≡ out.old.items ++ parts.indexed_by place.pre place.up place.write_back place.base v) }
@@ -259,7 +259,7 @@ pub fn push_indexed_by(
     push_indexed(alloc, out, place, by.as_slice())
 }
 
-fn is_left_out(place: Place, v: u32) -> bool
+fn is_left_out(place: ListedPlace, v: u32) -> bool
     ensures { result ≡ parts.is_left_out place.pre place.write_back v }
 {
     place.pre && !place.write_back && v == 0

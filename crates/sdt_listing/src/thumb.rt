@@ -9,8 +9,9 @@ ghost use Rattle.sdt_listing.specs.Readings.{thumb_of};
 ghost use Rattle.sdt_listing.specs.ThumbTexts as texts;
 
 use crate::parts::{
-    Place, push, push_address, push_braced, push_four, push_hex, push_indexed, push_indexed_by,
-    push_list, push_named, push_next, push_number, push_operation, push_register, target,
+    ListedPlace, push, push_address, push_braced, push_four, push_hex, push_indexed,
+    push_indexed_by, push_list, push_named, push_next, push_number, push_operation, push_register,
+    target,
 };
 use sdt_fault::{NoMemory, Text};
 use sdt_word::Condition;
@@ -172,13 +173,13 @@ fn base(stack: bool) -> u8
 }
 
 // A place above a register.
-fn above(base: u8) -> Place
+fn above(base: u8) -> ListedPlace
     ensures pre { result.pre ≡ true }
     ensures up { result.up ≡ true }
     ensures write_back { result.write_back ≡ false }
     ensures base { result.base ≡ base }
 {
-    Place {
+    ListedPlace {
         pre: true,
         up: true,
         write_back: false,

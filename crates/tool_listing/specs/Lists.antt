@@ -1,5 +1,6 @@
 -- What the command `list` prints of a file: a chunk file with a directory of a library is listed as a library, any other
--- file that begins as a chunk file does as an object, and a file that doesn't as an ARM image file. This project's.
+-- file that begins as a chunk file does as an object, one that begins as an ELF file does as an ELF executable, and a file
+-- that begins as neither as an ARM image file. This project's.
 use Rattle.std.specs.Prelude.{ℕ, nat_le, ◌==◌, ◌&&◌, Bool, if◌then◌else◌, List, length, Result, Ok}
 use Rattle.sdt_word.specs.Bytes.{word_in}
 use Rattle.sdt_fault.specs.declared.refusal.Refusal.{Refusal}
@@ -8,6 +9,8 @@ use Rattle.chunk_file.specs.Reading.{◌>>=◌}
 use Rattle.aof_object.specs.Objects.{object_of}
 use Rattle.alf_archive.specs.Archives.{archive_of, is_library}
 use Rattle.aif_image.specs.Reading.{aif_of}
+use Rattle.elf_image.specs.Reading.{elf_of}
+use Rattle.sdt_listing.specs.Elfs.{elf_text}
 use Rattle.sdt_listing.specs.Images.{aif_text}
 use Rattle.sdt_listing.specs.Listings.{archive_text, object_text}
 use Rattle.tool_answers.specs.Inputs.{input_of}
@@ -24,15 +27,21 @@ object_listing name bytes = named_by name (object_of bytes) >>= λ o. Ok (object
 abbrev pub aif_listing : List ℕ → List ℕ → Result (List ℕ) Refusal
 aif_listing name bytes = named_by name (aif_of bytes) >>= λ a. Ok (aif_text a bytes)
 
+abbrev pub elf_listing : List ℕ → List ℕ → Result (List ℕ) Refusal
+elf_listing name bytes = named_by name (elf_of bytes) >>= λ e. Ok (elf_text e)
+
 abbrev pub chunk_listing : List ℕ → List ℕ → Result (List ℕ) Refusal
 chunk_listing name bytes = if is_library bytes then archive_listing name bytes else object_listing name bytes
 
--- the first word is that of chunk files
-abbrev pub begins_as_chunks : List ℕ → Bool
-begins_as_chunks bytes = nat_le 4 (length bytes) && word_in bytes 0 == 0xC3CBC6C5
+-- the first word is this
+abbrev pub begins_with : ℕ → List ℕ → Bool
+begins_with word bytes = nat_le 4 (length bytes) && word_in bytes 0 == word
 
+-- that of chunk files comes first, then that of ELF files
 unfoldable pub listing : List ℕ → List ℕ → Result (List ℕ) Refusal
-listing name bytes = if begins_as_chunks bytes then chunk_listing name bytes else aif_listing name bytes
+listing name bytes =
+    if begins_with 0xC3CBC6C5 bytes then chunk_listing name bytes else (
+    if begins_with 0x464C457F bytes then elf_listing name bytes else aif_listing name bytes)
 
 abbrev pub lists : List ℕ → List ℕ → Result Outcome Refusal
 lists name bytes = listing name bytes >>= λ text. Ok (prints_only text)

@@ -1,4 +1,4 @@
-//! The command `list`: the listing of an object, of a library or of an ARM image file, printed.
+//! The command `list`: the listing of an object, of a library, of an ELF executable or of an ARM image file, printed.
 #![tactic(auto)]
 
 pub mod list;

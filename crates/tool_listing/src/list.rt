@@ -12,7 +12,7 @@ use std::alloc::Global;
 use tool_answers::{print, read_input};
 use tool_library::ends::{end_answer, fault_answer};
 
-/// Prints the listing of an object, of a library or of an ARM image file.
+/// Prints the listing of an object, of a library, of an ELF executable or of an ARM image file.
 pub fn list_file<S: Store, K: Sink>(
     alloc: Global,
     store: &mut S,

@@ -7,9 +7,10 @@ ghost use Rattle.tool_listing.specs.Lists as lists;
 use aif_image::read_aif;
 use alf_archive::{is_library, read_archive};
 use aof_object::read_object;
+use elf_image::read_elf;
 use sdt_fault::Text;
 use sdt_fault::answer::Fault;
-use sdt_listing::{list_aif, list_archive, list_object};
+use sdt_listing::{list_aif, list_archive, list_elf, list_object};
 use sdt_word::word_at;
 use std::alloc::Global;
 use tool_library::members::named_fault;
@@ -44,6 +45,16 @@ fn aif_listing(alloc: Global, name: &Text, bytes: &[u8]) -> Result<Text, Fault>
     }
 }
 
+fn elf_listing(alloc: Global, name: &Text, bytes: &[u8]) -> Result<Text, Fault>
+    requires { length bytes.now < 2 ^ 32 }
+    ensures { Gives result (lists.elf_listing name.now bytes.now) }
+{
+    match read_elf(alloc, bytes) {
+        Ok(elf) => Ok(list_elf(alloc, &elf)?),
+        Err(fault) => Err(named_fault(alloc, name, fault)),
+    }
+}
+
 fn chunk_listing(alloc: Global, name: &Text, bytes: &[u8]) -> Result<Text, Fault>
     requires { length bytes.now < 2 ^ 32 }
     ensures { Gives result (lists.chunk_listing name.now bytes.now) }
@@ -54,10 +65,10 @@ fn chunk_listing(alloc: Global, name: &Text, bytes: &[u8]) -> Result<Text, Fault
     object_listing(alloc, name, bytes)
 }
 
-fn begins_as_chunks(bytes: &[u8]) -> bool
-    ensures { result ≡ lists.begins_as_chunks bytes.now }
+fn begins_with(word: u32, bytes: &[u8]) -> bool
+    ensures { result ≡ lists.begins_with word bytes.now }
 {
-    bytes.len() >= 4 && word_at(bytes, 0) == 0xC3CB_C6C5
+    bytes.len() >= 4 && word_at(bytes, 0) == word
 }
 
 /// The listing of a file's bytes, or its refusal with the file's name.
@@ -66,8 +77,11 @@ pub fn listing(alloc: Global, name: &Text, bytes: &[u8]) -> Result<Text, Fault>
     requires { length bytes.now < 2 ^ 32 }
     ensures { Gives result (lists.listing name.now bytes.now) }
 {
-    if begins_as_chunks(bytes) {
+    if begins_with(0xC3CB_C6C5, bytes) {
         return chunk_listing(alloc, name, bytes);
+    }
+    if begins_with(0x464C_457F, bytes) {
+        return elf_listing(alloc, name, bytes);
     }
     aif_listing(alloc, name, bytes)
 }

@@ -1,3 +1,1 @@
-pub mod NeedLemmas
-pub mod ReadLemmas
-pub mod RunLemmas
+pub mod ElfLemmas

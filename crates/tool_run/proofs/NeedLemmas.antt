@@ -1,5 +1,5 @@
 -- Load files lie in what is needed.
-use Rattle.std.proofs.Common.{◌≡◌, ℕ, List, [], ◌∷◌, ◌++◌, length, map, Result, Ok, Err, refl, sym, subst, arith, true, false, ◌⊎◌, inl, inr, ◌≢◌}
+use Rattle.std.proofs.Common.{◌≡◌, ℕ, ◌≤◌, List, [], ◌∷◌, ◌++◌, length, map, Result, Ok, Err, refl, sym, subst, arith, true, false, ◌⊎◌, inl, inr, ◌≢◌}
 use Rattle.std.specs.Prelude.{◌==◌}
 use Rattle.std.specs.List.{AllByRecursion}
 use Rattle.std.proofs.lemmas.Bool.Decides.{eqb_tells, nat_tests}
@@ -10,17 +10,23 @@ use Rattle.chunk_file.specs.Reading.{◌>>=◌}
 use Rattle.arm7_bus.specs.Seats.{has_access}
 use Rattle.bin_image.specs.declared.records.MapFile.{MapFile}
 use Rattle.bin_image.specs.declared.records.MapLoad.{MapLoad}
+use Rattle.elf_image.specs.declared.records.Elf.{Elf}
+use Rattle.elf_image.specs.declared.records.Segment.{Segment}
+use Rattle.elf_image.specs.Checks.{IsSegment, ReadsElf}
 use Rattle.run_opening.specs.declared.image.Image.{Image}
 use Rattle.run_opening.specs.declared.image.Load.{Load}
 use Rattle.run_opening.specs.declared.image.Need.{Need}
 use Rattle.run_opening.specs.Openings.{AreNeeded, IsNeeded}
+use Rattle.tool_run.specs.Elfs as elfs
+use Rattle.tool_run.specs.Elfs.{need_of}
 use Rattle.tool_run.specs.Images.{length_judged, lengths_judged, load_need, load_of, loads_of, map_image, region_need}
+use Rattle.tool_run.proofs.ElfLemmas.{are_segments, file_length}
 use Rattle.base_lemmas.proofs.BaseLemmas.{or_true, true_or}
 
-itself : (a n size : ℕ) → n ≡ size → has_access a size a n ≡ true
+itself : (a n size : ℕ) → n ≤ size → has_access a size a n ≡ true
 itself a n size e = grind (arith, nat_tests)
 
-first_has : (needs : List Need) (n : Need) (l : Load) → n.base ≡ l.base → length l.bytes ≡ n.size → IsNeeded (n ∷ needs) l
+first_has : (needs : List Need) (n : Need) (l : Load) → n.base ≡ l.base → length l.bytes ≤ n.size → IsNeeded (n ∷ needs) l
 first_has needs n l base size = record {
   within = λ some. true_or (has_access n.base n.size l.base (length l.bytes)) _ (subst (λ (a : ℕ). has_access a n.size l.base (length l.bytes) ≡ true) (sym base) (itself l.base (length l.bytes) n.size size));
 }
@@ -45,9 +51,22 @@ loads_needed [] contents others h = tt
 loads_needed (l ∷ ls) [] others h = tt
 loads_needed (l ∷ ls) (b ∷ bs) others h =
     let one = judged_one l b (lengths_judged ls bs) h in (
-      first_has (map load_need ls ++ others) (load_need l) (load_of (l, b)) refl one.0,
+      first_has (map load_need ls ++ others) (load_need l) (load_of (l, b)) refl (omega (arith, one.0)),
       all_more (map load_need ls ++ others) (load_need l) (loads_of ls bs) (loads_needed ls bs others one.1),
     )
 
 pub map_needed : (m : MapFile) (contents : List (List ℕ)) (i : Image) (u : Unit {0}) → i ≡ map_image m contents → lengths_judged m.loads contents ≡ Ok u → AreNeeded i
 map_needed m contents i u is h = subst AreNeeded (sym is) (loads_needed m.loads contents (map region_need m.regions) h)
+
+-- ---- an ELF executable
+
+segments_needed : (b : List ℕ) (ss : List Segment) → AllByRecursion (IsSegment (length b)) ss → AllByRecursion (IsNeeded (map need_of ss)) (map (elfs.load_of b) ss)
+segments_needed b [] h = tt
+segments_needed b (s ∷ ss) h = (
+  first_has (map need_of ss) (need_of s) (elfs.load_of b s) refl (let held = h.0.held in omega (arith, file_length b s h.0)),
+  all_more (map need_of ss) (need_of s) (map (elfs.load_of b) ss) (segments_needed b ss h.1),
+)
+
+pub elf_needed : (b : List ℕ) (e : Elf) (loads : List Load) (needs : List Need) → ReadsElf b e → loads ≡ map (elfs.load_of b) e.segments → needs ≡ map need_of e.segments
+    → AllByRecursion (IsNeeded needs) loads
+elf_needed b e loads needs h loads_are needs_are = rw (loads_are, needs_are) (segments_needed b e.segments (are_segments b e h))

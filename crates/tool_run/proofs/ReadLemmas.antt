@@ -14,6 +14,10 @@ use Rattle.chunk_file.specs.Reading.{◌>>=◌, Gives}
 use Rattle.link_model.specs.declared.images.Aif.{Aif}
 use Rattle.aif_image.specs.Checks.{Check, checks, kind_of, place_of}
 use Rattle.aif_image.specs.Reading.{aif_of, holds, judged, record_of}
+use Rattle.elf_image.specs.declared.records.Elf.{Elf}
+use Rattle.elf_image.specs.Checks as elf
+use Rattle.elf_image.specs.Reading.{elf_of}
+use Rattle.elf_image.proofs.CheckLaws.{first_failed}
 use Rattle.bin_image.specs.declared.records.MapFile.{MapFile}
 use Rattle.bin_image.specs.declared.records.MapLoad.{MapLoad}
 use Rattle.bin_image.specs.Maps.{ReadsMap}
@@ -27,6 +31,7 @@ use Rattle.tool_words.specs.declared.command.RunImage.TheVariants as image
 use Rattle.tool_run.specs.declared.ends.ImageEnd.{ImageEnd}
 use Rattle.tool_run.specs.declared.ends.ImageEnd.TheVariants as end
 use Rattle.tool_run.specs.Aifs.{aif_at, loaded_aif, placed_aif}
+use Rattle.tool_run.specs.Elfs.{elf_image, loaded_elf}
 use Rattle.tool_run.specs.Ends.{IsMissing, Reads, fault_end, input_end, named_by}
 use Rattle.tool_run.specs.Images.{IsGiven, IsInput, IsLost, IsRead, all_named, files_in, front_of, has_zero, lengths_judged, loaded_image, map_image, mapped_image, unnamed}
 
@@ -107,6 +112,27 @@ aif_refused (fault.Refused r) None rose file bytes at found h =
 aif_refused (fault.Refused r) (Some files) rose file bytes at found h = sym (ap (λ x. found_or file x >>= λ b. aif_at file at b) found ∙ h)
 aif_refused (fault.ReadFault name) told rose file bytes at found h = absurd h
 aif_refused fault.NoMemory told rose file bytes at found h = tt
+
+-- ---- an ELF executable
+
+-- one that is refused is no missing file
+wrong_elf : (r : Result Elf Refusal) (file b : List ℕ) (q : Refusal) → elf_of b ≡ r → (named_by file r >>= λ e. Ok (loaded_elf b e)) ≡ Err q
+    → (at : ℕ) × (why : FileKind) × (q ≡ BadImage file at why)
+wrong_elf (Ok e) file b q is h = absurd (let bad : ◌≡◌ {A = Result Image Refusal} (Ok (loaded_elf b e)) (Err q) = h in cc)
+wrong_elf (Err r) file b q is h =
+    let first = first_failed b (Err (fault.Refused r)) is in
+    let told : r ≡ BadImage [] (elf.place_of first.0 b) (elf.kind_of first.0) = first.1 in
+    let same : ◌≡◌ {A = Result Image Refusal} (Err (named file r)) (Err q) = h in
+    let name : named file r ≡ q = cc in
+    (elf.place_of first.0 b, elf.kind_of first.0, sym name ∙ ap (named file) told)
+
+pub elf_refused : (e : Fault) (told : Option Files) (rose : Type 0) (file bytes : List ℕ) → IsFound told file bytes → Gives {A = Image} (Err e) (elf_image file bytes)
+    → Reads (IsRead told rose (image.Elf file)) rose (IsInput told (image.Elf file)) (Err (fault_end e))
+elf_refused (fault.Refused r) None rose file bytes found h =
+    let wrong = wrong_elf (elf_of bytes) file bytes r refl h in not_lost rose _ r file wrong.0 wrong.1 wrong.2
+elf_refused (fault.Refused r) (Some files) rose file bytes found h = sym (ap (λ x. found_or file x >>= λ b. elf_image file b) found ∙ h)
+elf_refused (fault.ReadFault name) told rose file bytes found h = absurd h
+elf_refused fault.NoMemory told rose file bytes found h = tt
 
 -- ---- load files
 

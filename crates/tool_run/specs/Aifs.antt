@@ -1,7 +1,8 @@
 -- The image that an ARM image file is, at an address: the whole file from there on, entered at its first byte, where its
 -- file and its zero-initialised part are to be memory (SDT 2.50 Reference Guide, ARM Image Format; at which addresses
 -- it may stand is told by its header).
-use Rattle.std.specs.Prelude.{ℕ, ◌+◌, ◌^◌, ◌==◌, ◌||◌, nat_lt, if◌then◌else◌, List, [], ◌∷◌, length, Option, Some, None, Result, Ok, Err}
+use Rattle.std.proofs.lemmas.Bool.{false≢true}
+use Rattle.std.specs.Prelude.{ℕ, ◌+◌, ◌^◌, ◌==◌, ◌||◌, nat_lt, false, if◌then◌else◌, List, [], ◌∷◌, length, Option, Some, None, Result, Ok, Err}
 use Rattle.sdt_fault.specs.declared.kinds.FileKind.TheVariants as kind
 use Rattle.sdt_fault.specs.declared.refusal.Refusal.{Refusal}
 use Rattle.sdt_fault.specs.declared.refusal.Refusal.TheVariants.{BadImage}
@@ -28,6 +29,8 @@ loaded_aif at a bytes = record {
   loads = record { base = at; bytes = bytes } ∷ [];
   needs = record { base = at; size = length bytes } ∷ zero_need at a ∷ [];
   start = at;
+  thumb = false;
+  even = λ e. absurd (false≢true e);
 }
 
 abbrev pub placed_aif : List ℕ → Option ℕ → List ℕ → Aif → Result Image Refusal

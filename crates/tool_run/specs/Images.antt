@@ -1,6 +1,7 @@
--- The image that the words of a run name, by files: a binary at an address, an ARM image file, or the load files of a
--- map. This project's.
-use Rattle.std.specs.Prelude.{◌≡◌, ℕ, ◌+◌, ◌==◌, if◌then◌else◌, Bool, true, List, [], ◌∷◌, ◌++◌, map, take, length, slice_index_or, Option, Some, None, Result, Ok, Err, ◌⊎◌}
+-- The image that the words of a run name, by files: a binary at an address, an ARM image file, an ELF executable, or the
+-- load files of a map. This project's.
+use Rattle.std.proofs.lemmas.Bool.{false≢true}
+use Rattle.std.specs.Prelude.{◌≡◌, ℕ, ◌+◌, ◌==◌, if◌then◌else◌, Bool, true, false, List, [], ◌∷◌, ◌++◌, map, take, length, slice_index_or, Option, Some, None, Result, Ok, Err, ◌⊎◌}
 use Rattle.std.specs.List.{list_any, position, zip}
 use Rattle.sdt_fault.specs.declared.kinds.FileKind.TheVariants as kind
 use Rattle.sdt_fault.specs.declared.refusal.Refusal.{Refusal}
@@ -19,6 +20,7 @@ use Rattle.tool_answers.specs.Inputs.{input_of, inputs_of, IsReached}
 use Rattle.tool_words.specs.declared.command.RunImage.{RunImage}
 use Rattle.tool_words.specs.declared.command.RunImage.TheVariants as image
 use Rattle.tool_run.specs.Aifs.{aif_at}
+use Rattle.tool_run.specs.Elfs.{elf_image}
 use Rattle.tool_run.specs.Ends.{named_by}
 
 -- ---- a binary
@@ -29,6 +31,8 @@ binary_image at bytes = record {
   loads = record { base = at; bytes = bytes } ∷ [];
   needs = record { base = at; size = length bytes } ∷ [];
   start = at;
+  thumb = false;
+  even = λ e. absurd (false≢true e);
 }
 
 -- ---- the load files of a map
@@ -53,6 +57,8 @@ map_image m contents = record {
   loads = loads_of m.loads contents;
   needs = map load_need m.loads ++ map region_need m.regions;
   start = m.start;
+  thumb = false;
+  even = λ e. absurd (false≢true e);
 }
 
 -- each file has the length that its line tells, or the refusal of the first that hasn't
@@ -96,10 +102,11 @@ mapped_image m files =
 -- ---- the image
 
 -- what the words name, or the first refusal: the file is missing, it is no ARM image file or may not stand at the
--- address, the map's text is wrong, a load file is missing, a load file has another length
+-- address, it is no ELF executable, the map's text is wrong, a load file is missing, a load file has another length
 abbrev pub image_of : RunImage → Files → Result Image Refusal
 image_of (image.Binary file at) files = input_of files file >>= λ bytes. Ok (binary_image at bytes)
 image_of (image.Aif file at) files = input_of files file >>= λ bytes. aif_at file at bytes
+image_of (image.Elf file) files = input_of files file >>= λ bytes. elf_image file bytes
 image_of (image.Map file) files =
     input_of files file >>= λ text. named_by file (map_of text) >>= λ m. mapped_image m files
 
@@ -111,10 +118,11 @@ pub record IsLoadFile (told : Option Files) (file name : List ℕ) : Type 0 wher
   pub reads : ReadsMap text m
   pub reached : IsReached told (files_in m) name
 
--- the file is one that the words name: the binary, the ARM image file, the map, or one of the map's load files
+-- the file is one that the words name: the binary, the ARM image file, the ELF executable, the map, or one of the map's load files
 abbrev pub IsInput : Option Files → RunImage → List ℕ → Type 0
 IsInput told (image.Binary file at) name = name ≡ file
 IsInput told (image.Aif file at) name = name ≡ file
+IsInput told (image.Elf file) name = name ≡ file
 IsInput told (image.Map file) name = (name ≡ file) ⊎ IsLoadFile told file name
 
 -- a refusal for a missing input comes only with a fault, or where its name is the name of no file

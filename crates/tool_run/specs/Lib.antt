@@ -1,5 +1,6 @@
 -- What the clauses of the crate cite.
 pub mod Aifs
+pub mod Elfs
 pub mod Ends
 pub mod Images
 pub mod Runs

@@ -1,6 +1,6 @@
 -- What each answer to `run` says of the image and the run, and what it leaves of files, sink and devices. This
 -- project's.
-use Rattle.std.specs.Prelude.{◌≡◌, ℕ, List, map, Option, Result, Ok, Err}
+use Rattle.std.specs.Prelude.{◌≡◌, ℕ, Bool, List, map, Option, Result, Ok, Err}
 use Rattle.sdt_word.specs.declared.ranges.Range32.{Range32}
 use Rattle.sdt_fault.specs.declared.answer.Answer.{Answer}
 use Rattle.sdt_fault.specs.declared.answer.Answer.TheVariants as answer
@@ -37,11 +37,11 @@ pub record AreBanks (run : RunWords) (banks : List MemoryBank) : Type 0 where
 
 -- ---- the run
 
--- from reset at an address the machine makes at most so many steps over a bus, up to this stop; its text goes to the
--- sink, and it leaves the devices so
-pub record IsRun (start most : ℕ) (begin : State) (why : Stop) (before after : Option (List ℕ)) (rose : Type 0) (left : List Seat) : Type 0 where
+-- from reset at an address, in Thumb or in ARM state, the machine makes at most so many steps over a bus, up to this
+-- stop; its text goes to the sink, and it leaves the devices so
+pub record IsRun (start : ℕ) (thumb : Bool) (most : ℕ) (begin : State) (why : Stop) (before after : Option (List ℕ)) (rose : Type 0) (left : List Seat) : Type 0 where
   pub core : ArmState
-  pub reset : IsReset start core
+  pub reset : IsReset start thumb core
   pub made : ℕ
   pub core' : ArmState
   pub end : State
@@ -53,7 +53,7 @@ pub record Ran (banks : List MemoryBank) (image : Image) (most : ℕ) (why : Sto
   pub roomy : IsRoomy banks seats image.needs
   pub begin : State
   pub opening : IsOpening banks image seats begin
-  pub is_run : IsRun image.start most begin why before after rose left
+  pub is_run : IsRun image.start image.thumb most begin why before after rose left
 
 -- what was read is an image, and it was run; no file was touched
 pub record HasRun (run : RunWords) (read : Result Image Refusal) (why : Stop) (o : Outside) (seats left : List Seat) : Type 0 where

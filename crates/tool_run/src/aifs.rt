@@ -84,6 +84,7 @@ fn loaded_aif(alloc: Global, at: u32, aif: &Aif, bytes: Bytes) -> Result<Image, 
         loads: List::from_vec(loads),
         needs: List::from_vec(needs),
         start: at,
+        thumb: false,
     })
 }
 

@@ -35,13 +35,13 @@ struct Ended {
     devices: Vec<Box<dyn Device>>,
 }
 
-fn run_on<K: Sink>(bus: Bus, sink: &mut K, start: u32, steps: u32) -> Ended
+fn run_on<K: Sink>(bus: Bus, sink: &mut K, image: &Image, steps: u32) -> Ended
     requires { IsReady (bus_state base size state touched bus) }
-    ensures run { IsRun start steps (bus_state base size state touched bus) result.stop (K.bytes sink.old) (K.bytes sink.new) (Rose (K.faults sink.old) (K.faults sink.new)) (seats_by base size state touched result.devices.items) }
+    ensures run { IsRun image.now.start image.now.thumb steps (bus_state base size state touched bus) result.stop (K.bytes sink.old) (K.bytes sink.new) (Rose (K.faults sink.old) (K.faults sink.new)) (seats_by base size state touched result.devices.items) }
     ensures faults { K.faults sink.old ≤ K.faults sink.new }
 {
     let mut bus = bus;
-    let mut machine = Machine::reset(start);
+    let mut machine = Machine::reset(image.start, image.thumb);
     let end = run_for(&mut machine, &mut bus, sink, u64::from(steps));
     Ended {
         stop: end.stop,
@@ -74,7 +74,7 @@ fn run_image<K: Sink>(
 {
     match open(alloc, devices, memory, rom, image) {
         Ok(bus) => {
-            let ended = run_on(bus, sink, image.start, steps);
+            let ended = run_on(bus, sink, image, steps);
             Left {
                 answer: stop_answer(ended.stop),
                 devices: ended.devices,

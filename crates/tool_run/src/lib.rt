@@ -4,11 +4,13 @@
 mod aifs;
 mod banks;
 mod command;
+mod elfs;
 mod ends;
 mod image;
 mod maps;
 
 pub use crate::banks::ranges;
 pub use crate::command::run;
+pub use crate::elfs::elf_load_law;
 pub use crate::ends::ImageEnd;
 pub use crate::image::read_image;

@@ -143,6 +143,7 @@ fn map_image(alloc: Global, m: &MapFile, contents: Vec<Bytes>) -> Result<Image, 
         loads: List::from_vec(loads),
         needs: List::from_vec(needs),
         start: m.start,
+        thumb: false,
     })
 }
 

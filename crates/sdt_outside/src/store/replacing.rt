@@ -12,8 +12,8 @@ use std::{fs, io};
 const NAMES: u32 = 1000;
 
 /// Sets what the file of a path holds. A regular file, to which links may lead, or one that is missing comes by a new one
-/// that was written beside it. All else is written in place: a device, a pipe, a link that leads nowhere, and a file whose
-/// folder may not be written.
+/// that was written beside it. All else is written in place: a device, a pipe, a link that leads nowhere or to an open file,
+/// and a file whose folder may not be written.
 pub fn set_content<R: Files>(
     system: &R,
     alloc: Global,
@@ -41,6 +41,9 @@ fn replace_target<R: Files>(
     if !is_link(system, path) {
         return replace(system, alloc, path, bytes, Some(permissions));
     }
+    if leads_to_open_file(path) {
+        return write_in_place(system, path, bytes);
+    }
     match system.canonicalize(alloc, path) {
         Ok(target) => replace(system, alloc, target.as_str(), bytes, Some(permissions)),
         Err(_) => write_in_place(system, path, bytes),
@@ -52,6 +55,11 @@ fn is_link<R: Files>(system: &R, path: &str) -> bool {
         Ok(found) => found.is_symlink(),
         Err(_) => false,
     }
+}
+
+// Whether a link stands for an open file of the process, as /dev/stdout does, which others write too.
+fn leads_to_open_file(link: &str) -> bool {
+    link.starts_with("/dev/") || link.starts_with("/proc/")
 }
 
 fn write_in_place<R: Files>(system: &R, path: &str, bytes: &[u8]) -> Result<(), StoreError> {

@@ -1,18 +1,16 @@
 use Rattle.std.proofs.Common.{◌≡◌, ◌+◌, ◌^◌, ◌<◌, ap, subst, ◌∙◌}
-use Rattle.patch_model.specs.Fields.{field_of, kind_of, number_in, size_of}
+use Rattle.patch_model.specs.Fields.{Field, field_of, kind_of, number_in, size_of}
 use Rattle.link_apply.specs.Judged.{number_with}
-use Rattle.link_apply.specs.Starts.{kind_by}
 use Rattle.link_apply.specs.Targets.{way_by}
 use Rattle.link_apply.proofs.JudgeLemmas.{numbered}
-use Rattle.link_apply.proofs.OverlapLemmas.{coded}
 use Rattle.link_apply.proofs.patching.new_number.Goals as goal
 
 pub returns : goal.returns
 returns c =
-    let kind : kind_by c.kind_of.result ≡ kind_of c.args.reloc = ap kind_by c.kind_of.ensures ∙ coded (kind_of c.args.reloc) in
+    let kind : c.field-field.result.kind ≡ kind_of c.args.reloc = ap (λ (f : Field). f.kind) c.field-field.ensures in
     record {
       value = λ p region values number own there sound leads goes.
-          let place = c.place_of.ensures in
+          let place = ap (λ (f : Field). f.place) c.field-field.ensures in
           let word = c.number_of-word.ensures ∙ ap (λ bytes. number_in bytes (field_of c.args.reloc)) c.as_slice.ensures in
           c.number_by.ensures.value p region leads
           ∙ (λ i. number_with p region (c.args.base + place i) (word i) c.sums_of.result.more c.sums_of.result.less (way_by c.args.detour.target) (kind i))

@@ -1,7 +1,6 @@
 use Rattle.std.proofs.Common.{◌≡◌, ◌+◌, sym, ap, ◌∙◌}
-use Rattle.patch_model.specs.Fields.{field_of, number_in}
+use Rattle.patch_model.specs.Fields.{Field, field_of, number_in}
 use Rattle.patch_model.specs.Patched.{total, ahead, span, middle, way_to}
-use Rattle.link_apply.specs.Starts.{code_of}
 use Rattle.link_apply.specs.Targets.{values_by}
 use Rattle.link_apply.proofs.JudgeLemmas.{told_of}
 use Rattle.link_apply.proofs.patching.target_at.Goals as goal
@@ -10,9 +9,9 @@ pub returns : goal.returns
 returns c = λ bases number own there t branch sound.
     let told = told_of (values_by bases c.args.symbols.now) c.args.base number c.args.area.now c.args.reloc c.args.start c.sums_of.result own there sound
     (λ unmixed same. c.sums_of.ensures.tells (values_by bases c.args.symbols.now) c.args.area.now.relocs (field_of c.args.reloc) there unmixed same) in
-    let place = c.place_of.ensures in
+    let place = ap (λ (f : Field). f.place) c.field-field.ensures in
     let word = c.number_of-word.ensures ∙ ap (λ bytes. number_in bytes (field_of c.args.reloc)) c.as_slice.ensures in
-    let thumb : c.is_thumb-thumb.result ≡ t = c.is_thumb-thumb.ensures t (c.kind_of.ensures ∙ ap code_of branch) in
+    let thumb : c.is_thumb-thumb.result ≡ t = c.is_thumb-thumb.ensures t (ap (λ (f : Field). f.kind) c.field-field.ensures ∙ branch) in
     let more = sym told.more in
     let less = sym told.less in
     let symbol = sym told.symbol in

@@ -1,5 +1,5 @@
 use Rattle.std.proofs.Common.{List, length, ap, ◌∙◌}
-use Rattle.link_select.specs.declared.members.Place.{Place}
+use Rattle.link_select.specs.declared.members.MemberPlace.{MemberPlace}
 use Rattle.link_model.specs.Members.{members_of}
 use Rattle.link_select.proofs.PlaceLemmas.{length_from}
 use Rattle.link_select.proofs.ExportLemmas.{index_back}
@@ -9,7 +9,7 @@ use Rattle.link_select.proofs.exports.index_members.Goals as goal
 pub loop-i-init : goal.loop-i-init
 loop-i-init c =
     index_none c.new-index.result c.new-index.ensures.empty (members_of c.args.archives.now) (length c.args.places.now)
-    (ap (λ (l : List Place). length l) c.requires ∙ length_from 0 c.args.archives.now)
+    (ap (λ (l : List MemberPlace). length l) c.requires ∙ length_from 0 c.args.archives.now)
 
 pub loop-i-preserved : goal.loop-i-preserved
 loop-i-preserved c =

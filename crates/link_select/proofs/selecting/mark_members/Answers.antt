@@ -3,7 +3,7 @@ use Rattle.link_model.specs.Members.{members_of, objects_in}
 use Rattle.link_model.specs.Chosen.{AreChosen, IsLeast}
 use Rattle.link_select.specs.Search.{marked, supply_of}
 use Rattle.link_select.specs.declared.choosing.Supply.{Supply}
-use Rattle.link_select.specs.declared.members.Place.{Place}
+use Rattle.link_select.specs.declared.members.MemberPlace.{MemberPlace}
 use Rattle.link_select.proofs.PlaceLemmas.{length_from}
 use Rattle.link_select.proofs.SelectionLemmas.{are_chosen, if_ok}
 use Rattle.link_select.proofs.selecting.mark_members.Goals as goal
@@ -11,7 +11,7 @@ use Rattle.link_select.proofs.selecting.mark_members.Goals as goal
 pub returns-clause-size : goal.returns-clause-size
 returns-clause-size c =
     if_ok (λ (v : Vec Bool Global). length v.items ≡ length c.as_slice-2.result.now) (λ v. length v.items ≡ length (members_of c.args.archives.now))
-    (λ v size. size ∙ ap (λ (l : List Place). length l) (c.as_slice-2.ensures.value ∙ c.in_ok-places.ensures) ∙ length_from 0 c.args.archives.now) c.choose.result c.choose.ensures.size
+    (λ v size. size ∙ ap (λ (l : List MemberPlace). length l) (c.as_slice-2.ensures.value ∙ c.in_ok-places.ensures) ∙ length_from 0 c.args.archives.now) c.choose.result c.choose.ensures.size
 
 pub returns-clause-chosen : goal.returns-clause-chosen
 returns-clause-chosen c =

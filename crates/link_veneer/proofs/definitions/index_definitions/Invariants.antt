@@ -1,6 +1,0 @@
-use Rattle.std.proofs.Common.{drop}
-use Rattle.link_veneer.specs.Index.{IsIndexOf}
-use Rattle.link_veneer.proofs.definitions.index_definitions.Given as goal
-
-abbrev pub invariant-loop-i : goal.invariant-loop-i
-invariant-loop-i l = IsIndexOf (drop l.i l.definitions) l.index

@@ -1,0 +1,6 @@
+use Rattle.std.proofs.Common.{◌≡◌, map, take}
+use Rattle.tool_run.specs.Elfs as elfs
+use Rattle.tool_run.proofs.elfs.loads_of.Given as goal
+
+abbrev pub invariant-loop-segment : goal.invariant-loop-segment
+invariant-loop-segment l = l.loads.items ≡ map (elfs.load_of l.bytes) (take l.segment-index l.segments)
