@@ -5,7 +5,7 @@ use Rattle.std.specs.List.{find, flat_map}
 use Rattle.std.specs.Option.{option_map}
 use Rattle.sdt_word.specs.Numbers.{flag}
 use Rattle.sdt_word.specs.declared.ranges.Range32.{Range32}
-use Rattle.boot_code.specs.Aif.{BootsAif, file_at, aif_bound}
+use Rattle.boot_code.specs.Aif.{BootsAif, ShowsImage, file_at, aif_bound}
 use Rattle.boot_code.specs.Boots.{Boots, covers, ByteMap}
 use Rattle.boot_code.specs.Startup.{zeros}
 use Rattle.byte_maps.specs.Maps.{Holds, bytes_of_words}
@@ -46,7 +46,7 @@ use Rattle.link_laws.proofs.ShiftApplied.{moved_is_applied}
 use Rattle.link_laws.proofs.ShiftNeeds.{entry_there}
 use Rattle.link_laws.proofs.ShiftPlaced.{aif_placement, whole_image}
 use Rattle.link_laws.proofs.ShiftPlacement.{base_moves, veneers_move}
-use Rattle.link_laws.proofs.ShiftStarts.{moved_image_boots}
+use Rattle.link_laws.proofs.ShiftStarts.{moved_image_boots, moved_image_shows}
 
 apart : {X : Type 0} (x : X) (o : Option X) → o ≡ None → o ≡ Some x → ⊥
 apart x o none some = cc
@@ -263,7 +263,7 @@ module _ (base : ℕ) (ram : Option (List Range32)) (l : Linked) (a : Assigned) 
     pub seen_there : IsSeen to true None l a vs other (view_at to true l a vs other)
     seen_there = is_seen to true None l a vs linked_there its_needs h.entered applied_there
 
-    entry_moves : entry_at l other ≡ to + (entry_at l p - base)
+    pub entry_moves : entry_at l other ≡ to + (entry_at l p - base)
     entry_moves =
         let first = at_own in
         let second : entry_at l other ≡ x + to + l.entry.offset = entry_is to true None l a vs linked_there its_needs h.entered ∙ ap (λ n. n + l.entry.offset) (base_at to) in
@@ -296,6 +296,16 @@ module _ (base : ℕ) (ram : Option (List Range32)) (l : Linked) (a : Assigned) 
 
     pub shows_there : IsViewAt to l a vs offset (view_at to true l a vs other)
     shows_there = subst (λ (z : Given). IsView there (with_header false there to z) (view_at to true l a vs other)) (sym same_there) seen_there.shows
+
+    -- the file becomes that view
+    pub becomes_there : ShowsImage (aif_at base l a vs p) (parts_size there) (zero_size there) base (moving_list base l a vs p) to (view_at to true l a vs other)
+    becomes_there =
+        let file : ShowsImage (moving_file base l a vs p offset) (parts_size here) (zero_size here) base (moving_list base l a vs p) to (view_at to true l a vs other) =
+        moved_image_shows base to ram l a vs p (items_in l.objects) offset (view_at to true l a vs other) (record { made = h; movable = fair })
+        (subst (λ (z : Given). IsAif base true contents (items_in l.objects) z ram) (sym same_given) image) room.whole room.zero_room shows_there in
+        subst (λ (n : ℕ). ShowsImage (aif_at base l a vs p) (parts_size there) n base (moving_list base l a vs p) to (view_at to true l a vs other)) (sym zero_same)
+        (subst (λ (n : ℕ). ShowsImage (aif_at base l a vs p) n (zero_size here) base (moving_list base l a vs p) to (view_at to true l a vs other)) (sym parts_same)
+        (subst (λ (f : List ℕ). ShowsImage f (parts_size here) (zero_size here) base (moving_list base l a vs p) to (view_at to true l a vs other)) same_file file))
 
     pub enters_there : l.entry.thumb ≡ true → EntersByVeneer (parts_size here) offset (to + (entry_at l p - base) + flag l.entry.thumb) to (view_at to true l a vs other)
     enters_there thumb =

@@ -44,4 +44,6 @@ pub mod ShiftApplied
 pub mod AifEntry
 pub mod AifMade
 pub mod AifStarts
+pub mod PlanNames
+pub mod PlanSeen
 pub mod ShiftRows

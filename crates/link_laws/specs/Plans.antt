@@ -105,7 +105,7 @@ abbrev pub header_by : Kind → Plan → Given → List ℕ
 header_by (kind.Aif base relocatable) plan g = bytes_of_words (header_words false plan base g.call)
 header_by other plan g = []
 
--- it calls no relocator, and names the address where it is
+-- it calls no relocator (0xE1A00000 is MOV r0, r0, which does nothing), and names the address where it is
 abbrev pub IsMarked : Kind → ByteMap → Type 0
 IsMarked (kind.Aif base relocatable) view = HoldsWord view (base + 0x04) 0xE1A00000 × HoldsWord view (base + 0x28) base
 IsMarked other view = Unit {0}

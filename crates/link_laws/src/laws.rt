@@ -4,6 +4,7 @@ ghost use Rattle.link_laws.specs.AifJoins.{BytesMove, MovedImageBoots, MovedImag
 ghost use Rattle.link_laws.specs.AifStarts.{MadeFixedBoots, MadeHasParts, MadeIsAif, MadeIsSeen, MadeMovingBoots, MovedIsSeen};
 ghost use Rattle.link_laws.specs.Joins.{MadeBoots, MadeFiles, MadeHasBytes, MadeHasPlaces, MadeIsApplied, MadeIsPlaced, MadeStarts};
 ghost use Rattle.link_laws.specs.Laws.{AppliedAreSized, ObjectsAreShown, ObjectsArePlaced, RangesExist, StatementsStand};
+ghost use Rattle.link_laws.specs.Plans.{ViewsAreSeen};
 
 /// Where a plan of valid objects is accepted, each object is placed at the addresses of its areas, and its symbols have
 /// the values that their fields and these addresses give. Each region has a range.
@@ -13,11 +14,13 @@ pub fn objects_are_placed()
 {}
 
 /// Where areas are patched and veneers lead to their targets, all bytes have their places, and a view of the plan shows
-/// each object: statements stand there that stand wherever their object is placed.
+/// each object: statements stand there that stand wherever their object is placed. Names mean what the linked objects export,
+/// and the header of an ARM image file names its address.
 pub fn objects_are_shown()
     ensures sizes { AppliedAreSized }
     ensures objects { ObjectsAreShown }
     ensures statements { StatementsStand }
+    ensures views { ViewsAreSeen }
 {}
 
 /// A relocatable ARM image file at another base has the plan that it has at its link base, moved there. Where nothing in it

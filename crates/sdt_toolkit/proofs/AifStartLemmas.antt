@@ -1,18 +1,23 @@
--- A link that is answered with an ARM image file, and what its image is in memory.
-use Rattle.std.proofs.Common.{◌≡◌, ℕ, ◌+◌, ◌-◌, ◌/◌, ◌^◌, ◌≤◌, Bool, true, false, List, [], length, Option, None, refl, sym, ap, ◌∙◌, subst}
+-- What an ARM image file is in memory: it is the view of its plan, or becomes it at each address that leaves room; and so of every
+-- kind of image that is answered.
+use Rattle.std.proofs.Common.{◌≡◌, ◌⊎◌, inl, inr, ℕ, ◌+◌, ◌-◌, ◌/◌, ◌^◌, ◌%◌, ◌<◌, ◌≤◌, Bool, true, false, cond, List, [], ◌∷◌, length, Option, Some, None, Ok, refl, sym, ap, ◌∙◌, subst, arith}
+use Rattle.std.specs.Prelude.{slice_index}
 use Rattle.sdt_word.specs.Numbers.{flag}
 use Rattle.sdt_word.specs.declared.ranges.Range32.{Range32}
 use Rattle.aof_object.specs.declared.records.Object.{Object}
-use Rattle.boot_code.specs.Aif.{BootsAif, aif_bound, file_at}
-use Rattle.boot_code.specs.Boots.{ByteMap, Boots, covers}
-use Rattle.byte_maps.specs.Maps.{bytes_of_words}
+use Rattle.arm7_model.specs.Memory.{store}
+use Rattle.arm7_model.proofs.MemoryLemmas.{store-below, store-in}
+use Rattle.boot_code.specs.Aif.{BootsAif, IsFixedLoadable, ShowsImage, aif_bound, file_at, shifted_file}
+use Rattle.boot_code.specs.Boots.{ByteMap, Boots, covers, zeroed}
+use Rattle.boot_code.specs.Startup.{zeros}
+use Rattle.boot_code.proofs.ViewLemmas.{covers-false, covers-inside, covers-off, covers-true, get_or-zeros, length-zeros}
 use Rattle.place_model.specs.declared.scatter.Kind.{Kind}
 use Rattle.place_model.specs.declared.scatter.Kind.TheVariants as kind
 use Rattle.place_model.specs.Plans.{Plan}
-use Rattle.image_model.specs.AifFiles.{aif_plan, fixed_aif, header_words, offsets_of, shifted_offsets}
+use Rattle.scatter_text.specs.Laws.{ReadingLaw}
+use Rattle.image_model.specs.AifFiles.{aif_plan, fixed_aif, offsets_of, shifted_offsets}
 use Rattle.image_model.specs.AifFiles as plan
-use Rattle.image_model.specs.Regions.{Given, filled}
-use Rattle.image_model.specs.Views.{IsView}
+use Rattle.image_laws.proofs.AifFixed.{fixed_image_loads}
 use Rattle.aif_image.specs.Files.{aif_file, parts_size, zero_size}
 use Rattle.aif_laws.specs.Laws.{IsOfPlan}
 use Rattle.aif_laws.proofs.FileLemmas.{fixed_file, relocatable_file}
@@ -22,168 +27,304 @@ use Rattle.link_model.specs.declared.placing.Placement.{Placement}
 use Rattle.link_model.specs.declared.placing.Veneer.{Veneer}
 use Rattle.link_model.specs.declared.selection.Linked.{Linked}
 use Rattle.link_model.specs.declared.selection.Named.{Named}
-use Rattle.link_model.specs.Members.{link_of, objects_in}
-use Rattle.link_model.specs.RegionValues.{region_number}
+use Rattle.link_model.specs.Members.{link_of}
+use Rattle.link_model.specs.Veneers.{veneers_of}
 use Rattle.link_items.specs.LinkedItems.{items_in}
+use Rattle.link_place.specs.Placed.{placement_of}
 use Rattle.link_values.specs.Shifts.{not_relocatable, shifts_of}
 use Rattle.link_shifts.specs.Moves.{moves_of}
 use Rattle.link_apply.specs.RegionBytes.{regions_bytes}
 use Rattle.link_laws.specs.AifJoins.{HasRoomAt, placement_at}
 use Rattle.link_laws.specs.AifStarts.{HasParts, IsSeen, aif_at, contents_at, entry_at, given_of, view_at}
 use Rattle.link_laws.specs.Joins.{IsMade}
-use Rattle.link_laws.specs.Placing.{AreApplied, IsHeaderOf, IsPlacedLink, bases_of, link_plan, region_with, values_in, veneers_in}
-use Rattle.link_laws.proofs.AifStarts.{made_fixed_boots, made_has_parts, made_is_aif, made_is_seen, made_moving_boots, moved_is_seen}
-use Rattle.link_laws.proofs.PlacedLemmas.{objects_are_placed}
-use Rattle.link_laws.proofs.ShownLemmas.{objects_are_shown, ranges_exist}
-use Rattle.armlink_core.specs.Images.{image_of}
-use Rattle.sdt_toolkit.proofs.StartLemmas.{IsAnswered, answered, bytes_alike, made_by, not_refused, still_image}
-use Rattle.sdt_toolkit.specs.Starting.{AifImagesStart, AreShownIn, HasRoom, StartsAsAif}
+use Rattle.link_laws.specs.Placing.{link_plan}
+use Rattle.link_laws.specs.Plans.{AreSeenBy, IsSelection, entry_by}
+use Rattle.link_laws.proofs.AifStarts.{becomes_there, entry_moves, made_fixed_boots, made_has_parts, made_is_aif, made_is_seen, made_moving_boots, moved_is_seen}
+use Rattle.link_laws.proofs.MadePlacedLemmas.{are_needed, made_is_placed}
+use Rattle.link_laws.proofs.PlanSeen.{entry_whole, views_are_seen}
+use Rattle.armlink_core.specs.Images.{image_of, linking}
+use Rattle.sdt_toolkit.specs.Plans.{HasViews, ImagesArePlaced, IsPlacedAs, zero_part}
+use Rattle.sdt_toolkit.specs.Starting.{AreSound, HasRoom}
+use Rattle.sdt_toolkit.proofs.SelectionLemmas.{IsAnswered, answered, made_by, not_refused, still_image}
+use Rattle.sdt_toolkit.proofs.StartLemmas.{bytes_alike, plain_views, scatter_views}
+
+-- ---- a file that is loaded where it runs, with its zero part cleared
+
+module _ (file : List ℕ) (parts size e b : ℕ) (view : ByteMap) (h : IsFixedLoadable file parts size e b view) where
+  abbrev end : ℕ
+  end = b + parts
+
+  abbrev Cleared : ℕ → Option ℕ
+  Cleared x = zeroed (Some 0) (file_at file b) (record { base = end; size = size } ∷ []) x
+
+  behind : (x : ℕ) → covers end size x ≡ true → Cleared x ≡ Some 0
+  behind x e = ap (λ (c : Bool). cond c (Some 0) (file_at file b x)) e
+
+  before : (x : ℕ) → covers end size x ≡ false → Cleared x ≡ file_at file b x
+  before x e = ap (λ (c : Bool). cond c (Some 0) (file_at file b x)) e
+
+  loaded_at : (x : ℕ) → covers b (length file) x ≡ true → file_at file b x ≡ Some (slice_index file (x - b))
+  loaded_at x e = ap (λ (c : Bool). cond c (Some (slice_index file (x - b))) None) e
+
+  not_loaded : (x : ℕ) → covers b (length file) x ≡ false → file_at file b x ≡ None
+  not_loaded x e = ap (λ (c : Bool). cond c (Some (slice_index file (x - b))) None) e
+
+  where_seen : (x v : ℕ) → view x ≡ Some v → (c : Bool) → covers end size x ≡ c → Cleared x ≡ Some v
+  where_seen x v e true in_zero =
+      let (low, high, is) = h.inside x v e in
+      let (from, to) = covers-true end size x in_zero in
+      let small : x < end + length (zeros size) = let n = length-zeros size in omega (arith, to, n) in
+      let none : v ≡ 0 = sym is ∙ store-in (shifted_file file b) end (zeros size) x from small ∙ get_or-zeros size (x - end) in
+      behind x in_zero ∙ ap Some (sym none)
+  where_seen x v e false off =
+      let (low, high, is) = h.inside x v e in
+      go (covers-false end size x off) low high is
+    where
+      go : (x < end) ⊎ (end + size ≤ x) → b ≤ x → x < b + parts + size → store (shifted_file file b) end (zeros size) x ≡ v → Cleared x ≡ Some v
+      go (inr far) low high is = absurd (omega (arith, far, high))
+      go (inl near) low high is =
+          let there : covers b (length file) x ≡ true = let n = h.size in covers-inside b (length file) x low (omega (arith, near, n)) in
+          before x off ∙ loaded_at x there ∙ ap Some (sym (store-below (shifted_file file b) end (zeros size) x near) ∙ is)
+
+  where_none : (x : ℕ) → view x ≡ None → (c : Bool) → covers end size x ≡ c → (d : Bool) → covers b (length file) x ≡ d → Cleared x ≡ None
+  where_none x e true in_zero d at =
+      let (from, to) = covers-true end size x in_zero in
+      let (v, some) = h.complete x (omega (arith, from)) (omega (arith, to)) in
+      absurd (let bad : None ≡ Some v = sym e ∙ some in cc)
+  where_none x e false off true at =
+      let (from, to) = covers-true b (length file) x at in
+      let (v, some) = h.complete x from (let n = h.size in omega (arith, to, n)) in
+      absurd (let bad : None ≡ Some v = sym e ∙ some in cc)
+  where_none x e false off false at = before x off ∙ not_loaded x at
+
+  cleared_is : (x : ℕ) → Cleared x ≡ view x
+  cleared_is x = go (view x) refl
+    where
+      go : (o : Option ℕ) → view x ≡ o → Cleared x ≡ view x
+      go (Some v) e = where_seen x v e (covers end size x) refl ∙ sym e
+      go None e = where_none x e (covers end size x) refl (covers b (length file) x) refl ∙ sym e
 
 -- ---- objects that are seen
 
-seen_objects : (k : Kind) (ram : Option (List Range32)) (l : Linked) (a : Assigned) (vs : List Veneer) (numbers : List ℕ → Option ℕ) (g : Given) (header : List ℕ) (view : ByteMap)
-    → IsPlacedLink k ram l a.regions vs → AreApplied (link_plan k l a.regions vs) l numbers g → IsHeaderOf k header
-    → IsView (link_plan k l a.regions vs) (filled g (link_plan k l a.regions vs) header) view → AreShownIn view l.objects
-seen_objects k ram l a vs numbers g header view placed applied front shows own o at =
-    let (region, ranges) = ranges_exist k ram l a.regions vs placed own in
-    record {
-      number = own;
-      values = values_in (link_plan k l a.regions vs) l numbers own;
-      area_at = bases_of (link_plan k l a.regions vs);
-      region = region;
-      veneers = λ area. veneers_in (region_with (link_plan k l a.regions vs) own area);
-      placed = objects_are_placed k ram l a.regions vs numbers placed own o at;
-      shown = objects_are_shown k ram l a.regions vs numbers g header view placed applied front shows own o at region ranges;
-    }
+module _ (base : ℕ) (relocatable : Bool) (ram : Option (List Range32)) (l : Linked) (a : Assigned) (vs : List Veneer) (chosen : IsSelection l)
+    (needed : vs ≡ veneers_of (link_of l) a.regions true) (view : ByteMap)
+    (seen : IsSeen base relocatable ram l a vs (placement_of (aif_plan base relocatable (contents_at l a vs))) view) where
+  whole_entry : entry_at l (placement_of (aif_plan base relocatable (contents_at l a vs))) ≡ entry_by (aif_plan base relocatable (contents_at l a vs)) l
+  whole_entry = entry_whole (kind.Aif base relocatable) ram l a vs seen.placed chosen.entered
 
-module _ (base : ℕ) (relocatable : Bool) (ram : Option (List Range32)) (l : Linked) (a : Assigned) (vs : List Veneer) (p : Placement) (view : ByteMap) where
-  aif_shown : IsSeen base relocatable ram l a vs p view → AreShownIn view l.objects
-  aif_shown h =
-      seen_objects (kind.Aif base relocatable) ram l a vs (region_number (objects_in l.objects) p) (given_of l p)
-      (bytes_of_words (header_words false (aif_plan base relocatable (contents_at l a vs)) base (given_of l p).call)) view h.placed h.applied refl h.shows
+  aif_seen : AreSeenBy (kind.Aif base relocatable) (aif_plan base relocatable (contents_at l a vs)) l view
+  aif_seen =
+      views_are_seen (kind.Aif base relocatable) ram l a vs (given_of l (placement_of (aif_plan base relocatable (contents_at l a vs)))) view seen.placed needed chosen seen.applied
+      (ap (λ (n : ℕ). n + flag l.entry.thumb) whole_entry) seen.shows
 
 -- ---- the image
 
-module _ (base : ℕ) (relocatable : Bool) (ram : Option (List Range32)) (l : Linked) (a : Assigned) (vs : List Veneer) (p : Placement) (moves : List ℕ)
-    (h : IsMade (kind.Aif base relocatable) ram l a vs p) where
-  abbrev aif : Image
-  aif = image_of (kind.Aif base relocatable) (made_by l a vs p) moves
-
+module _ (base : ℕ) (relocatable : Bool) (ram : Option (List Range32)) (l : Linked) (a : Assigned) (vs : List Veneer) (moves : List ℕ)
+    (h : IsMade (kind.Aif base relocatable) ram l a vs (placement_of (aif_plan base relocatable (contents_at l a vs)))) where
   abbrev its_plan : Plan
   its_plan = aif_plan base relocatable (contents_at l a vs)
 
-  has_parts : HasParts its_plan l p
-  has_parts = made_has_parts base relocatable ram l a vs p h
+  abbrev own : Placement
+  own = placement_of its_plan
 
-  is_of_plan : IsOfPlan base its_plan (given_of l p) aif
+  abbrev aif : Image
+  aif = image_of (kind.Aif base relocatable) (made_by l a vs own) moves
+
+  has_parts : HasParts its_plan l own
+  has_parts = made_has_parts base relocatable ram l a vs own h
+
+  is_of_plan : IsOfPlan base its_plan (given_of l own) aif
   is_of_plan = record {
-    loads = bytes_alike 0 p.regions (regions_bytes (link_of l) p) ∙ has_parts.loads;
+    loads = bytes_alike 0 own.regions (regions_bytes (link_of l) own) ∙ has_parts.loads;
     lengths = has_parts.lengths;
     sizes = has_parts.sizes;
     start = refl;
     call = refl;
   }
 
+  is_needed : vs ≡ veneers_of (link_of l) a.regions true
+  is_needed = are_needed (kind.Aif base relocatable) ram l a vs own h
+
 -- ---- one that can't be moved
 
-module _ (base : ℕ) (ram : Option (List Range32)) (l : Linked) (a : Assigned) (vs : List Veneer) (p : Placement) (h : IsMade (kind.Aif base false) ram l a vs p) where
-  abbrev fixed_image : Image
-  fixed_image = aif base false ram l a vs p [] h
+module _ (base : ℕ) (ram : Option (List Range32)) (l : Linked) (a : Assigned) (vs : List Veneer)
+    (h : IsMade (kind.Aif base false) ram l a vs (placement_of (aif_plan base false (contents_at l a vs)))) (chosen : IsSelection l) where
+  abbrev fixed_plan : Plan
+  fixed_plan = its_plan base false ram l a vs [] h
 
-  fixed_starts : StartsAsAif false l.objects fixed_image
-  fixed_starts =
-      let plan_of : Plan = its_plan base false ram l a vs p [] h in
-      let parts = has_parts base false ram l a vs p [] h in
-      let file : aif_file fixed_image ≡ fixed_aif plan_of base (given_of l p) =
-      fixed_file base (contents_at l a vs) (items_in l.objects) (given_of l p) ram fixed_image (made_is_aif base false ram l a vs p h) refl (is_of_plan base false ram l a vs p [] h) in
-      let view : ByteMap = view_at base false l a vs p in
-      let entry : ℕ = entry_at l p + flag l.entry.thumb in
-      let boots = made_fixed_boots base ram l a vs p h in
-      let by_zero : Boots (file_at (fixed_aif plan_of base (given_of l p)) base) view (covers (base + plan.parts_size plan_of) (zero_size p.regions)) base (aif_bound 0 (zero_size p.regions)) entry =
-      subst (λ (z : ℕ). Boots (file_at (fixed_aif plan_of base (given_of l p)) base) view (covers (base + plan.parts_size plan_of) z) base (aif_bound 0 z) entry) (sym parts.zero) boots in
-      let by_parts : Boots (file_at (fixed_aif plan_of base (given_of l p)) base) view (covers (base + parts_size p.regions) (zero_size p.regions)) base (aif_bound 0 (zero_size p.regions)) entry =
-      subst (λ (n : ℕ). Boots (file_at (fixed_aif plan_of base (given_of l p)) base) view (covers (base + n) (zero_size p.regions)) base (aif_bound 0 (zero_size p.regions)) entry) (sym parts.parts) by_zero in
-      record {
-        views = λ to. view;
-        boots = subst (λ (f : List ℕ). Boots (file_at f base) view (covers (base + parts_size p.regions) (zero_size p.regions)) base (aif_bound 0 (zero_size p.regions)) entry) (sym file) by_parts;
-        shown = λ to fits. aif_shown base false ram l a vs p view (made_is_seen base false ram l a vs p h);
-      }
+  abbrev fixed_own : Placement
+  fixed_own = own base false ram l a vs [] h
+
+  abbrev fixed_image : Image
+  fixed_image = aif base false ram l a vs [] h
+
+  abbrev fixed_view : ByteMap
+  fixed_view = view_at base false l a vs fixed_own
+
+  fixed_parts : HasParts fixed_plan l fixed_own
+  fixed_parts = has_parts base false ram l a vs [] h
+
+  its_file : aif_file fixed_image ≡ fixed_aif fixed_plan base (given_of l fixed_own)
+  its_file =
+      fixed_file base (contents_at l a vs) (items_in l.objects) (given_of l fixed_own) ram fixed_image (made_is_aif base false ram l a vs fixed_own h) refl (is_of_plan base false ram l a vs [] h)
+
+  fixed_seen : IsSeen base false ram l a vs fixed_own fixed_view
+  fixed_seen = made_is_seen base false ram l a vs fixed_own h
+
+  fixed_loads : (x : ℕ) → zeroed (Some 0) (file_at (aif_file fixed_image) base) (zero_part base fixed_plan ∷ []) x ≡ fixed_view x
+  fixed_loads x =
+      let loads = fixed_image_loads base (contents_at l a vs) (items_in l.objects) (given_of l fixed_own) ram fixed_view
+      (record { image = made_is_aif base false ram l a vs fixed_own h; shows = fixed_seen.shows }) in
+      ap (λ (f : List ℕ). zeroed (Some 0) (file_at f base) (zero_part base fixed_plan ∷ []) x) its_file
+      ∙ cleared_is (fixed_aif fixed_plan base (given_of l fixed_own)) (plan.parts_size fixed_plan) (plan.zero_size fixed_plan) ((given_of l fixed_own).call - base) base fixed_view loads x
+
+  fixed_boots : Boots (file_at (aif_file fixed_image) base) fixed_view (covers (base + parts_size fixed_own.regions) (zero_size fixed_own.regions)) base (aif_bound 0 (zero_size fixed_own.regions))
+      (entry_at l fixed_own + flag l.entry.thumb)
+  fixed_boots =
+      let entry : ℕ = entry_at l fixed_own + flag l.entry.thumb in
+      let file : List ℕ = fixed_aif fixed_plan base (given_of l fixed_own) in
+      let by_zero : Boots (file_at file base) fixed_view (covers (base + plan.parts_size fixed_plan) (zero_size fixed_own.regions)) base (aif_bound 0 (zero_size fixed_own.regions)) entry =
+      subst (λ (z : ℕ). Boots (file_at file base) fixed_view (covers (base + plan.parts_size fixed_plan) z) base (aif_bound 0 z) entry) (sym fixed_parts.zero) (made_fixed_boots base ram l a vs fixed_own h) in
+      let by_parts : Boots (file_at file base) fixed_view (covers (base + parts_size fixed_own.regions) (zero_size fixed_own.regions)) base (aif_bound 0 (zero_size fixed_own.regions)) entry =
+      subst (λ (n : ℕ). Boots (file_at file base) fixed_view (covers (base + n) (zero_size fixed_own.regions)) base (aif_bound 0 (zero_size fixed_own.regions)) entry) (sym fixed_parts.parts) by_zero in
+      subst (λ (f : List ℕ). Boots (file_at f base) fixed_view (covers (base + parts_size fixed_own.regions) (zero_size fixed_own.regions)) base (aif_bound 0 (zero_size fixed_own.regions)) entry) (sym its_file) by_parts
+
+  fixed_placed : (os : List (Named Object)) → l.objects ≡ os → IsPlacedAs (kind.Aif base false) ram os fixed_image (λ to. fixed_view)
+  fixed_placed os objects = record {
+    link = l;
+    assigned = a;
+    veneers = vs;
+    placement = fixed_own;
+    objects = objects;
+    selected = chosen;
+    made = h;
+    places = refl;
+    placed = made_is_placed (kind.Aif base false) ram l a vs fixed_own h;
+    needed = is_needed base false ram l a vs [] h;
+    told = record { regions = refl; start = refl; bound = ap (aif_bound 0) fixed_parts.zero; thumb = refl };
+    seen = λ to fits. aif_seen base false ram l a vs chosen (is_needed base false ram l a vs [] h) fixed_view fixed_seen;
+    files = λ to fits. fixed_loads;
+    entry = λ to fits. whole_entry base false ram l a vs chosen (is_needed base false ram l a vs [] h) fixed_view fixed_seen;
+    reaches = fixed_boots;
+  }
 
 -- ---- one that can be moved
 
-module _ (base : ℕ) (ram : Option (List Range32)) (l : Linked) (a : Assigned) (vs : List Veneer) (p : Placement) (h : IsMade (kind.Aif base true) ram l a vs p)
-    (movable : not_relocatable l p ≡ None) where
+module _ (base : ℕ) (ram : Option (List Range32)) (l : Linked) (a : Assigned) (vs : List Veneer)
+    (h : IsMade (kind.Aif base true) ram l a vs (placement_of (aif_plan base true (contents_at l a vs)))) (chosen : IsSelection l)
+    (movable : not_relocatable l (placement_of (aif_plan base true (contents_at l a vs))) ≡ None) where
+  abbrev moving_own : Placement
+  moving_own = placement_of (aif_plan base true (contents_at l a vs))
+
   abbrev moving_image : Image
-  moving_image = aif base true ram l a vs p (moves_of l p) h
+  moving_image = aif base true ram l a vs (moves_of l moving_own) h
 
   abbrev moving_plan : Plan
-  moving_plan = its_plan base true ram l a vs p (moves_of l p) h
+  moving_plan = its_plan base true ram l a vs (moves_of l moving_own) h
 
-  its_parts : HasParts moving_plan l p
-  its_parts = has_parts base true ram l a vs p (moves_of l p) h
+  its_parts : HasParts moving_plan l moving_own
+  its_parts = has_parts base true ram l a vs (moves_of l moving_own) h
 
-  same_moves : moves_of l p ≡ offsets_of (shifts_of (link_of l) p) moving_plan
-  same_moves = ap (λ (n : ℕ). shifted_offsets (shifts_of (link_of l) p) 0 (n / 4)) its_parts.parts
+  same_moves : moves_of l moving_own ≡ offsets_of (shifts_of (link_of l) moving_own) moving_plan
+  same_moves = ap (λ (n : ℕ). shifted_offsets (shifts_of (link_of l) moving_own) 0 (n / 4)) its_parts.parts
 
-  same_file : aif_file moving_image ≡ aif_at base l a vs p
+  same_file : aif_file moving_image ≡ aif_at base l a vs moving_own
   same_file =
-      relocatable_file base (contents_at l a vs) (items_in l.objects) (given_of l p) ram moving_image (shifts_of (link_of l) p) (made_is_aif base true ram l a vs p h) refl
-      (is_of_plan base true ram l a vs p (moves_of l p) h) same_moves
+      relocatable_file base (contents_at l a vs) (items_in l.objects) (given_of l moving_own) ram moving_image (shifts_of (link_of l) moving_own) (made_is_aif base true ram l a vs moving_own h) refl
+      (is_of_plan base true ram l a vs (moves_of l moving_own) h) same_moves
 
   abbrev moved_views : ℕ → ByteMap
   moved_views to = view_at to true l a vs (placement_at to l a vs)
 
   abbrev moved_entry : ℕ → ℕ
-  moved_entry to = to + (entry_at l p - base) + flag l.entry.thumb
+  moved_entry to = to + (entry_at l moving_own - base) + flag l.entry.thumb
 
-  moving_boots : BootsAif (aif_file moving_image) (parts_size p.regions) (zero_size p.regions) moved_views (aif_bound (length (moves_of l p)) (zero_size p.regions)) moved_entry
+  moving_boots : BootsAif (aif_file moving_image) (parts_size moving_own.regions) (zero_size moving_own.regions) moved_views (aif_bound (length (moves_of l moving_own)) (zero_size moving_own.regions)) moved_entry
   moving_boots =
-      let boots = made_moving_boots base ram l a vs p h movable in
-      let by_moves : BootsAif (aif_at base l a vs p) (plan.parts_size moving_plan) (plan.zero_size moving_plan) moved_views
-      (aif_bound (length (moves_of l p)) (plan.zero_size moving_plan)) moved_entry =
-      subst (λ (ms : List ℕ). BootsAif (aif_at base l a vs p) (plan.parts_size moving_plan) (plan.zero_size moving_plan) moved_views (aif_bound (length ms) (plan.zero_size moving_plan)) moved_entry)
+      let boots = made_moving_boots base ram l a vs moving_own h movable in
+      let by_moves : BootsAif (aif_at base l a vs moving_own) (plan.parts_size moving_plan) (plan.zero_size moving_plan) moved_views
+      (aif_bound (length (moves_of l moving_own)) (plan.zero_size moving_plan)) moved_entry =
+      subst (λ (ms : List ℕ). BootsAif (aif_at base l a vs moving_own) (plan.parts_size moving_plan) (plan.zero_size moving_plan) moved_views (aif_bound (length ms) (plan.zero_size moving_plan)) moved_entry)
       (sym same_moves) boots in
-      let by_zero : BootsAif (aif_at base l a vs p) (plan.parts_size moving_plan) (zero_size p.regions) moved_views (aif_bound (length (moves_of l p)) (zero_size p.regions)) moved_entry =
-      subst (λ (z : ℕ). BootsAif (aif_at base l a vs p) (plan.parts_size moving_plan) z moved_views (aif_bound (length (moves_of l p)) z) moved_entry) (sym its_parts.zero) by_moves in
-      let by_parts : BootsAif (aif_at base l a vs p) (parts_size p.regions) (zero_size p.regions) moved_views (aif_bound (length (moves_of l p)) (zero_size p.regions)) moved_entry =
-      subst (λ (n : ℕ). BootsAif (aif_at base l a vs p) n (zero_size p.regions) moved_views (aif_bound (length (moves_of l p)) (zero_size p.regions)) moved_entry) (sym its_parts.parts) by_zero in
-      subst (λ (f : List ℕ). BootsAif f (parts_size p.regions) (zero_size p.regions) moved_views (aif_bound (length (moves_of l p)) (zero_size p.regions)) moved_entry) (sym same_file) by_parts
+      let by_zero : BootsAif (aif_at base l a vs moving_own) (plan.parts_size moving_plan) (zero_size moving_own.regions) moved_views (aif_bound (length (moves_of l moving_own)) (zero_size moving_own.regions)) moved_entry =
+      subst (λ (z : ℕ). BootsAif (aif_at base l a vs moving_own) (plan.parts_size moving_plan) z moved_views (aif_bound (length (moves_of l moving_own)) z) moved_entry) (sym its_parts.zero) by_moves in
+      let by_parts : BootsAif (aif_at base l a vs moving_own) (parts_size moving_own.regions) (zero_size moving_own.regions) moved_views (aif_bound (length (moves_of l moving_own)) (zero_size moving_own.regions)) moved_entry =
+      subst (λ (n : ℕ). BootsAif (aif_at base l a vs moving_own) n (zero_size moving_own.regions) moved_views (aif_bound (length (moves_of l moving_own)) (zero_size moving_own.regions)) moved_entry) (sym its_parts.parts) by_zero in
+      subst (λ (f : List ℕ). BootsAif f (parts_size moving_own.regions) (zero_size moving_own.regions) moved_views (aif_bound (length (moves_of l moving_own)) (zero_size moving_own.regions)) moved_entry) (sym same_file) by_parts
 
-  has_room : (to : ℕ) → HasRoom moving_image to → HasRoomAt (aif_at base l a vs p) (plan.parts_size moving_plan) (plan.zero_size moving_plan) to
-  has_room to r = record {
-    whole = r.whole;
-    file_room = subst (λ (f : List ℕ). to + length f ≤ 2 ^ 32) same_file r.file;
-    zero_room = subst (λ (z : ℕ). to + plan.parts_size moving_plan + z ≤ 2 ^ 32) its_parts.zero (subst (λ (n : ℕ). to + n + zero_size p.regions ≤ 2 ^ 32) its_parts.parts r.zero);
-  }
+  -- ---- at an address
 
-  moving_starts : StartsAsAif true l.objects moving_image
-  moving_starts = record {
-    views = moved_views;
-    boots = moving_boots;
-    shown = λ to fits. aif_shown to true None l a vs (placement_at to l a vs) (moved_views to) (moved_is_seen base to ram l a vs p h movable (has_room to fits));
+  module _ (to : ℕ) (fits : HasRoom moving_image to) where
+    abbrev moved_plan : Plan
+    moved_plan = aif_plan to true (contents_at l a vs)
+
+    has_room : HasRoomAt (aif_at base l a vs moving_own) (plan.parts_size moving_plan) (plan.zero_size moving_plan) to
+    has_room = record {
+      whole = fits.whole;
+      file_room = subst (λ (f : List ℕ). to + length f ≤ 2 ^ 32) same_file fits.file;
+      zero_room = subst (λ (z : ℕ). to + plan.parts_size moving_plan + z ≤ 2 ^ 32) its_parts.zero (subst (λ (n : ℕ). to + n + zero_size moving_own.regions ≤ 2 ^ 32) its_parts.parts fits.zero);
+    }
+
+    moved_seen : IsSeen to true None l a vs (placement_at to l a vs) (moved_views to)
+    moved_seen = moved_is_seen base to ram l a vs moving_own h movable has_room
+
+    seen_there : AreSeenBy (kind.Aif to true) moved_plan l (moved_views to)
+    seen_there = aif_seen to true None l a vs chosen (is_needed base true ram l a vs (moves_of l moving_own) h) (moved_views to) moved_seen
+
+    becomes : ShowsImage (aif_file moving_image) (plan.parts_size moved_plan) (plan.zero_size moved_plan) base (moves_of l moving_own) to (moved_views to)
+    becomes =
+        subst (λ (ms : List ℕ). ShowsImage (aif_file moving_image) (plan.parts_size moved_plan) (plan.zero_size moved_plan) base ms to (moved_views to)) (sym same_moves)
+        (subst (λ (f : List ℕ). ShowsImage f (plan.parts_size moved_plan) (plan.zero_size moved_plan) base (offsets_of (shifts_of (link_of l) moving_own) moving_plan) to (moved_views to)) (sym same_file)
+        (becomes_there base ram l a vs moving_own h movable to has_room))
+
+    entry_there : to + (entry_at l moving_own - base) ≡ entry_by moved_plan l
+    entry_there =
+        sym (entry_moves base ram l a vs moving_own h movable to has_room)
+        ∙ whole_entry to true None l a vs chosen (is_needed base true ram l a vs (moves_of l moving_own) h) (moved_views to) moved_seen
+
+  moving_placed : (os : List (Named Object)) → l.objects ≡ os → IsPlacedAs (kind.Aif base true) ram os moving_image moved_views
+  moving_placed os objects = record {
+    link = l;
+    assigned = a;
+    veneers = vs;
+    placement = moving_own;
+    objects = objects;
+    selected = chosen;
+    made = h;
+    places = refl;
+    placed = made_is_placed (kind.Aif base true) ram l a vs moving_own h;
+    needed = is_needed base true ram l a vs (moves_of l moving_own) h;
+    told = record { regions = refl; start = refl; bound = ap (aif_bound (length (moves_of l moving_own))) its_parts.zero; thumb = refl };
+    seen = seen_there;
+    files = becomes;
+    entry = entry_there;
+    reaches = moving_boots;
   }
 
 -- ---- as it is answered
 
-answered_fixed : (base : ℕ) (ram : Option (List Range32)) (os : List (Named Object)) (i : Image) → IsAnswered (kind.Aif base false) ram os i → StartsAsAif false os i
-answered_fixed base ram os i n =
-    subst (StartsAsAif false os) (still_image (kind.Aif base false) ram os i refl n)
-    (subst (λ (xs : List (Named Object)). StartsAsAif false xs (fixed_image base ram n.linked n.assigned n.veneers n.placement n.made)) n.objects
-    (fixed_starts base ram n.linked n.assigned n.veneers n.placement n.made))
+fixed_answered : (base : ℕ) (ram : Option (List Range32)) (os : List (Named Object)) (i : Image) → IsAnswered (kind.Aif base false) ram os i → HasViews (kind.Aif base false) ram os i
+fixed_answered base ram os i n =
+    let p : Placement = placement_of (link_plan (kind.Aif base false) n.linked n.assigned.regions n.veneers) in
+    subst (HasViews (kind.Aif base false) ram os) (still_image (kind.Aif base false) ram i n.linked n.assigned n.veneers p refl n.answer)
+    ((λ to. fixed_view base ram n.linked n.assigned n.veneers n.answer.made n.selection), fixed_placed base ram n.linked n.assigned n.veneers n.answer.made n.selection os n.objects)
 
-answered_moving : (base : ℕ) (ram : Option (List Range32)) (os : List (Named Object)) (i : Image) → IsAnswered (kind.Aif base true) ram os i → StartsAsAif true os i
-answered_moving base ram os i n =
-    let (movable, listed) = not_refused (not_relocatable n.linked n.placement) (moves_of n.linked n.placement) n.moves n.listed in
-    let image : moving_image base ram n.linked n.assigned n.veneers n.placement n.made movable ≡ i =
-    ap (λ (ms : List ℕ). image_of (kind.Aif base true) (made_by n.linked n.assigned n.veneers n.placement) ms) (sym listed) ∙ n.image in
-    subst (StartsAsAif true os) image
-    (subst (λ (xs : List (Named Object)). StartsAsAif true xs (moving_image base ram n.linked n.assigned n.veneers n.placement n.made movable)) n.objects
-    (moving_starts base ram n.linked n.assigned n.veneers n.placement n.made movable))
+moving_answered : (base : ℕ) (ram : Option (List Range32)) (os : List (Named Object)) (i : Image) → IsAnswered (kind.Aif base true) ram os i → HasViews (kind.Aif base true) ram os i
+moving_answered base ram os i n =
+    let p : Placement = placement_of (link_plan (kind.Aif base true) n.linked n.assigned.regions n.veneers) in
+    let (movable, listed) = not_refused (not_relocatable n.linked p) (moves_of n.linked p) n.answer.moves n.answer.listed in
+    let image : moving_image base ram n.linked n.assigned n.veneers n.answer.made n.selection movable ≡ i =
+    ap (λ (ms : List ℕ). image_of (kind.Aif base true) (made_by n.linked n.assigned n.veneers p) ms) (sym listed) ∙ n.answer.image in
+    subst (HasViews (kind.Aif base true) ram os) image
+    (moved_views base ram n.linked n.assigned n.veneers n.answer.made n.selection movable, moving_placed base ram n.linked n.assigned n.veneers n.answer.made n.selection movable os n.objects)
 
-answered_aif : (base : ℕ) (relocatable : Bool) (ram : Option (List Range32)) (os : List (Named Object)) (i : Image) → IsAnswered (kind.Aif base relocatable) ram os i → StartsAsAif relocatable os i
-answered_aif base false ram os i n = answered_fixed base ram os i n
-answered_aif base true ram os i n = answered_moving base ram os i n
+aif_answered : (base : ℕ) (relocatable : Bool) (ram : Option (List Range32)) (os : List (Named Object)) (i : Image) → IsAnswered (kind.Aif base relocatable) ram os i
+    → HasViews (kind.Aif base relocatable) ram os i
+aif_answered base false ram os i n = fixed_answered base ram os i n
+aif_answered base true ram os i n = moving_answered base ram os i n
 
-pub aif_images_start : AifImagesStart
-aif_images_start base relocatable ram os i sound whole h =
-    answered_aif base relocatable ram os i (answered (kind.Aif base relocatable) ram os i sound (whole, tt) (whole, (refl, (refl, tt))) h)
+pub images_are_placed : ReadingLaw → ImagesArePlaced
+images_are_placed law (kind.Scatter s) ram os i sound (text, at) h = scatter_views law s text at ram os i sound h
+images_are_placed law (kind.Plain base) ram os i sound whole h = plain_views base ram os i sound whole h
+images_are_placed law (kind.Aif base relocatable) ram os i sound whole h =
+    aif_answered base relocatable ram os i (answered (kind.Aif base relocatable) ram os i sound (whole, tt) (whole, (refl, (refl, tt))) h)

@@ -1,5 +1,5 @@
 -- A build asks for what the link of its objects asks for.
-use Rattle.std.proofs.Common.{◌≡◌, ℕ, suc, List, [], ◌∷◌, ◌++◌, map, slice_get, Bool, true, false, cond, Option, Some, None, Result, Ok, Err, refl, sym, ap, ◌∙◌, subst}
+use Rattle.std.proofs.Common.{◌≡◌, ℕ, suc, ◌%◌, List, [], ◌∷◌, ◌++◌, map, slice_get, Bool, true, false, cond, Option, Some, None, Result, Ok, Err, refl, sym, ap, ◌∙◌, subst}
 use Rattle.std.proofs.lemmas.List.{map-append}
 use Rattle.std.proofs.lemmas.Option.{slice_get-map}
 use Rattle.std.specs.List.{AllByRecursion, filter_map, flat_map}
@@ -9,7 +9,7 @@ use Rattle.sdt_outside.specs.Files.{Files, content}
 use Rattle.chunk_file.specs.Reading.{◌>>=◌}
 use Rattle.aof_object.specs.declared.records.Object.{Object}
 use Rattle.alf_archive.specs.declared.records.Member.{Member}
-use Rattle.boot_code.specs.Boots.{ByteMap}
+use Rattle.aof_object.specs.Validity.{IsValid}
 use Rattle.aof_object.specs.Spelling.{written}
 use Rattle.armasm_core.specs.Assembling.{AssembledFrom, OneAssembly}
 use Rattle.link_model.specs.declared.images.Image.{Image}
@@ -17,12 +17,16 @@ use Rattle.link_model.specs.declared.selection.Named.{Named}
 use Rattle.link_model.specs.Chosen.{AreChosen, AreLinked, taken}
 use Rattle.link_model.specs.Members.{members_of, named_member, objects_in}
 use Rattle.armlink_core.specs.Laws.{AreAlike, NamelessImages, NamelessScatters, unnamed}
+use Rattle.place_model.specs.declared.scatter.Kind.{Kind}
 use Rattle.place_model.specs.declared.scatter.Kind.TheVariants as kind
+use Rattle.place_model.specs.Assignment.{description}
+use Rattle.place_model.proofs.ListLemmas.{all_map, all_of_map}
 use Rattle.bin_image.specs.declared.records.OutFile.{OutFile}
 use Rattle.tool_words.specs.declared.command.Bank.{Bank}
 use Rattle.tool_words.specs.declared.command.LinkForm.{LinkForm}
 use Rattle.tool_words.specs.declared.command.LinkForm.TheVariants as form
 use Rattle.tool_words.specs.declared.command.LinkWords.{LinkWords}
+use Rattle.tool_words.specs.Commands.{IsFormed}
 use Rattle.tool_answers.specs.Inputs.{and_others, found_or, input_of, inputs_of}
 use Rattle.tool_answers.specs.Outcomes.{Outcome}
 use Rattle.tool_library.specs.declared.linkables.Linkable.{Linkable}
@@ -32,7 +36,9 @@ use Rattle.sdt_toolkit.specs.Inputs.{Behind, InputIs, InputsAre, NamedIs, archiv
 use Rattle.sdt_toolkit.specs.Links.{AsAif, FilesAsk, ImageIs, InputsMake, IsInMemory, LinkAsks, LinksTo, ReadAsks, ScattersTo, filed, files_read, inputs_in, read_by, text_in, writes_all}
 use Rattle.sdt_toolkit.specs.Reads.{Reads}
 use Rattle.sdt_toolkit.specs.Sources.{IsObjectOf}
-use Rattle.sdt_toolkit.specs.Starting.{AreShownIn, IsShownIn}
+use Rattle.sdt_toolkit.specs.Plans.{ImagesArePlaced}
+use Rattle.sdt_toolkit.specs.Starting.{AreSound, HasBytes}
+use Rattle.sdt_toolkit.proofs.ImageLemmas.{in_memory}
 use Rattle.sdt_toolkit.proofs.BuildLemmas.{IsFor, OneOf, built_as, linked_as, same_module}
 
 abbrev Inputs : Type 0
@@ -137,25 +143,30 @@ module _ (images : NamelessImages) (scatters : NamelessScatters) where
   links_alike (form.Aif base relocatable) text banks os ps i alike h = aif_alike base relocatable banks os ps i alike h
   links_alike (form.Plain base) text banks os ps i alike h = sym (images (kind.Plain base) None os ps i alike (sym h))
 
-shown_alike : (view : ByteMap) (os ps : List (Named Object)) → AreAlike os ps → AreShownIn view os → AreShownIn view ps
-shown_alike view os ps alike shown k p at =
-    let found : option_map (λ (o : Named Object). o.value) (slice_get os k) ≡ Some p.value =
-    sym (slice_get-map (λ (o : Named Object). o.value) os k) ∙ ap (λ (vs : List Object). slice_get vs k) (same_values os ps alike)
-    ∙ slice_get-map (λ (o : Named Object). o.value) ps k ∙ ap (option_map (λ (o : Named Object). o.value)) at in
-    by (slice_get os k) refl found
-  where
-    by : (o : Option (Named Object)) → slice_get os k ≡ o → option_map (λ (o : Named Object). o.value) o ≡ Some p.value → IsShownIn view p.value
-    by None e h = absurd (let bad : None ≡ Some p.value = h in cc)
-    by (Some o) e h = let is : Some o.value ≡ Some p.value = h in let same : o.value ≡ p.value = cc in subst (IsShownIn view) same (shown k o e)
+-- what was placed is sound and whole, and so are objects that are alike
+placed_sound : (f : LinkForm) (text : List ℕ) (banks : Option (List Bank)) (os : List (Named Object)) (i : Image) → IsInMemory f text banks os i → AreSound os
+placed_sound f text banks os i h =
+    let made = h.placed.made in
+    record {
+      valid = subst (λ (xs : List (Named Object)). AllByRecursion (λ o. IsValid o.value) xs) h.placed.objects made.valid;
+      bytes = subst (λ (xs : List (Named Object)). AllByRecursion (λ o. HasBytes o.value) xs) h.placed.objects made.bytes;
+    }
 
-memory_alike : (f : LinkForm) (os ps : List (Named Object)) (i : Image) → AreAlike os ps → IsInMemory f os i → IsInMemory f ps i
-memory_alike (form.Scatter file) os ps i alike h =
-    record { view = h.view; loaded = h.loaded; boots = h.boots; shown = shown_alike h.view os ps alike h.shown; runs = h.runs }
-memory_alike (form.Aif base relocatable) os ps i alike h =
-    record { views = h.views; boots = h.boots; shown = λ to fits. shown_alike (h.views to) os ps alike (h.shown to fits) }
-memory_alike (form.Plain base) os ps i alike h = record { view = h.view; parts = h.parts; cleared = h.cleared; shown = shown_alike h.view os ps alike h.shown }
+placed_formed : (f : LinkForm) (text : List ℕ) (banks : Option (List Bank)) (os : List (Named Object)) (i : Image) → IsInMemory f text banks os i → IsFormed f
+placed_formed (form.Scatter file) text banks os i h = tt
+placed_formed (form.Aif base relocatable) text banks os i h =
+    (subst (λ (k : Kind). AllByRecursion (λ load. load.base % 4 ≡ 0) (description k)) h.asked.0 h.placed.made.loads).0
+placed_formed (form.Plain base) text banks os i h =
+    (subst (λ (k : Kind). AllByRecursion (λ load. load.base % 4 ≡ 0) (description k)) h.asked.0 h.placed.made.loads).0
 
-module _ (images : NamelessImages) (scatters : NamelessScatters) where
+all_alike : (P : Object → Type 0) (os ps : List (Named Object)) → AreAlike os ps → AllByRecursion (λ o. P o.value) os → AllByRecursion (λ o. P o.value) ps
+all_alike P os ps alike all =
+    all_of_map P (λ (o : Named Object). o.value) ps (subst (AllByRecursion P) (same_values os ps alike) (all_map P (λ (o : Named Object). o.value) os all))
+
+sound_alike : (os ps : List (Named Object)) → AreAlike os ps → AreSound os → AreSound ps
+sound_alike os ps alike h = record { valid = all_alike IsValid os ps alike h.valid; bytes = all_alike HasBytes os ps alike h.bytes }
+
+module _ (law : ImagesArePlaced) (images : NamelessImages) (scatters : NamelessScatters) where
   image_alike : (f : LinkForm) (text : List ℕ) (banks : Option (List Bank)) (xs ys : Inputs) (i : Image) → map bare xs ≡ map bare ys
       → ImageIs f text banks xs (Ok i) → ImageIs f text banks ys (Ok i)
   image_alike f text banks xs ys i same h =
@@ -164,7 +175,9 @@ module _ (images : NamelessImages) (scatters : NamelessScatters) where
         objects = l.objects;
         linked = l.linked;
         links = links_alike images scatters f text banks h.objects l.objects i l.alike h.links;
-        memory = λ j e. subst (IsInMemory f l.objects) (ok_same i j e) (memory_alike f h.objects l.objects i l.alike (h.memory i refl));
+        memory = λ j e. subst (IsInMemory f text banks l.objects) (ok_same i j e)
+            (in_memory law f text banks l.objects i (sound_alike h.objects l.objects l.alike (placed_sound f text banks h.objects i (h.memory i refl)))
+            (placed_formed f text banks h.objects i (h.memory i refl)) (links_alike images scatters f text banks h.objects l.objects i l.alike h.links));
       }
 
 -- ---- inputs one after the other
@@ -229,12 +242,12 @@ carried s a (name ∷ names) (bytes ∷ contents) t b (label ∷ labels) (other 
 abbrev words : LinkForm → List ℕ → Option (List Bank) → List (List ℕ) → LinkWords
 words f output ram names = record { form = f; output = output; names = names; ram = ram }
 
-module _ (images : NamelessImages) (scatters : NamelessScatters) (f : LinkForm) (output : List ℕ) (ram : Option (List Bank)) where
+module _ (law : ImagesArePlaced) (images : NamelessImages) (scatters : NamelessScatters) (f : LinkForm) (output : List ℕ) (ram : Option (List Bank)) where
   files_carried : (names labels : List (List ℕ)) (text : List ℕ) (xs ys : Inputs) (fs : List OutFile) → map bare xs ≡ map bare ys
       → InputsMake (words f output ram names) text (Ok xs) (Ok fs) → InputsMake (words f output ram labels) text (Ok ys) (Ok fs)
   files_carried names labels text xs ys fs same h =
       let (i, ei, filed_is) = came h.0 (filed output) fs h.2 in
-      (Ok i, image_alike images scatters f text ram xs ys i same (subst (ImageIs f text ram xs) ei h.1), filed_is)
+      (Ok i, image_alike law images scatters f text ram xs ys i same (subst (ImageIs f text ram xs) ei h.1), filed_is)
 
   asks_carried : (s : Reads) (a : Bool) (names contents : List (List ℕ)) (t : Reads) (b : Bool) (labels others : List (List ℕ)) (o : Outcome)
       → text_in f contents ≡ text_in f others → AreCarried s a names (inputs_in f contents) t b labels (inputs_in f others)
@@ -371,20 +384,20 @@ turned Are (Ok contents) (Err q) h = absurd h
 turned Are (Err r) (Ok others) h = absurd h
 turned Are (Err r) (Err q) h = tt
 
-pub builds_are_links : OneAssembly → NamelessImages → NamelessScatters → BuildsAreLinks
-builds_are_links law images scatters s t files others w o told_files told_others has =
+pub builds_are_links : OneAssembly → ImagesArePlaced → NamelessImages → NamelessScatters → BuildsAreLinks
+builds_are_links law places images scatters s t files others w o told_files told_others has =
     let one : (files : Files) (name text : List ℕ) → OneOf files name text = λ files name text x y h k. law (content files) name text x y h k in
     let read = all_read files others w.form w.names has.description has.inputs in
     let v = link_words w in (
       λ asks. subst (λ (x : Option Files). FilesAsk x t false v (Ok o)) (sym told_others)
           (carried_asks s true w t false v o (AreRead files w.form w.names)
-          (λ contents rest r. asks_carried images scatters w.form w.output w.ram s true w.names contents t false (map link_name w.names) rest o r.text
+          (λ contents rest r. asks_carried places images scatters w.form w.output w.ram s true w.names contents t false (map link_name w.names) rest o r.text
           (forth one s t files told_files w.names (inputs_in w.form contents) (inputs_in w.form rest) r.inputs))
           (inputs_of files (files_read w)) (inputs_of others (files_read v)) read
           (subst (λ (x : Option Files). FilesAsk x s true w (Ok o)) told_files asks)),
       λ asks. subst (λ (x : Option Files). FilesAsk x s true w (Ok o)) (sym told_files)
           (carried_asks t false v s true w o (λ rest contents. AreRead files w.form w.names contents rest)
-          (λ rest contents r. asks_carried images scatters w.form w.output w.ram t false (map link_name w.names) rest s true w.names contents o (sym r.text)
+          (λ rest contents r. asks_carried places images scatters w.form w.output w.ram t false (map link_name w.names) rest s true w.names contents o (sym r.text)
           (back one s t files told_files w.names (inputs_in w.form contents) (inputs_in w.form rest) r.inputs))
           (inputs_of others (files_read v)) (inputs_of files (files_read w))
           (turned (AreRead files w.form w.names) (inputs_of files (files_read w)) (inputs_of others (files_read v)) read)

@@ -1,5 +1,5 @@
 -- The image of inputs, and its files.
-use Rattle.std.proofs.Common.{◌≡◌, ℕ, ◌+◌, ◌%◌, ◌^◌, ◌<◌, ◌≤◌, List, [], ◌∷◌, length, map, Bool, true, false, cond, ◌||◌, Option, None, Result, Ok, Err, refl, sym, ap, ◌∙◌, subst, arith, get_or, zero, suc}
+use Rattle.std.proofs.Common.{◌≡◌, ℕ, ◌+◌, ◌%◌, ◌^◌, ◌<◌, ◌≤◌, List, [], ◌∷◌, length, map, Bool, true, false, cond, ◌||◌, Option, Some, None, Result, Ok, Err, refl, sym, ap, ◌∙◌, subst, arith, get_or, zero, suc}
 use Rattle.std.proofs.lemmas.Bool.{leb-false}
 use Rattle.std.proofs.lemmas.List.Folds.{list_any-append}
 use Rattle.std.specs.List.{list_any, AllByRecursion}
@@ -17,20 +17,27 @@ use Rattle.link_model.specs.declared.images.LoadRegion.{LoadRegion}
 use Rattle.link_model.specs.declared.placing.Region.{Region}
 use Rattle.link_model.specs.declared.selection.Named.{Named}
 use Rattle.link_model.specs.Chosen.{AreLinked}
+use Rattle.place_model.specs.declared.scatter.Kind.{Kind}
 use Rattle.place_model.specs.declared.scatter.Kind.TheVariants as kind
-use Rattle.armlink_core.specs.Images.{Links, linking, scatter_linking}
+use Rattle.place_model.specs.declared.scatter.Scatter.{Scatter}
+use Rattle.scatter_text.specs.Reading.{scatter_of}
+use Rattle.link_select.specs.Selection.{selection_of}
+use Rattle.armlink_core.specs.Images.{Links, described, linking, scatter_linking}
 use Rattle.armlink_core.specs.Laws.{IsSized, LinkedSizes, ScatterSizes}
 use Rattle.bin_image.specs.declared.records.OutFile.{OutFile}
 use Rattle.bin_image.specs.Files.{IsMapped, files_by, files_of, load_file, map_file, plain_file}
 use Rattle.tool_words.specs.declared.command.Bank.{Bank}
 use Rattle.tool_words.specs.declared.command.LinkForm.{LinkForm}
 use Rattle.tool_words.specs.declared.command.LinkForm.TheVariants as form
+use Rattle.tool_words.specs.Commands.{IsFormed}
 use Rattle.tool_library.specs.declared.linkables.Linkable.{Linkable}
 use Rattle.sdt_toolkit.proofs.InputLemmas.{valid_archives, valid_objects}
+use Rattle.sdt_toolkit.proofs.SelectionLemmas.{steps_ok}
 use Rattle.sdt_toolkit.proofs.SoundLemmas.{sound_linked}
 use Rattle.sdt_toolkit.specs.Inputs.{AreValid, Tells, archives_among, objects_among}
-use Rattle.sdt_toolkit.specs.Starting.{AifImagesStart, AreSound, HasBytes, PlainImagesLoad, ScatterImagesStart}
-use Rattle.sdt_toolkit.specs.Links.{AsAif, ImageIs, IsAifImage, IsInMemory, IsLoaded, IsOneFile, IsRam, IsScatterImage, IsWritable, LinksTo, ScattersTo, filed, files_as, image_files, is_long, is_long_load, too_large}
+use Rattle.sdt_toolkit.specs.Plans.{HasViews, ImagesArePlaced}
+use Rattle.sdt_toolkit.specs.Starting.{AreSound, HasBytes}
+use Rattle.sdt_toolkit.specs.Links.{AsAif, ImageIs, IsAifImage, IsAskedAs, IsInMemory, IsLoaded, IsOneFile, IsRam, IsScatterImage, IsWritable, LinksTo, ScattersTo, filed, files_as, image_files, is_long, is_long_load, too_large}
 
 -- ---- the image
 
@@ -57,46 +64,61 @@ pub sound_inputs : (inputs : List (Named Linkable)) → AreValid inputs → AllB
 sound_inputs inputs valid objects archives = λ os linked.
     sound_linked (objects_among inputs) (archives_among inputs) os linked (valid_objects inputs valid) (valid_archives inputs valid) objects archives
 
-same_memory : (f : LinkForm) (os : List (Named Object)) (i : Image) → IsInMemory f os i → (j : Image) → ◌≡◌ {A = Result Image Refusal} (Ok i) (Ok j) → IsInMemory f os j
-same_memory f os i h j e = subst (IsInMemory f os) (let is : i ≡ j = cc in is) h
+-- the image is one of the placement that the words ask for
+in_views : (f : LinkForm) (text : List ℕ) (banks : Option (List Bank)) (k : Kind) (ram : Option (List Range32)) (os : List (Named Object)) (i : Image)
+    → IsAskedAs f text banks k ram → HasViews k ram os i → IsInMemory f text banks os i
+in_views f text banks k ram os i asked h = record { shape = k; ram = ram; asked = asked; views = h.0; placed = h.1 }
 
-no_memory : (f : LinkForm) (os : List (Named Object)) (r : Refusal) (j : Image) → ◌≡◌ {A = Result Image Refusal} (Err r) (Ok j) → IsInMemory f os j
-no_memory f os r j e = absurd cc
+described_views : ImagesArePlaced → (file text : List ℕ) (banks : Option (List Bank)) (ram : Option (List Range32)) (os : List (Named Object)) (i : Image) → AreSound os
+    → IsRam banks ram → (d : Result Scatter Refusal) → scatter_of text ≡ d → described d ram os ≡ Ok i → IsInMemory (form.Scatter file) text banks os i
+described_views law file text banks ram os i sound told (Err r) at h =
+    let (l, chosen, never) = steps_ok (selection_of None os) (λ l. Err r) i h in
+    absurd (let bad : ◌≡◌ {A = Result Image Refusal} (Err r) (Ok i) = never in cc)
+described_views law file text banks ram os i sound told (Ok s) at h =
+    in_views (form.Scatter file) text banks (kind.Scatter s) ram os i (s, at, refl, told) (law (kind.Scatter s) ram os i sound (text, at) h)
 
-pub scatter_image : ScatterImagesStart → (inputs : List (Named Linkable)) (file text : List ℕ) (banks : Option (List Bank)) (r : Result Image Fault)
+pub in_memory : ImagesArePlaced → (f : LinkForm) (text : List ℕ) (banks : Option (List Bank)) (os : List (Named Object)) (i : Image) → AreSound os → IsFormed f
+    → LinksTo f text banks os (Ok i) → IsInMemory f text banks os i
+in_memory law (form.Scatter file) text banks os i sound formed h = described_views law file text banks h.0 os i sound h.1 (scatter_of text) refl (sym h.2)
+in_memory law (form.Aif base relocatable) text banks os i sound formed h =
+    in_views (form.Aif base relocatable) text banks (kind.Aif base relocatable) h.0 os i (refl, h.1) (law (kind.Aif base relocatable) h.0 os i sound formed (sym h.2))
+in_memory law (form.Plain base) text banks os i sound formed h =
+    in_views (form.Plain base) text banks (kind.Plain base) None os i (refl, refl) (law (kind.Plain base) None os i sound formed (sym h))
+
+-- an image of inputs is that of the objects among them
+of_inputs : ImagesArePlaced → (f : LinkForm) (text : List ℕ) (banks : Option (List Bank)) (inputs : List (Named Linkable)) (os : List (Named Object)) (image : Result Image Refusal)
+    → AreLinked (objects_among inputs) (archives_among inputs) os → LinksSound (objects_among inputs) (archives_among inputs) → IsFormed f → LinksTo f text banks os image
+    → ImageIs f text banks inputs image
+of_inputs law f text banks inputs os image linked sound formed links = record {
+  objects = os;
+  linked = linked;
+  links = links;
+  memory = λ i is. in_memory law f text banks os i (sound os linked) formed (subst (LinksTo f text banks os) is links);
+}
+
+pub scatter_image : ImagesArePlaced → (inputs : List (Named Linkable)) (file text : List ℕ) (banks : Option (List Bank)) (r : Result Image Fault)
     → LinksSound (objects_among inputs) (archives_among inputs) → Tells r (IsScatterImage (objects_among inputs) (archives_among inputs) text banks)
     → Tells r (ImageIs (form.Scatter file) text banks inputs)
-scatter_image starts inputs file text banks (Ok i) sound h =
-    let links : ScattersTo text banks h.0 (Ok i) = h.2 in
-    record { objects = h.0; linked = h.1; links = h.2; memory = same_memory (form.Scatter file) h.0 i (starts text links.0 h.0 i (sound h.0 h.1) (sym links.2)) }
-scatter_image starts inputs file text banks (Err (fault.Refused e)) sound h = record { objects = h.0; linked = h.1; links = h.2; memory = no_memory (form.Scatter file) h.0 e }
-scatter_image starts inputs file text banks (Err (fault.ReadFault q)) sound h = h
-scatter_image starts inputs file text banks (Err fault.NoMemory) sound h = tt
+scatter_image law inputs file text banks (Ok i) sound h = of_inputs law (form.Scatter file) text banks inputs h.0 (Ok i) h.1 sound tt h.2
+scatter_image law inputs file text banks (Err (fault.Refused e)) sound h = of_inputs law (form.Scatter file) text banks inputs h.0 (Err e) h.1 sound tt h.2
+scatter_image law inputs file text banks (Err (fault.ReadFault q)) sound h = h
+scatter_image law inputs file text banks (Err fault.NoMemory) sound h = tt
 
-pub aif_image : AifImagesStart → (inputs : List (Named Linkable)) (base : ℕ) (relocatable : Bool) (text : List ℕ) (banks : Option (List Bank)) (r : Result Image Fault) → base % 4 ≡ 0
+pub aif_image : ImagesArePlaced → (inputs : List (Named Linkable)) (base : ℕ) (relocatable : Bool) (text : List ℕ) (banks : Option (List Bank)) (r : Result Image Fault) → base % 4 ≡ 0
     → LinksSound (objects_among inputs) (archives_among inputs)
     → Tells r (IsAifImage (objects_among inputs) (archives_among inputs) base relocatable banks) → Tells r (ImageIs (form.Aif base relocatable) text banks inputs)
-aif_image starts inputs base relocatable text banks (Ok i) whole sound h =
-    let links : AsAif base relocatable banks h.0 (Ok i) = h.2 in
-    record {
-      objects = h.0;
-      linked = h.1;
-      links = h.2;
-      memory = same_memory (form.Aif base relocatable) h.0 i (starts base relocatable links.0 h.0 i (sound h.0 h.1) whole (sym links.2));
-    }
-aif_image starts inputs base relocatable text banks (Err (fault.Refused e)) whole sound h =
-    record { objects = h.0; linked = h.1; links = h.2; memory = no_memory (form.Aif base relocatable) h.0 e }
-aif_image starts inputs base relocatable text banks (Err (fault.ReadFault q)) whole sound h = h
-aif_image starts inputs base relocatable text banks (Err fault.NoMemory) whole sound h = tt
+aif_image law inputs base relocatable text banks (Ok i) whole sound h = of_inputs law (form.Aif base relocatable) text banks inputs h.0 (Ok i) h.1 sound whole h.2
+aif_image law inputs base relocatable text banks (Err (fault.Refused e)) whole sound h = of_inputs law (form.Aif base relocatable) text banks inputs h.0 (Err e) h.1 sound whole h.2
+aif_image law inputs base relocatable text banks (Err (fault.ReadFault q)) whole sound h = h
+aif_image law inputs base relocatable text banks (Err fault.NoMemory) whole sound h = tt
 
-pub plain_image : PlainImagesLoad → (inputs : List (Named Linkable)) (base : ℕ) (text : List ℕ) (banks : Option (List Bank)) (r : Result Image Fault) → base % 4 ≡ 0
+pub plain_image : ImagesArePlaced → (inputs : List (Named Linkable)) (base : ℕ) (text : List ℕ) (banks : Option (List Bank)) (r : Result Image Fault) → base % 4 ≡ 0
     → LinksSound (objects_among inputs) (archives_among inputs) → Links (objects_among inputs) (archives_among inputs) (linking (kind.Plain base) None) r
     → Tells r (ImageIs (form.Plain base) text banks inputs)
-plain_image loads inputs base text banks (Ok i) whole sound h =
-    record { objects = h.0; linked = h.1; links = sym h.2; memory = same_memory (form.Plain base) h.0 i (loads base h.0 i (sound h.0 h.1) whole h.2) }
-plain_image loads inputs base text banks (Err (fault.Refused e)) whole sound h = record { objects = h.0; linked = h.1; links = sym h.2; memory = no_memory (form.Plain base) h.0 e }
-plain_image loads inputs base text banks (Err (fault.ReadFault q)) whole sound h = h
-plain_image loads inputs base text banks (Err fault.NoMemory) whole sound h = tt
+plain_image law inputs base text banks (Ok i) whole sound h = of_inputs law (form.Plain base) text banks inputs h.0 (Ok i) h.1 sound whole (sym h.2)
+plain_image law inputs base text banks (Err (fault.Refused e)) whole sound h = of_inputs law (form.Plain base) text banks inputs h.0 (Err e) h.1 sound whole (sym h.2)
+plain_image law inputs base text banks (Err (fault.ReadFault q)) whole sound h = h
+plain_image law inputs base text banks (Err fault.NoMemory) whole sound h = tt
 
 -- ---- what is written of it
 

@@ -12,16 +12,17 @@ use Rattle.scatter_text.specs.Validity.{AreDistinct}
 use Rattle.link_model.specs.declared.images.Image.{Image}
 use Rattle.link_model.specs.declared.images.ImageKind.{ImageKind}
 use Rattle.link_model.specs.declared.images.ImageKind.TheVariants as shape
+use Rattle.place_model.specs.declared.scatter.Kind.{Kind}
+use Rattle.place_model.specs.declared.scatter.Kind.TheVariants as kind
 use Rattle.bin_image.specs.declared.records.OutFile.{OutFile}
 use Rattle.bin_image.specs.Files.{files_of}
 use Rattle.tool_answers.specs.Outcomes.{written}
 use Rattle.tool_words.specs.declared.command.LinkForm.{LinkForm}
 use Rattle.tool_words.specs.declared.command.LinkForm.TheVariants as form
-use Rattle.sdt_toolkit.specs.Headline.{Reaches}
-use Rattle.sdt_toolkit.specs.Links.{files_as, image_files, outputs}
+use Rattle.sdt_toolkit.specs.Links.{IsAskedAs, files_as, image_files, outputs, text_in}
 use Rattle.sdt_toolkit.specs.RunImages.{HasFiles}
 use Rattle.sdt_toolkit.specs.Runs.{CommandsStart, LinkedRunsStart}
-use Rattle.sdt_toolkit.specs.Starting.{written_in}
+use Rattle.sdt_toolkit.specs.Starting.{Reaches, written_in}
 
 -- ---- files that are written
 
@@ -63,7 +64,9 @@ scatter_files (shape.Aif relocatable) out i e = absurd cc
 
 pub linked_runs_start : CommandsStart → LinkedRunsStart
 linked_runs_start law sources w description before after i views r o seats left a is_scatter line some link told by_map allow answers =
-    let (boots, can) : Reaches (form.Scatter description) i views = subst (λ (f : LinkForm). Reaches f i views) is_scatter link.reaches in
+    let asked : IsAskedAs (form.Scatter description) (text_in w.form link.contents) w.ram link.shape link.ram =
+    subst (λ (f : LinkForm). IsAskedAs f (text_in w.form link.contents) w.ram link.shape link.ram) is_scatter link.asked in
+    let (boots, can) : Reaches (kind.Scatter asked.0) i views = subst (λ (k : Kind). Reaches k i views) asked.2 link.placed.reaches in
     let same : image_files w.output i ≡ files_of i w.output = scatter_files i.kind w.output i (can.filed w.output line some).scatter in
     let files : Files = written before (outputs (files_of i w.output)) in
     let are : o.before ≡ Some files = told ∙ link.left ∙ ap (λ (fs : List OutFile). Some (written before (outputs fs))) same in

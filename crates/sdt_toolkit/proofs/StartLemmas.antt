@@ -1,19 +1,12 @@
--- A link that is answered is made, and what its image is in memory.
-use Rattle.std.proofs.Common.{◌≡◌, ℕ, suc, ◌+◌, ◌%◌, ◌<◌, ◌==◌, not, Bool, true, false, cond, nat_lt, if◌then◌else◌, List, [], ◌∷◌, ◌++◌, length, map, append_assoc, Option, Some, None, Result, Ok, Err, refl, sym, ap, ◌∙◌, subst, arith}
-use Rattle.std.specs.Prelude.{slice_get, unwrap_or}
+-- What a scatter image and an image of bytes alone are in memory: their files, moved and cleared, are the view of their plan.
+use Rattle.std.proofs.Common.{◌≡◌, ℕ, suc, ◌+◌, ◌%◌, ◌<◌, ◌==◌, not, Bool, true, false, cond, if◌then◌else◌, List, [], ◌∷◌, ◌++◌, length, map, append_assoc, Option, Some, None, Result, Ok, Err, refl, sym, ap, ◌∙◌, subst, arith}
+use Rattle.std.specs.Prelude.{unwrap_or}
 use Rattle.std.specs.List.{filter, flat_map, find, AllByRecursion}
 use Rattle.std.specs.Option.{option_map}
 use Rattle.base_lemmas.proofs.BaseLemmas.{all_weaker}
 use Rattle.sdt_word.specs.Numbers.{flag}
 use Rattle.sdt_word.specs.declared.ranges.Range32.{Range32}
-use Rattle.sdt_fault.specs.declared.kinds.Quantity.{Quantity}
-use Rattle.sdt_fault.specs.declared.kinds.Quantity.TheVariants.{Areas, Symbols}
-use Rattle.sdt_fault.specs.declared.refusal.Refusal.{Refusal}
-use Rattle.sdt_fault.specs.declared.refusal.Refusal.TheVariants.{TooLarge}
-use Rattle.chunk_file.specs.Reading.{◌>>=◌}
-use Rattle.aof_object.specs.declared.records.Entry.{Entry}
 use Rattle.aof_object.specs.declared.records.Object.{Object}
-use Rattle.aof_object.specs.Validity.{IsValid}
 use Rattle.boot_code.specs.declared.rows.CopyRow.{CopyRow}
 use Rattle.boot_code.specs.declared.rows.ZeroRow.{ZeroRow}
 use Rattle.boot_code.specs.Boots.{ByteMap, Boots, moved, zeroed}
@@ -38,7 +31,7 @@ use Rattle.place_model.specs.Plans.{Contents, areas_in, veneers_in, Planned, len
 use Rattle.place_model.specs.Things.{Thing, AnArea, Startup, start_of, size_of, Stood, stood}
 use Rattle.place_model.proofs.ListLemmas.{all_flat}
 use Rattle.place_model.proofs.SpanLemmas.{or_none}
-use Rattle.image_model.specs.Regions.{Filling, AreSized}
+use Rattle.image_model.specs.Regions.{Filling, Given, AreSized, filled}
 use Rattle.image_model.specs.Views.{IsView, view_of, IsLoadView, files_of}
 use Rattle.image_laws.proofs.FileLemmas.{overlap_none, is_load_view, moved_view}
 use Rattle.image_laws.proofs.PlainLemmas.{plain_law}
@@ -50,198 +43,27 @@ use Rattle.link_model.specs.declared.placing.Placement.{Placement}
 use Rattle.link_model.specs.declared.placing.Region.{Region}
 use Rattle.link_model.specs.declared.placing.Veneer.{Veneer}
 use Rattle.link_model.specs.declared.selection.Linked.{Linked}
-use Rattle.link_model.specs.declared.selection.LinkedEntry.{LinkedEntry}
 use Rattle.link_model.specs.declared.selection.Named.{Named}
-use Rattle.link_model.specs.Definitions.{definitions_from, is_thumb, linked_entry}
-use Rattle.link_model.specs.Members.{link_of, objects_in}
-use Rattle.link_model.specs.Options.{refused_or}
-use Rattle.link_model.specs.RegionValues.{region_number}
-use Rattle.link_select.specs.declared.entries.Entered.{Entered}
-use Rattle.link_select.specs.Entries.{entered_by, entered_from, only_entry}
-use Rattle.link_select.specs.Exports.{duplicate}
-use Rattle.link_select.specs.Selection.{count_areas, count_symbols, judged, limited, refused, selection_of}
-use Rattle.link_select.specs.Undefined.{undefined}
+use Rattle.link_model.specs.Members.{link_of}
+use Rattle.link_model.specs.Veneers.{veneers_of}
 use Rattle.link_items.specs.LinkedItems.{contents_of, has_header, items_in}
-use Rattle.link_assign.specs.Assigning.{assignment_of}
-use Rattle.link_veneer.specs.Planning.{planned_veneers}
-use Rattle.link_place.specs.Placed.{placed}
-use Rattle.link_apply.specs.Applied.{applied}
-use Rattle.link_apply.specs.Flaws.{apply_refusal}
-use Rattle.link_apply.specs.Laws.{AreBytes}
+use Rattle.link_place.specs.Placed.{placement_of}
 use Rattle.link_apply.specs.RegionBytes.{regions_bytes}
-use Rattle.link_laws.specs.Joins.{IsEntryOf, IsMade, PlacesOf, bytes_of_load, files_from, given_in, filled_in}
-use Rattle.link_laws.specs.Placing.{bases_of, IsHeaderOf, region_with, veneers_in as region_veneers, link_plan, values_in, IsPlacedLink}
+use Rattle.link_laws.specs.Joins.{IsMade, PlacesOf, bytes_of_load, files_from, given_in, filled_in}
+use Rattle.link_laws.specs.Placing.{link_plan, IsPlacedLink}
+use Rattle.link_laws.specs.Plans.{AreSeenBy, IsSelection, entry_by, header_by}
 use Rattle.link_laws.proofs.MadeAppliedLemmas.{made_has_places, made_is_applied}
 use Rattle.link_laws.proofs.MadeBytesLaws.{made_sized, made_has_files}
-use Rattle.link_laws.proofs.MadePlacedLemmas.{made_is_placed}
+use Rattle.link_laws.proofs.MadePlacedLemmas.{are_needed, made_is_placed}
 use Rattle.link_laws.proofs.MadeStart.{made_boots}
-use Rattle.link_laws.proofs.PlacedLemmas.{objects_are_placed}
-use Rattle.link_laws.proofs.ShownLemmas.{objects_are_shown, ranges_exist}
-use Rattle.armlink_core.specs.declared.making.Made.{Made}
-use Rattle.armlink_core.specs.Linking.{made_at, made_of, made_with, symbols_of}
-use Rattle.armlink_core.specs.Images.{bytes_in, described, image_made, image_of, linking, loads_from as regions_loaded}
-use Rattle.armlink_core.specs.Moves.{can_move, moves_in}
+use Rattle.link_laws.proofs.PlanSeen.{entry_whole, views_are_seen}
+use Rattle.armlink_core.specs.Images.{bytes_in, image_of, linking, loads_from as regions_loaded}
 use Rattle.armlink_core.specs.Sizes.{zeros_in}
-use Rattle.link_shifts.specs.Moves.{moved as moved_list}
-use Rattle.sdt_toolkit.specs.Starting.{AreSound, AreShownIn, Loads, PlainImagesLoad, ScatterImagesStart, Starts, segments_of}
+use Rattle.sdt_toolkit.specs.Plans.{HasViews, IsPlacedAs}
+use Rattle.sdt_toolkit.specs.Starting.{AreSound, segments_of}
 use Rattle.sdt_toolkit.proofs.RunLinks.{can_run}
 use Rattle.sdt_toolkit.proofs.RunNames.{IsNamedLoad, named_by}
-
--- ---- answers
-
-ok_same : {A : Type 0} (a b : A) → ◌≡◌ {A = Result A Refusal} (Ok a) (Ok b) → a ≡ b
-ok_same a b h = cc
-
-steps_ok : {A B : Type 0} (x : Result A Refusal) (f : A → Result B Refusal) (b : B) → (x >>= f) ≡ Ok b → (a : A) × (x ≡ Ok a) × (f a ≡ Ok b)
-steps_ok (Ok a) f b h = (a, refl, h)
-steps_ok {B = B} (Err r) f b h = absurd (let bad : ◌≡◌ {A = Result B Refusal} (Err r) (Ok b) = h in cc)
-
-pub not_refused : {A : Type 0} (o : Option Refusal) (x y : A) → refused_or o x ≡ Ok y → (o ≡ None) × (y ≡ x)
-not_refused None x y h = (refl, cc)
-not_refused (Some r) x y h = absurd cc
-
-past_refusal : {A : Type 0} (o : Option Refusal) (next : Result A Refusal) (a : A) → refused o next ≡ Ok a → next ≡ Ok a
-past_refusal None next a h = h
-past_refusal {A = A} (Some r) next a h = absurd (let bad : ◌≡◌ {A = Result A Refusal} (Err r) (Ok a) = h in cc)
-
-past_limit : {A : Type 0} (q : Quantity) (limit n : ℕ) (next : Result A Refusal) (a : A) → limited q limit n next ≡ Ok a → next ≡ Ok a
-past_limit {A = A} q limit n next a h = go (nat_lt limit n) h
-  where
-    go : (b : Bool) → cond b (Err (TooLarge q limit)) next ≡ Ok a → next ≡ Ok a
-    go true e = absurd (let bad : ◌≡◌ {A = Result A Refusal} (Err (TooLarge q limit)) (Ok a) = e in cc)
-    go false e = e
-
--- ---- the entry
-
--- of objects that are counted from i on
-record IsEntryFrom (i : ℕ) (os : List (Named Object)) (e : LinkedEntry) : Type 0 where
-  pub place : ℕ
-  pub object : Named Object
-  pub at : slice_get os place ≡ Some object
-  pub number : e.object ≡ i + place
-  pub entry : object.value.entry ≡ Some (record { area = e.area; offset = e.offset })
-  pub state : e.thumb ≡ is_thumb (slice_get object.value.areas e.area)
-
-entry_here : (i : ℕ) (o : Named Object) (os : List (Named Object)) (f : Entry) → o.value.entry ≡ Some f → IsEntryFrom i (o ∷ os) (linked_entry i o.value f)
-entry_here i o os f h = record { place = 0; object = o; at = refl; number = omega arith; entry = h; state = refl }
-
-entry_later : (i : ℕ) (o : Named Object) (os : List (Named Object)) (e : LinkedEntry) → IsEntryFrom (suc i) os e → IsEntryFrom i (o ∷ os) e
-entry_later i o os e f =
-    record { place = suc f.place; object = f.object; at = f.at; number = omega (arith, f.number); entry = f.entry; state = f.state }
-
-entry_from : (i : ℕ) (os : List (Named Object)) (x : Entered) → entered_from i os ≡ x ∷ [] → IsEntryFrom i os x.entry
-entry_from i [] x h = absurd cc
-entry_from i (o ∷ os) x h = go o.value.entry refl h (λ k. entry_later i o os x.entry (entry_from (suc i) os x k))
-  where
-    go : (e : Option Entry) → o.value.entry ≡ e → entered_by i o e ++ entered_from (suc i) os ≡ x ∷ [] → (entered_from (suc i) os ≡ x ∷ [] → IsEntryFrom i (o ∷ os) x.entry)
-        → IsEntryFrom i (o ∷ os) x.entry
-    go None at k later = later k
-    go (Some f) at k later =
-        let first : record { name = o.name; entry = linked_entry i o.value f } ≡ x = cc in
-        subst (λ (y : Entered). IsEntryFrom i (o ∷ os) y.entry) first (entry_here i o os f at)
-
-only_one : (es : List Entered) (e : LinkedEntry) → only_entry es ≡ Ok e → (x : Entered) × (es ≡ x ∷ []) × (x.entry ≡ e)
-only_one [] e h = absurd cc
-only_one (x ∷ []) e h = (x, refl, ok_same x.entry e h)
-only_one (x ∷ y ∷ es) e h = absurd cc
-
-judged_entry : (regions : Option (List (List ℕ))) (os : List (Named Object)) (e : LinkedEntry) → judged regions os ≡ Ok e → IsEntryFrom 0 os e
-judged_entry regions os e h =
-    let limits : LinkedEntry → Result LinkedEntry Refusal = λ e. limited Areas 65535 (count_areas os) (limited Symbols 1000000 (count_symbols os) (Ok e)) in
-    let chosen : Result LinkedEntry Refusal = only_entry (entered_from 0 os) >>= limits in
-    let h1 : chosen ≡ Ok e = past_refusal (undefined regions os) chosen e (past_refusal (duplicate os) (refused (undefined regions os) chosen) e h) in
-    let (f, only, within) = steps_ok (only_entry (entered_from 0 os)) limits e h1 in
-    let same : f ≡ e = ok_same f e (past_limit Symbols 1000000 (count_symbols os) (Ok f) e (past_limit Areas 65535 (count_areas os) (limited Symbols 1000000 (count_symbols os) (Ok f)) e within)) in
-    let (x, list, entry) = only_one (entered_from 0 os) f only in
-    subst (IsEntryFrom 0 os) (entry ∙ same) (entry_from 0 os x list)
-
-record IsSelected (os : List (Named Object)) (l : Linked) : Type 0 where
-  pub objects : l.objects ≡ os
-  pub entered : IsEntryOf l
-
-linked_by : List (Named Object) → LinkedEntry → Linked
-linked_by os e = record { objects = os; definitions = definitions_from 0 (objects_in os); entry = e }
-
-selected_by : (os : List (Named Object)) (e : LinkedEntry) → IsEntryFrom 0 os e → IsSelected os (record { objects = os; definitions = definitions_from 0 (objects_in os); entry = e })
-selected_by os e f = record {
-  objects = refl;
-  entered = record { object = f.object; at = subst (λ (n : ℕ). slice_get os n ≡ Some f.object) (omega (arith, f.number)) f.at; entry = f.entry; state = f.state };
-}
-
-selected : (regions : Option (List (List ℕ))) (os : List (Named Object)) (l : Linked) → selection_of regions os ≡ Ok l → IsSelected os l
-unfolding selection_of
-selected regions os l h =
-    let (e, judge, is) = steps_ok (judged regions os) (λ e. Ok (record { objects = os; definitions = definitions_from 0 (objects_in os); entry = e })) l h in
-    let one : Linked = record { objects = os; definitions = definitions_from 0 (objects_in os); entry = e } in
-    subst (IsSelected os) (ok_same one l is) (selected_by os e (judged_entry regions os e judge))
-
--- ---- a link that is answered
-
-abbrev pub made_by : (l : Linked) → Assigned → List Veneer → Placement → Made
-made_by l a vs p = record { linked = l; assigned = a; veneers = vs; placement = p; bytes = regions_bytes (link_of l) p }
-
-pub record IsAnswered (k : Kind) (ram : Option (List Range32)) (os : List (Named Object)) (i : Image) : Type 0 where
-  pub linked : Linked
-  pub assigned : Assigned
-  pub veneers : List Veneer
-  pub placement : Placement
-  pub objects : linked.objects ≡ os
-  pub made : IsMade k ram linked assigned veneers placement
-  pub moves : List ℕ
-  pub listed : moves_in k linked placement ≡ Ok moves
-  pub image : image_of k (made_by linked assigned veneers placement) moves ≡ i
-
-nothing_moves : (k : Kind) (l : Linked) (p : Placement) → can_move k ≡ false → moves_in k l p ≡ Ok []
-nothing_moves k l p fixed = ap (λ (b : Bool). if b then moved_list l p else Ok []) fixed
-
--- the image of a link of which nothing moves
-pub still_image : (k : Kind) (ram : Option (List Range32)) (os : List (Named Object)) (i : Image) → can_move k ≡ false → (n : IsAnswered k ram os i)
-    → image_of k (made_by n.linked n.assigned n.veneers n.placement) [] ≡ i
-still_image k ram os i fixed n =
-    let none : [] ≡ n.moves = ok_same [] n.moves (sym (nothing_moves k n.linked n.placement fixed) ∙ n.listed) in
-    ap (λ (moves : List ℕ). image_of k (made_by n.linked n.assigned n.veneers n.placement) moves) none ∙ n.image
-
-module _ (k : Kind) (ram : Option (List Range32)) (os : List (Named Object)) (i : Image) (sound : AreSound os)
-    (loads : AllByRecursion (λ load. load.base % 4 ≡ 0) (description k)) (bases : AllByRecursion (λ r. IsWholeBase r.base) (described_regions k)) where
-  with_placement : (l : Linked) (a : Assigned) (vs : List Veneer) (p : Placement) (m : Made) (moves : List ℕ) → IsSelected os l → assignment_of k l.objects ≡ Ok a
-      → planned_veneers l a (has_header k) ≡ Ok vs → placed k ram (contents_of l.objects a.regions vs) ≡ Ok p → made_at l a vs p ≡ Ok m
-      → moves_in k m.linked m.placement ≡ Ok moves → image_of k m moves ≡ i → IsAnswered k ram os i
-  with_placement l a vs p m moves s assigned planned places made listed image =
-      let (bytes, applies, is) = steps_ok (applied l p) (λ bytes. Ok (record { linked = l; assigned = a; veneers = vs; placement = p; bytes = bytes })) m made in
-      let one : Made = record { linked = l; assigned = a; veneers = vs; placement = p; bytes = bytes } in
-      let (none, same) = not_refused (apply_refusal l p) (regions_bytes (link_of l) p) bytes applies in
-      record {
-        linked = l;
-        assigned = a;
-        veneers = vs;
-        placement = p;
-        objects = s.objects;
-        made = record {
-          valid = subst (λ (xs : List (Named Object)). AllByRecursion (λ o. IsValid o.value) xs) (sym s.objects) sound.valid;
-          bytes = subst (λ (xs : List (Named Object)). AllByRecursion (λ o. AllByRecursion (λ z. AreBytes z.bytes) o.value.areas) xs) (sym s.objects) sound.bytes;
-          loads = loads;
-          bases = bases;
-          entered = s.entered;
-          assigned = assigned;
-          planned = planned;
-          placed = places;
-          sound = none;
-        };
-        moves = moves;
-        listed = subst (λ (n : Made). moves_in k n.linked n.placement ≡ Ok moves) (sym (ok_same one m is)) listed;
-        image = ap (λ (b : List (List ℕ)). image_of k (record { linked = l; assigned = a; veneers = vs; placement = p; bytes = b }) moves) (sym same)
-            ∙ ap (λ (n : Made). image_of k n moves) (ok_same one m is) ∙ image;
-      }
-
-  pub answered : linking k ram os ≡ Ok i → IsAnswered k ram os i
-  answered h =
-      let (l, selection, behind) = steps_ok (selection_of (Some (symbols_of k)) os) (λ l. made_of k ram l >>= image_made k) i h in
-      let (m, made, image) = steps_ok (made_of k ram l) (image_made k) i behind in
-      let (moves, listed, is) = steps_ok (moves_in k m.linked m.placement) (λ moves. Ok (image_of k m moves)) i image in
-      let (a, assigned, behind_regions) = steps_ok (assignment_of k l.objects) (made_with k ram l) m made in
-      let (vs, planned, behind_veneers) = steps_ok (planned_veneers l a (has_header k)) (λ vs. placed k ram (contents_of l.objects a.regions vs) >>= made_at l a vs) m behind_regions in
-      let (p, places, behind_places) = steps_ok (placed k ram (contents_of l.objects a.regions vs)) (made_at l a vs) m behind_veneers in
-      with_placement l a vs p m moves (selected (Some (symbols_of k)) os l selection) assigned planned places behind_places listed (ok_same (image_of k m moves) i is)
+use Rattle.sdt_toolkit.proofs.SelectionLemmas.{IsAnswered, IsAnsweredBy, answered, made_by, still_image}
 
 -- ---- its load regions
 
@@ -262,24 +84,39 @@ segments_alike number rs parts (l ∷ loads) =
 
 -- ---- what they are in memory
 
-module _ (k : Kind) (ram : Option (List Range32)) (l : Linked) (a : Assigned) (vs : List Veneer) (p : Placement) (h : IsMade k ram l a vs p) (plain : has_header k ≡ false) where
+header_none : (k : Kind) (p : Plan) (g : Given) → has_header k ≡ false → header_by k p g ≡ []
+header_none (kind.Scatter s) p g e = refl
+header_none (kind.Plain base) p g e = refl
+header_none (kind.Aif base relocatable) p g e = absurd cc
+
+module _ (k : Kind) (ram : Option (List Range32)) (l : Linked) (a : Assigned) (vs : List Veneer) (h : IsMade k ram l a vs (placement_of (link_plan k l a.regions vs)))
+    (chosen : IsSelection l) (plain : has_header k ≡ false) where
   abbrev plan : Plan
   plan = link_plan k l a.regions vs
 
+  abbrev own : Placement
+  own = placement_of plan
+
+  abbrev given : Given
+  given = given_in (link_of l) own
+
   abbrev held : Filling
-  held = filled_in l p plan
+  held = filled_in l own plan
 
   abbrev made_view : ByteMap
   made_view = view_of plan held
 
   abbrev made_image : Image
-  made_image = image_of k (made_by l a vs p) []
+  made_image = image_of k (made_by l a vs own) []
 
   is_placed : IsPlacedLink k ram l a.regions vs
-  is_placed = made_is_placed k ram l a vs p h
+  is_placed = made_is_placed k ram l a vs own h
+
+  is_needed : vs ≡ veneers_of (link_of l) a.regions (has_header k)
+  is_needed = are_needed k ram l a vs own h
 
   are_sized : AreSized held plan
-  are_sized = made_sized k ram l a vs p h plain
+  are_sized = made_sized k ram l a vs own h plain
 
   is_shown : IsView plan held made_view
   is_shown = is_view plan held (or_none (load_meeting plan) (execution_meeting plan) (overlap_none k ram plan is_placed.accepted)).1 are_sized
@@ -289,27 +126,18 @@ module _ (k : Kind) (ram : Option (List Range32)) (l : Linked) (a : Assigned) (v
 
   segments_same : segments_of made_image ≡ files_of plan held
   segments_same =
-      segments_alike 0 p.regions (regions_bytes (link_of l) p) (description k) ∙ sym (made_has_files k ram l a vs p h plain)
+      segments_alike 0 own.regions (regions_bytes (link_of l) own) (description k) ∙ sym (made_has_files k ram l a vs own h plain)
 
-  header_none : (q : Kind) → has_header q ≡ false → IsHeaderOf q []
-  header_none (kind.Scatter s) e = tt
-  header_none (kind.Plain base) e = tt
-  header_none (kind.Aif base relocatable) e = absurd cc
+  its_files : IsLoadView plan made_view (segments_of made_image)
+  its_files = subst (IsLoadView plan made_view) (sym segments_same) is_loaded
 
-  objects_shown : AreShownIn made_view l.objects
-  objects_shown own o at =
-      let numbers : List ℕ → Option ℕ = region_number (objects_in l.objects) p in
-      let (region, ranges) = ranges_exist k ram l a.regions vs is_placed own in
-      record {
-        number = own;
-        values = values_in plan l numbers own;
-        area_at = bases_of plan;
-        region = region;
-        veneers = λ area. region_veneers (region_with plan own area);
-        placed = objects_are_placed k ram l a.regions vs numbers is_placed own o at;
-        shown = objects_are_shown k ram l a.regions vs numbers (given_in (link_of l) p) [] made_view is_placed (made_is_applied k ram l a vs p h)
-            (header_none k plain) is_shown own o at region ranges;
-      }
+  whole_entry : made_image.entry ≡ entry_by plan l
+  whole_entry = entry_whole k ram l a vs is_placed chosen.entered
+
+  are_seen : AreSeenBy k plan l made_view
+  are_seen =
+      views_are_seen k ram l a vs given made_view is_placed is_needed chosen (made_is_applied k ram l a vs own h) (ap (λ (n : ℕ). n + flag l.entry.thumb) whole_entry)
+      (subst (λ (header : List ℕ). IsView plan (filled given plan header) made_view) (sym (header_none k plan given plain)) is_shown)
 
 -- ---- a scatter image
 
@@ -359,90 +187,133 @@ whole_bases s v =
     (all_weaker IsValidLoad (λ l. AllByRecursion (λ r. IsWholeBase r.base) l.regions)
     (λ l one. all_weaker valid.AreWhole (λ r. IsWholeBase r.base) (λ r both. is_whole_base r.base both.0) l.regions one.regions) s.loads v.each)
 
-module _ (s : Scatter) (ram : Option (List Range32)) (l : Linked) (a : Assigned) (vs : List Veneer) (p : Placement) (h : IsMade (kind.Scatter s) ram l a vs p)
+module _ (s : Scatter) (ram : Option (List Range32)) (l : Linked) (a : Assigned) (vs : List Veneer)
+    (h : IsMade (kind.Scatter s) ram l a vs (placement_of (link_plan (kind.Scatter s) l a.regions vs))) (chosen : IsSelection l)
     (v : valid.IsValid s.loads) (named : AllByRecursion IsNamedLoad s.loads) where
   abbrev scattered : Plan
-  scattered = plan (kind.Scatter s) ram l a vs p h refl
+  scattered = plan (kind.Scatter s) ram l a vs h chosen refl
+
+  abbrev its_own : Placement
+  its_own = placement_of scattered
 
   abbrev filling : Filling
-  filling = held (kind.Scatter s) ram l a vs p h refl
+  filling = held (kind.Scatter s) ram l a vs h chosen refl
 
   abbrev its_view : ByteMap
-  its_view = made_view (kind.Scatter s) ram l a vs p h refl
+  its_view = made_view (kind.Scatter s) ram l a vs h chosen refl
 
   abbrev its_image : Image
-  its_image = made_image (kind.Scatter s) ram l a vs p h refl
+  its_image = made_image (kind.Scatter s) ram l a vs h chosen refl
 
-  its_places : PlacesOf p scattered
-  its_places = made_has_places (kind.Scatter s) ram l a vs p h
+  its_places : PlacesOf its_own scattered
+  its_places = made_has_places (kind.Scatter s) ram l a vs its_own h
 
-  starts : Starts l.objects its_image
-  starts =
+  scatter_placed : (os : List (Named Object)) → l.objects ≡ os → IsPlacedAs (kind.Scatter s) ram os its_image (λ to. its_view)
+  scatter_placed os objects =
       let k : Kind = kind.Scatter s in
       let (boot, there) = has_boot s (contents_of l.objects a.regions vs) v in
-      let at : p.boot ≡ Some boot = its_places.boot ∙ there in
-      let start : its_image.start ≡ boot = ap (λ (o : Option ℕ). unwrap_or o 0) at in
-      let files : segments_of its_image ≡ files_of scattered filling = segments_same k ram l a vs p h refl in
+      let start : its_image.start ≡ boot = ap (λ (o : Option ℕ). unwrap_or o 0) there in
+      let files : segments_of its_image ≡ files_of scattered filling = segments_same k ram l a vs h chosen refl in
       -- the rows of the image's regions are those of the plan
-      let Loaded : List CopyRow → List ZeroRow → ByteMap = λ copies parts x. zeroed (Some 0) (moved (map_of (segments_of its_image)) copies) parts x in
       let Booted : List CopyRow → List ZeroRow → Type 0 = λ copies parts.
       Boots (map_of (segments_of its_image)) its_view (written_by copies parts) its_image.start (bound_of copies parts) (its_image.entry + flag its_image.thumb) in
       let by_plan : Booted (copies_of scattered) (parts_of scattered) =
       subst (λ (n : ℕ). Boots (map_of (segments_of its_image)) its_view (written_by (copies_of scattered) (parts_of scattered)) n (bound_of (copies_of scattered) (parts_of scattered)) (its_image.entry + flag its_image.thumb)) (sym start)
       (subst (λ (fs : List Segment). Boots (map_of fs) its_view (written_by (copies_of scattered) (parts_of scattered)) boot (bound_of (copies_of scattered) (parts_of scattered)) (its_image.entry + flag its_image.thumb)) (sym files)
-      (made_boots s ram l a vs p boot h at)) in
+      (made_boots s ram l a vs its_own boot h there)) in
       record {
-        view = its_view;
-        loaded = λ x b shows.
-            (λ i. Loaded (its_places.copies i) (its_places.parts i) x)
-            ∙ subst (λ (fs : List Segment). zeroed (Some 0) (moved (map_of fs) (copies_of scattered)) (parts_of scattered) x ≡ Some b) (sym files)
-            (moved_view scattered filling its_view (files_of scattered filling) (is_shown k ram l a vs p h refl) (is_loaded k ram l a vs p h refl) x b shows);
-        boots =
-            subst (λ (copies : List CopyRow). Booted copies (zeros_in p.regions)) (sym its_places.copies)
-            (subst (λ (parts : List ZeroRow). Booted (copies_of scattered) parts) (sym its_places.parts) by_plan);
-        shown = objects_shown k ram l a vs p h refl;
-        runs = can_run s ram l a vs p h boot at v named files (is_shown k ram l a vs p h refl) (is_loaded k ram l a vs p h refl);
+        link = l;
+        assigned = a;
+        veneers = vs;
+        placement = its_own;
+        objects = objects;
+        selected = chosen;
+        made = h;
+        places = refl;
+        placed = is_placed k ram l a vs h chosen refl;
+        needed = is_needed k ram l a vs h chosen refl;
+        told = record {
+          regions = refl;
+          start = there ∙ ap Some (sym start);
+          bound = λ i. bound_of (its_places.copies i) (its_places.parts i);
+          thumb = refl;
+        };
+        seen = λ to fits. are_seen k ram l a vs h chosen refl;
+        files = λ to fits. record {
+            files = its_files k ram l a vs h chosen refl;
+            moved = λ x b shows.
+                subst (λ (fs : List Segment). zeroed (Some 0) (moved (map_of fs) (copies_of scattered)) (parts_of scattered) x ≡ Some b) (sym files)
+                (moved_view scattered filling its_view (files_of scattered filling) (is_shown k ram l a vs h chosen refl) (is_loaded k ram l a vs h chosen refl) x b shows);
+        };
+        entry = λ to fits. whole_entry k ram l a vs h chosen refl;
+        reaches = (
+          subst (λ (copies : List CopyRow). Booted copies (zeros_in its_own.regions)) (sym its_places.copies)
+              (subst (λ (parts : List ZeroRow). Booted (copies_of scattered) parts) (sym its_places.parts) by_plan),
+          can_run s ram l a vs its_own h boot there v named files (is_shown k ram l a vs h chosen refl) (is_loaded k ram l a vs h chosen refl),
+        );
       }
 
-answered_starts : (s : Scatter) (ram : Option (List Range32)) (os : List (Named Object)) (i : Image) → valid.IsValid s.loads → AllByRecursion IsNamedLoad s.loads → IsAnswered (kind.Scatter s) ram os i → Starts os i
-answered_starts s ram os i v named n =
-    subst (Starts os) (still_image (kind.Scatter s) ram os i refl n) (subst (λ (xs : List (Named Object)). Starts xs (made_image (kind.Scatter s) ram n.linked n.assigned n.veneers n.placement n.made refl)) n.objects
-    (starts s ram n.linked n.assigned n.veneers n.placement n.made v named))
+scatter_answered : (s : Scatter) (ram : Option (List Range32)) (os : List (Named Object)) (i : Image) → valid.IsValid s.loads → AllByRecursion IsNamedLoad s.loads → IsAnswered (kind.Scatter s) ram os i
+    → HasViews (kind.Scatter s) ram os i
+scatter_answered s ram os i v named n =
+    let k : Kind = kind.Scatter s in
+    let p : Placement = placement_of (link_plan k n.linked n.assigned.regions n.veneers) in
+    subst (HasViews k ram os) (still_image k ram i n.linked n.assigned n.veneers p refl n.answer)
+    ((λ to. its_view s ram n.linked n.assigned n.veneers n.answer.made n.selection v named), scatter_placed s ram n.linked n.assigned n.veneers n.answer.made n.selection v named os n.objects)
 
-described_starts : ReadingLaw → (text : List ℕ) (d : Result Scatter Refusal) → scatter_of text ≡ d → (ram : Option (List Range32)) (os : List (Named Object)) (i : Image)
-    → AreSound os → described d ram os ≡ Ok i → Starts os i
-described_starts law text (Err r) at ram os i sound h =
-    let l = steps_ok (selection_of None os) (λ l. Err r) i h in
-    absurd (let bad : ◌≡◌ {A = Result Image Refusal} (Err r) (Ok i) = l.2 in cc)
-described_starts law text (Ok s) at ram os i sound h =
+pub scatter_views : ReadingLaw → (s : Scatter) (text : List ℕ) → scatter_of text ≡ Ok s → (ram : Option (List Range32)) (os : List (Named Object)) (i : Image)
+    → AreSound os → linking (kind.Scatter s) ram os ≡ Ok i → HasViews (kind.Scatter s) ram os i
+scatter_views law s text at ram os i sound h =
     let (spelled, v) = (law text s).0 at in
-    answered_starts s ram os i v (named_by text s.loads spelled)
+    scatter_answered s ram os i v (named_by text s.loads spelled)
     (answered (kind.Scatter s) ram os i sound (all_weaker IsValidLoad (λ l. l.base % 4 ≡ 0) (λ l one. one.base.1) s.loads v.each) (whole_bases s v) h)
-
-pub scatter_images_start : ReadingLaw → ScatterImagesStart
-scatter_images_start law text ram os i sound h = described_starts law text (scatter_of text) refl ram os i sound h
 
 -- ---- an image of bytes alone
 
-module _ (base : ℕ) (l : Linked) (a : Assigned) (vs : List Veneer) (p : Placement) (h : IsMade (kind.Plain base) None l a vs p) where
-  loads_itself : Loads l.objects (made_image (kind.Plain base) None l a vs p h refl)
-  loads_itself =
+module _ (base : ℕ) (ram : Option (List Range32)) (l : Linked) (a : Assigned) (vs : List Veneer)
+    (h : IsMade (kind.Plain base) ram l a vs (placement_of (link_plan (kind.Plain base) l a.regions vs))) (chosen : IsSelection l) where
+  abbrev plain_plan : Plan
+  plain_plan = plan (kind.Plain base) ram l a vs h chosen refl
+
+  abbrev plain_view : ByteMap
+  plain_view = made_view (kind.Plain base) ram l a vs h chosen refl
+
+  abbrev plain_image : Image
+  plain_image = made_image (kind.Plain base) ram l a vs h chosen refl
+
+  plain_placed : (os : List (Named Object)) → l.objects ≡ os → IsPlacedAs (kind.Plain base) ram os plain_image (λ to. plain_view)
+  plain_placed os objects =
       let k : Kind = kind.Plain base in
       let c : Contents = contents_of l.objects a.regions vs in
-      let files : List Segment = files_of (plan k None l a vs p h refl) (held k None l a vs p h refl) in
+      let filling : Filling = held k ram l a vs h chosen refl in
       record {
-        view = made_view k None l a vs p h refl;
-        parts = parts_of (plan k None l a vs p h refl);
-        cleared = λ x.
-            ap (λ (fs : List Segment). zeroed (Some 0) (map_of fs) (parts_of (plan k None l a vs p h refl)) x) (segments_same k None l a vs p h refl)
-            ∙ plain_law base c (items_in l.objects) (held k None l a vs p h refl) (made_view k None l a vs p h refl) files
-            (is_placed k None l a vs p h refl).assigned (is_shown k None l a vs p h refl) (is_loaded k None l a vs p h refl) x;
-        shown = objects_shown k None l a vs p h refl;
+        link = l;
+        assigned = a;
+        veneers = vs;
+        placement = placement_of plain_plan;
+        objects = objects;
+        selected = chosen;
+        made = h;
+        places = refl;
+        placed = is_placed k ram l a vs h chosen refl;
+        needed = is_needed k ram l a vs h chosen refl;
+        told = record { regions = refl; start = refl; bound = refl; thumb = refl };
+        seen = λ to fits. are_seen k ram l a vs h chosen refl;
+        files = λ to fits. record {
+            files = its_files k ram l a vs h chosen refl;
+            cleared = λ x.
+                ap (λ (fs : List Segment). zeroed (Some 0) (map_of fs) (parts_of plain_plan) x) (segments_same k ram l a vs h chosen refl)
+                ∙ plain_law base c (items_in l.objects) filling plain_view (files_of plain_plan filling)
+                (is_placed k ram l a vs h chosen refl).assigned (is_shown k ram l a vs h chosen refl) (is_loaded k ram l a vs h chosen refl) x;
+        };
+        entry = λ to fits. whole_entry k ram l a vs h chosen refl;
+        reaches = tt;
       }
 
-pub plain_images_load : PlainImagesLoad
-plain_images_load base os i sound whole h =
+pub plain_views : (base : ℕ) (ram : Option (List Range32)) (os : List (Named Object)) (i : Image) → AreSound os → base % 4 ≡ 0 → linking (kind.Plain base) ram os ≡ Ok i → HasViews (kind.Plain base) ram os i
+plain_views base ram os i sound whole h =
     let k : Kind = kind.Plain base in
-    let n = answered k None os i sound (whole, tt) (whole, (refl, (refl, tt))) h in
-    subst (Loads os) (still_image k None os i refl n) (subst (λ (xs : List (Named Object)). Loads xs (made_image k None n.linked n.assigned n.veneers n.placement n.made refl)) n.objects
-    (loads_itself base n.linked n.assigned n.veneers n.placement n.made))
+    let n = answered k ram os i sound (whole, tt) (whole, (refl, (refl, tt))) h in
+    let p : Placement = placement_of (link_plan k n.linked n.assigned.regions n.veneers) in
+    subst (HasViews k ram os) (still_image k ram i n.linked n.assigned n.veneers p refl n.answer)
+    ((λ to. plain_view base ram n.linked n.assigned n.veneers n.answer.made n.selection), plain_placed base ram n.linked n.assigned n.veneers n.answer.made n.selection os n.objects)

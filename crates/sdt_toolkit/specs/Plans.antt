@@ -94,6 +94,7 @@ pub record IsPlacedAs (k : Kind) (ram : Option (List Range32)) (os : List (Named
   pub objects : link.objects ≡ os
   pub selected : IsSelection link
   pub made : IsMade k ram link assigned veneers placement
+  pub places : placement ≡ placement_of (link_plan k link assigned.regions veneers)
   pub placed : IsPlacedLink k ram link assigned.regions veneers
   pub needed : veneers ≡ veneers_of (link_of link) assigned.regions (has_header k)
   pub told : IsTold k (link_plan k link assigned.regions veneers) link i

@@ -2,9 +2,9 @@
 
 ghost use Rattle.sdt_toolkit.specs.Builds.{BuildsAreLinks, SpelledAreObjectFiles};
 ghost use Rattle.sdt_toolkit.specs.Links.{OneLinkAsked};
+ghost use Rattle.sdt_toolkit.specs.Plans.{ImagesArePlaced};
 ghost use Rattle.sdt_toolkit.specs.Runs.{CommandsStart, FilesAreRead, LinkedRunsStart, OneRun, RunsStart};
 ghost use Rattle.sdt_toolkit.specs.Sources.{OneAsked};
-ghost use Rattle.sdt_toolkit.specs.Starting.{AifImagesStart, PlainImagesLoad, ScatterImagesStart};
 
 use armasm_core::laws::one_assembly;
 use armlink_core::laws::image_names;
@@ -22,14 +22,11 @@ pub fn one_asked()
     linked_law();
 }
 
-/// A scatter image of objects as they are read and assembled starts: its load regions, where a loader puts them, reach
-/// the entry within the image's bound, with the memory as a view in which each object is shown. Of an image of bytes
-/// alone the load region shows them itself. An ARM image file starts as a scatter image does, from its own address or,
-/// where it can be moved, from each that leaves room for it and its zero part.
+/// An image of objects as they are read and assembled was placed by one plan: its files are, or become by the startup code, the
+/// view of that plan, in which each object is shown, and a scatter image and an ARM image file reach the entry within the
+/// image's bound. An ARM image file that can be moved does so from each address that leaves room for it and its zero part.
 pub fn images_start()
-    ensures scatter { ScatterImagesStart }
-    ensures aif { AifImagesStart }
-    ensures plain { PlainImagesLoad }
+    ensures { ImagesArePlaced }
 {
     reading_law();
 }
@@ -42,6 +39,7 @@ pub fn builds_are_links()
 {
     one_assembly();
     image_names();
+    images_start();
 }
 
 /// Where the files of a scatter image stand in a store, its map reads as the image.

@@ -1,3 +1,4 @@
+use Rattle.link_laws.proofs.PlanSeen
 use Rattle.link_laws.proofs.ShownLemmas
 use Rattle.link_laws.proofs.SizedLemmas
 use Rattle.link_laws.proofs.laws.objects_are_shown.Goals as goal
@@ -10,3 +11,6 @@ returns-clause-objects c = ShownLemmas.objects_are_shown
 
 pub returns-clause-statements : goal.returns-clause-statements
 returns-clause-statements c = ShownLemmas.statements_stand
+
+pub returns-clause-views : goal.returns-clause-views
+returns-clause-views c = PlanSeen.views_are_seen

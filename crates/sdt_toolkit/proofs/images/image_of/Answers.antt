@@ -26,7 +26,7 @@ returns-in-Aif c =
     let objects = rw (c.as_slice.ensures.value, c.in_ok-parts.ensures.objects) at c.objects_fit.ensures in
     let archives = rw (c.as_slice-2.ensures.value, c.in_ok-parts.ensures.archives) at c.archives_fit.ensures in
     let whole = rw c.in-Aif.is at c.requires.form in
-    rw c.in-Aif.is (aif_image c.images_start.ensures.aif c.args.inputs.items c.in-Aif.base c.in-Aif.relocatable c.args.text.now c.args.ram.now c.aif_image.result whole
+    rw c.in-Aif.is (aif_image c.images_start.ensures c.args.inputs.items c.in-Aif.base c.in-Aif.relocatable c.args.text.now c.args.ram.now c.aif_image.result whole
     (sound_inputs c.args.inputs.items c.requires.inputs objects archives) exact)
 
 pub returns-in-Plain : goal.returns-in-Plain
@@ -35,7 +35,7 @@ returns-in-Plain c =
     let objects = rw (c.as_slice.ensures.value, c.in_ok-parts.ensures.objects) at c.objects_fit.ensures in
     let archives = rw (c.as_slice-2.ensures.value, c.in_ok-parts.ensures.archives) at c.archives_fit.ensures in
     let whole = rw c.in-Plain.is at c.requires.form in
-    rw c.in-Plain.is (plain_image c.images_start.ensures.plain c.args.inputs.items c.in-Plain.base c.args.text.now c.args.ram.now c.link_plain.result whole
+    rw c.in-Plain.is (plain_image c.images_start.ensures c.args.inputs.items c.in-Plain.base c.args.text.now c.args.ram.now c.link_plain.result whole
     (sound_inputs c.args.inputs.items c.requires.inputs objects archives) exact)
 
 pub returns-in-Scatter : goal.returns-in-Scatter
@@ -43,5 +43,5 @@ returns-in-Scatter c =
     let exact = rw (c.in_ok-parts.ensures.objects, c.in_ok-parts.ensures.archives) at c.scatter_image.ensures in
     let objects = rw (c.as_slice.ensures.value, c.in_ok-parts.ensures.objects) at c.objects_fit.ensures in
     let archives = rw (c.as_slice-2.ensures.value, c.in_ok-parts.ensures.archives) at c.archives_fit.ensures in
-    rw c.in-Scatter.is (scatter_image c.images_start.ensures.scatter c.args.inputs.items c.in-Scatter.file c.args.text.now c.args.ram.now c.scatter_image.result
+    rw c.in-Scatter.is (scatter_image c.images_start.ensures c.args.inputs.items c.in-Scatter.file c.args.text.now c.args.ram.now c.scatter_image.result
     (sound_inputs c.args.inputs.items c.requires.inputs objects archives) exact)
