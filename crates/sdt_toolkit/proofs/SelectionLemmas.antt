@@ -90,11 +90,11 @@ past_limit {A = A} q limit n next a h = go (nat_lt limit n) h
 
 lacks_among : (ns : List (List ℕ)) (q : List ℕ) → Lacks ns q → among q ns ≡ true → ⊥
 lacks_among [] q lacks h = cc
-lacks_among (n ∷ ns) q lacks h = go (bytes_eq n q) refl h
+lacks_among (n ∷ ns) q lacks h = go (bytes_eq n q) refl h (λ g. lacks_among ns q lacks.1 g)
   where
-    go : (b : Bool) → bytes_eq n q ≡ b → (b || among q ns) ≡ true → ⊥
-    go true e g = lacks.0 ((bytes_eq-Decides n q).0 e)
-    go false e g = lacks_among ns q lacks.1 g
+    go : (b : Bool) → bytes_eq n q ≡ b → (b || among q ns) ≡ true → (among q ns ≡ true → ⊥) → ⊥
+    go true e g rest = lacks.0 ((bytes_eq-Decides n q).0 e)
+    go false e g rest = rest g
 
 among_there : (q : List ℕ) (ss : List Symbol) (k : ℕ) (s : Symbol) → slice_get ss k ≡ Some s → is_exported s.attributes ≡ true → s.name ≡ q → among q (exported ss) ≡ true
 among_there q [] k s at is named = absurd cc
@@ -200,12 +200,13 @@ record IsEntryFrom (i : ℕ) (os : List (Named Object)) (e : LinkedEntry) : Type
 
 no_entry : (i : ℕ) (os : List (Named Object)) → entered_from i os ≡ [] → (other : ℕ) (o : Named Object) (f : Entry) → slice_get os other ≡ Some o → o.value.entry ≡ Some f → ⊥
 no_entry i [] h other o f at is = cc
-no_entry i (p ∷ os) h other o f at is = go p.value.entry refl h other at
+no_entry i (p ∷ os) h other o f at is = go p.value.entry refl h other at (λ g other at. no_entry (suc i) os g other o f at is)
   where
-    go : (e : Option Entry) → p.value.entry ≡ e → entered_by i p e ++ entered_from (suc i) os ≡ [] → (other : ℕ) → slice_get (p ∷ os) other ≡ Some o → ⊥
-    go None e g zero at = let same : p ≡ o = cc in let none : None ≡ Some f = sym e ∙ ap (λ (z : Named Object). z.value.entry) same ∙ is in cc
-    go None e g (suc other) at = no_entry (suc i) os g other o f at is
-    go (Some x) e g other at = cc
+    go : (e : Option Entry) → p.value.entry ≡ e → entered_by i p e ++ entered_from (suc i) os ≡ [] → (other : ℕ) → slice_get (p ∷ os) other ≡ Some o
+        → (entered_from (suc i) os ≡ [] → (other : ℕ) → slice_get os other ≡ Some o → ⊥) → ⊥
+    go None e g zero at rest = let same : p ≡ o = cc in let none : None ≡ Some f = sym e ∙ ap (λ (z : Named Object). z.value.entry) same ∙ is in cc
+    go None e g (suc other) at rest = rest g other at
+    go (Some x) e g other at rest = cc
 
 entry_here : (i : ℕ) (o : Named Object) (os : List (Named Object)) (f : Entry) → o.value.entry ≡ Some f → entered_from (suc i) os ≡ [] → IsEntryFrom i (o ∷ os) (linked_entry i o.value f)
 entry_here i o os f h none = record { place = 0; object = o; at = refl; number = omega arith; entry = h; state = refl; only = alone }
