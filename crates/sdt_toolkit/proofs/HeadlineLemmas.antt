@@ -1,6 +1,6 @@
 -- What `link` and `build` leave, from their answers.
 use Rattle.std.proofs.Common.{◌≡◌, ℕ, zero, suc, Bool, true, false, cond, List, [], ◌∷◌, ◌++◌, Option, Some, None, Result, Ok, Err, refl, sym, ap, ◌∙◌, subst}
-use Rattle.std.specs.Prelude.{slice_get}
+use Rattle.std.specs.Prelude.{length, slice_get, take}
 use Rattle.std.specs.List.{list_any, cons_option}
 use Rattle.sdt_fault.specs.declared.answer.Answer.{Answer}
 use Rattle.sdt_fault.specs.declared.answer.Answer.TheVariants as answer
@@ -10,27 +10,34 @@ use Rattle.chunk_file.specs.Reading.{◌>>=◌}
 use Rattle.aof_object.specs.declared.records.Object.{Object}
 use Rattle.arm7_bus.specs.Seats.{Seat}
 use Rattle.boot_code.specs.Boots.{ByteMap}
+use Rattle.armasm_core.specs.Assembling.{AssembledFrom}
 use Rattle.armasm_core.specs.Standing.{StandsFrom}
 use Rattle.link_model.specs.declared.images.Image.{Image}
 use Rattle.link_model.specs.declared.selection.Named.{Named}
 use Rattle.link_model.specs.Chosen.{taken}
 use Rattle.link_model.specs.Members.{members_of}
+use Rattle.scatter_text.specs.Laws.{ReadingLaw}
+use Rattle.link_laws.specs.Placing.{bases_of, region_with, veneers_in}
+use Rattle.link_laws.specs.Plans.{values_by}
 use Rattle.bin_image.specs.declared.records.OutFile.{OutFile}
 use Rattle.tool_words.specs.declared.command.Command.{Command}
+use Rattle.tool_words.specs.declared.command.Command.TheVariants as command
 use Rattle.tool_words.specs.declared.command.LinkPlacement.{LinkPlacement}
 use Rattle.tool_words.specs.declared.command.LinkPlacement.TheVariants as placement
 use Rattle.tool_words.specs.declared.command.LinkWords.{LinkWords}
-use Rattle.tool_words.specs.Commands.{command_of}
+use Rattle.tool_words.specs.Commands.{ComeTogether, IsGood, IsLinked, command_of}
 use Rattle.tool_answers.specs.Inputs.{and_others, found_or, input_of, inputs_of}
 use Rattle.tool_answers.specs.Outcomes.{Outcome, Outside, AreWritten, written}
 use Rattle.tool_library.specs.declared.linkables.Linkable.{Linkable}
 use Rattle.tool_library.specs.declared.linkables.Linkable.TheVariants as input
 use Rattle.sdt_toolkit.specs.Commands.{Commanded}
-use Rattle.sdt_toolkit.specs.Headline.{FitsWhere, Headline, IsLinkedInto, Reaches, SourcesStand}
+use Rattle.sdt_toolkit.specs.Headline.{Headline, IsLinkedInto, StatementsStand}
 use Rattle.sdt_toolkit.specs.Inputs.{Behind, InputBy, InputsAre, IsSource, NamedIs, as_object, is_source_name, named, objects_among, archives_among}
 use Rattle.sdt_toolkit.specs.Reads.{Reads, reads_of}
-use Rattle.sdt_toolkit.specs.Links.{FilesAsk, ImageIs, InputsMake, IsInMemory, LinkAnswers, LinksTo, ReadAsks, WordsAsk, behind_first, filed, files_read, image_files, inputs_in, is_long, outputs, read_by, text_in, too_large, writes_all}
-use Rattle.sdt_toolkit.specs.Starting.{AreShownIn, IsShownIn}
+use Rattle.sdt_toolkit.specs.Links.{FilesAsk, ImageIs, InputsMake, LinkAnswers, LinksTo, ReadAsks, WordsAsk, behind_first, filed, files_read, inputs_in, outputs, read_by, text_in, writes_all}
+use Rattle.sdt_toolkit.specs.Plans.{plan_at}
+use Rattle.sdt_toolkit.proofs.CommandLemmas.{good_command}
+use Rattle.sdt_toolkit.proofs.ContainerLemmas.{filed_as, files_hold}
 
 -- ---- answers
 
@@ -77,37 +84,61 @@ input_at files (first ∷ names) contents h (suc k) name text at holds =
 
 -- ---- the object of a source
 
-pub record IsObjectAmong (told : Option Files) (os : List (Named Object)) (name text : List ℕ) : Type 0 where
-  pub place : ℕ
+-- the input of a place is an object, of a number among the objects; the lines of its source stand wherever it is placed
+pub record IsObjectAmong (told : Option Files) (xs : List (Named Linkable)) (place : ℕ) (name text : List ℕ) : Type 0 where
+  pub own : ℕ
   pub object : Named Object
-  pub at : slice_get os place ≡ Some object
+  pub is : slice_get xs place ≡ Some (record { name = object.name; «module» = object.«module»; value = input.Object object.value })
+  pub before : own ≡ length (objects_among (take place xs))
+  pub there : slice_get (objects_among xs) own ≡ Some object
+  pub assembled : AssembledFrom told name text (Ok object.value)
   pub stands : StandsFrom told name text object.value
 
-in_front : (told : Option Files) (xs ys : List (Named Object)) (name text : List ℕ) → IsObjectAmong told xs name text → IsObjectAmong told (xs ++ ys) name text
-in_front told xs ys name text h = record { place = h.place; object = h.object; at = go xs h.place h.at; stands = h.stands }
+get_front : {X : Type 0} (xs ys : List X) (k : ℕ) (x : X) → slice_get xs k ≡ Some x → slice_get (xs ++ ys) k ≡ Some x
+get_front [] ys k x e = absurd cc
+get_front (z ∷ zs) ys zero x e = e
+get_front (z ∷ zs) ys (suc k) x e = get_front zs ys k x e
+
+one_behind : (told : Option Files) (x : Named Linkable) (xs : List (Named Linkable)) (place : ℕ) (name text : List ℕ) → IsObjectAmong told xs place name text
+    → IsObjectAmong told (x ∷ xs) (suc place) name text
+one_behind told x xs place name text h = go (as_object x.name x.«module» x.value) refl
   where
-    go : (zs : List (Named Object)) (k : ℕ) → slice_get zs k ≡ Some h.object → slice_get (zs ++ ys) k ≡ Some h.object
-    go [] k e = absurd cc
-    go (z ∷ zs) zero e = e
-    go (z ∷ zs) (suc k) e = go zs k e
+    go : (o : Option (Named Object)) → as_object x.name x.«module» x.value ≡ o → IsObjectAmong told (x ∷ xs) (suc place) name text
+    go None e = record {
+      own = h.own;
+      object = h.object;
+      is = h.is;
+      before = h.before ∙ ap (λ (o : Option (Named Object)). length (cons_option o (objects_among (take place xs)))) (sym e);
+      there = ap (λ (o : Option (Named Object)). slice_get (cons_option o (objects_among xs)) h.own) e ∙ h.there;
+      assembled = h.assembled;
+      stands = h.stands;
+    }
+    go (Some o) e = record {
+      own = suc h.own;
+      object = h.object;
+      is = h.is;
+      before = ap suc h.before ∙ ap (λ (p : Option (Named Object)). length (cons_option p (objects_among (take place xs)))) (sym e);
+      there = ap (λ (p : Option (Named Object)). slice_get (cons_option p (objects_among xs)) (suc h.own)) e ∙ h.there;
+      assembled = h.assembled;
+      stands = h.stands;
+    }
 
-one_behind : (told : Option Files) (o : Option (Named Object)) (os : List (Named Object)) (name text : List ℕ) → IsObjectAmong told os name text → IsObjectAmong told (cons_option o os) name text
-one_behind told None os name text h = h
-one_behind told (Some o) os name text h = record { place = suc h.place; object = h.object; at = h.at; stands = h.stands }
-
-source_first : (s : Reads) (name text : List ℕ) (x : Named Linkable) (xs : List (Named Linkable)) → is_source_name name ≡ true → NamedIs s true name text (Ok x) → IsObjectAmong s.told (objects_among (x ∷ xs)) name text
+source_first : (s : Reads) (name text : List ℕ) (x : Named Linkable) (xs : List (Named Linkable)) → is_source_name name ≡ true → NamedIs s true name text (Ok x) → IsObjectAmong s.told (x ∷ xs) 0 name text
 source_first s name text x xs is h =
     let source : IsSource s name text h.0 = subst (λ (b : Bool). InputBy s b name text h.0) is h.1 in
     let (l, made, as_named) = steps_ok h.0 (λ x. Ok (named name x)) x (sym h.2) in
     let (o, object, as_input) = steps_ok source.object (λ o. Ok (input.Object o)) l (sym source.as_input ∙ made) in
     let whole : named name (input.Object o) ≡ x = ap (named name) (ok_same (input.Object o) l as_input) ∙ ok_same (named name l) x as_named in
-    let first : IsObjectAmong s.told (objects_among (named name (input.Object o) ∷ xs)) name text = record {
-      place = 0;
+    let first : IsObjectAmong s.told (named name (input.Object o) ∷ xs) 0 name text = record {
+      own = 0;
       object = record { name = name; «module» = (named name (input.Object o)).«module»; value = o };
-      at = refl;
+      is = refl;
+      before = refl;
+      there = refl;
+      assembled = subst (AssembledFrom s.told name text) object source.assembled;
       stands = source.stands o object;
     } in
-    subst (λ (y : Named Linkable). IsObjectAmong s.told (objects_among (y ∷ xs)) name text) whole first
+    subst (λ (y : Named Linkable). IsObjectAmong s.told (y ∷ xs) 0 name text) whole first
 
 behind_first_is : (first : Result (Named Linkable) Refusal) (others : Result (List (Named Linkable)) Refusal → Type 0) (xs : List (Named Linkable)) → Behind first others (Ok xs)
     → (x : Named Linkable) × (ys : List (Named Linkable)) × (first ≡ Ok x) × others (Ok ys) × (x ∷ ys ≡ xs)
@@ -117,7 +148,7 @@ behind_first_is (Ok x) others xs h =
     (x, ys, refl, subst others rest h.1, ok_same (x ∷ ys) xs whole)
 
 source_at : (s : Reads) (names contents : List (List ℕ)) (xs : List (Named Linkable)) → InputsAre s true names contents (Ok xs) → (k : ℕ) (name text : List ℕ) → slice_get names k ≡ Some name
-    → slice_get contents k ≡ Some text → is_source_name name ≡ true → IsObjectAmong s.told (objects_among xs) name text
+    → slice_get contents k ≡ Some text → is_source_name name ≡ true → IsObjectAmong s.told xs k name text
 source_at s [] contents xs h k name text at there is = absurd cc
 source_at s (n ∷ names) [] xs h k name text at there is = absurd cc
 source_at s (n ∷ names) (bytes ∷ contents) xs h zero name text at there is =
@@ -126,81 +157,90 @@ source_at s (n ∷ names) (bytes ∷ contents) xs h zero name text at there is =
     let same_text : bytes ≡ text = cc in
     let one : NamedIs s true name text (Ok x) =
     subst (λ (t : List ℕ). NamedIs s true name t (Ok x)) same_text (subst (λ (q : List ℕ). NamedIs s true q bytes (Ok x)) same_name (subst (NamedIs s true n bytes) first h.1)) in
-    subst (λ (zs : List (Named Linkable)). IsObjectAmong s.told (objects_among zs) name text) whole (source_first s name text x ys is one)
+    subst (λ (zs : List (Named Linkable)). IsObjectAmong s.told zs 0 name text) whole (source_first s name text x ys is one)
 source_at s (n ∷ names) (bytes ∷ contents) xs h (suc k) name text at there is =
     let (x, ys, first, rest, whole) = behind_first_is h.0 (InputsAre s true names contents) xs h.2 in
-    subst (λ (zs : List (Named Linkable)). IsObjectAmong s.told (objects_among zs) name text) whole
-    (one_behind s.told (as_object x.name x.«module» x.value) (objects_among ys) name text (source_at s names contents ys rest k name text at there is))
+    subst (λ (zs : List (Named Linkable)). IsObjectAmong s.told zs (suc k) name text) whole (one_behind s.told x ys k name text (source_at s names contents ys rest k name text at there is))
 
 -- ---- the image in memory
 
-record InMemory (f : LinkPlacement) (os : List (Named Object)) (i : Image) : Type 0 where
-  pub views : ℕ → ByteMap
-  pub reaches : Reaches f i views
-  pub shown : (to : ℕ) → FitsWhere f i to → AreShownIn (views to) os
-
-memory_views : (f : LinkPlacement) (os : List (Named Object)) (i : Image) → IsInMemory f os i → InMemory f os i
-memory_views (placement.Scatter file) os i h = record { views = λ to. h.view; reaches = (h.boots, h.runs); shown = λ to fits. h.shown }
-memory_views (placement.Aif base relocatable) os i h = record { views = h.views; reaches = h.boots; shown = h.shown }
-memory_views (placement.Plain base) os i h = record { views = λ to. h.view; reaches = (h.parts, h.cleared); shown = λ to fits. h.shown }
-
-filed_as : (out : List ℕ) (i : Image) (fs : List OutFile) → filed out i ≡ Ok fs → fs ≡ image_files out i
-filed_as out i fs h = go (list_any is_long (image_files out i)) h
-  where
-    go : (b : Bool) → cond b (Err too_large) (Ok (image_files out i)) ≡ Ok fs → fs ≡ image_files out i
-    go true e = absurd (let bad : ◌≡◌ {A = Result (List OutFile) Refusal} (Err too_large) (Ok fs) = e in cc)
-    go false e = sym (ok_same (image_files out i) fs e)
-
 -- ---- the lemma
 
-pub record IsLeftBy (sources : Bool) (w : LinkWords) (before : Files) (after : Option Files) : Type 0 where
+-- the statements of sources stand, where these are taken
+abbrev SourcesAre : (sources : Bool) (w : LinkWords) (before : Files) (after : Option Files) (image : Image) (views : ℕ → ByteMap)
+    → IsLinkedInto sources w before after image views → Type 0
+SourcesAre true w before after image views h = StatementsStand w before after image views h
+SourcesAre false w before after image views h = Unit {0}
+
+record IsLeftBy (sources : Bool) (w : LinkWords) (before : Files) (after : Option Files) : Type 0 where
   pub image : Image
   pub views : ℕ → ByteMap
   pub link : IsLinkedInto sources w before after image views
-  pub stand : sources ≡ true → (to : ℕ) → FitsWhere w.placement image to → SourcesStand w.names before (views to)
+  pub stand : SourcesAre sources w before after image views link
 
-module _ (s : Reads) (sources : Bool) (w : LinkWords) (before : Files) (after : Option Files) (over : s.told ≡ Some before) where
+-- what a source's lines say stands by the plan of its object
+module _ (w : LinkWords) (before : Files) (after : Option Files) (image : Image) (views : ℕ → ByteMap) (h : IsLinkedInto true w before after image views) where
+  among : (k : ℕ) (name text : List ℕ) → slice_get w.names k ≡ Some name → is_source_name name ≡ true → content before name ≡ Some text → IsObjectAmong (Some before) h.inputs k name text
+  among k name text at source holds =
+      let there = input_at before w.names (inputs_in w.placement h.contents) (under_names before w.placement w.names h.contents h.read) k name text at holds in
+      subst (λ (t : Option Files). IsObjectAmong t h.inputs k name text) h.told
+      (source_at h.reads w.names (inputs_in w.placement h.contents) h.inputs h.judged k name text at there source)
+
+  statements_stand : StatementsStand w before after image views h
+  statements_stand to fits k name text at source holds =
+      let o : IsObjectAmong (Some before) h.inputs k name text = among k name text at source holds in
+      let rest : List (Named Object) = taken h.linked.chosen 0 (members_of (archives_among h.inputs)) in
+      let there : slice_get h.placed.link.objects o.own ≡ Some o.object =
+      ap (λ (os : List (Named Object)). slice_get os o.own) (h.placed.objects ∙ h.linked.in_order) ∙ get_front (objects_among h.inputs) rest o.own o.object o.there in
+      let seen = (h.placed.seen to fits).objects o.own o.object there in
+      record {
+        own = o.own;
+        object = o.object;
+        linked = record { is = o.is; before = o.before; there = there };
+        assembled = o.assembled;
+        stands = λ region ranges.
+            let plan = plan_at h.shape h.placed.link h.placed.assigned h.placed.veneers to in
+            o.stands o.own (values_by plan h.placed.link o.own) (bases_of plan) (views to) region (λ area. veneers_in (region_with plan o.own area)) seen.placed (seen.shown region ranges);
+      }
+
+stand_by : (sources : Bool) (w : LinkWords) (before : Files) (after : Option Files) (image : Image) (views : ℕ → ByteMap) (h : IsLinkedInto sources w before after image views)
+    → SourcesAre sources w before after image views h
+stand_by true w before after image views h = statements_stand w before after image views h
+stand_by false w before after image views h = tt
+
+module _ (reading : ReadingLaw) (s : Reads) (sources : Bool) (w : LinkWords) (together : ComeTogether w.placement w.container) (before : Files) (after : Option Files)
+    (over : s.told ≡ Some before) where
   image_left : (contents : List (List ℕ)) (fs : List OutFile) (inputs : List (Named Linkable)) (i : Image) (image : Result Image Refusal)
       → inputs_of before (files_read w) ≡ Ok contents → InputsAre s sources w.names (inputs_in w.placement contents) (Ok inputs)
-      → ImageIs w.placement (text_in w.placement contents) w.ram inputs image → image ≡ Ok i → filed w.output i ≡ Ok fs → after ≡ Some (written before (outputs fs))
+      → ImageIs w.placement (text_in w.placement contents) w.ram inputs image → image ≡ Ok i → filed w.container w.output i ≡ Ok fs → after ≡ Some (written before (outputs fs))
       → IsLeftBy sources w before after
   image_left contents fs inputs i image read judged is made files left =
-      let memory = memory_views w.placement is.objects i (is.memory i made) in
-      record {
-        image = i;
-        views = memory.views;
-        link = record {
-          reads = s;
-          contents = contents;
-          inputs = inputs;
-          objects = is.objects;
-          read = read;
-          told = over;
-          judged = judged;
-          linked = is.linked;
-          made = subst (LinksTo w.placement (text_in w.placement contents) w.ram is.objects) made is.links;
-          left = left ∙ ap (λ (x : List OutFile). Some (written before (outputs x))) (filed_as w.output i fs files);
-          reaches = memory.reaches;
-          shown = memory.shown;
-        };
-        stand = λ sourced to fits k name text at source holds.
-            let there = input_at before w.names (inputs_in w.placement contents) (under_names before w.placement w.names contents read) k name text at holds in
-            let among : IsObjectAmong s.told (objects_among inputs) name text =
-            source_at s w.names (inputs_in w.placement contents) inputs (subst (λ (b : Bool). InputsAre s b w.names (inputs_in w.placement contents) (Ok inputs)) sourced judged) k name text at there source in
-            let found : IsObjectAmong s.told is.objects name text =
-            subst (λ (os : List (Named Object)). IsObjectAmong s.told os name text) (sym is.linked.in_order)
-            (in_front s.told (objects_among inputs) (taken is.linked.chosen 0 (members_of (archives_among inputs))) name text among) in
-            let seen : IsShownIn (memory.views to) found.object.value = memory.shown to fits found.place found.object found.at in
-            let stands : StandsFrom (Some before) name text found.object.value = subst (λ (t : Option Files). StandsFrom t name text found.object.value) over found.stands in
-            (seen.values, seen.region, stands seen.number seen.values seen.area_at (memory.views to) seen.region seen.veneers seen.placed seen.shown);
-      }
+      let memory = is.memory i made in
+      let link : IsLinkedInto sources w before after i memory.views = record {
+        reads = s;
+        contents = contents;
+        inputs = inputs;
+        objects = is.objects;
+        shape = memory.shape;
+        ram = memory.ram;
+        read = read;
+        told = over;
+        judged = judged;
+        linked = is.linked;
+        made = subst (LinksTo w.placement (text_in w.placement contents) w.ram is.objects) made is.links;
+        left = left ∙ ap (λ (x : List OutFile). Some (written before (outputs x))) (filed_as w.container w.output i fs files).1;
+        asked = memory.asked;
+        placed = memory.placed;
+        holds = files_hold reading w.placement w.container (text_in w.placement contents) w.ram memory.shape memory.ram is.objects i memory.views w.output fs together memory.asked memory.placed files;
+      } in
+      record { image = i; views = memory.views; link = link; stand = stand_by sources w before after i memory.views link }
 
   inputs_left : (contents : List (List ℕ)) (fs : List OutFile) (inputs : Result (List (Named Linkable)) Refusal) (made : Result (List OutFile) Refusal)
       → inputs_of before (files_read w) ≡ Ok contents → InputsAre s sources w.names (inputs_in w.placement contents) inputs
       → InputsMake w (text_in w.placement contents) inputs made → made ≡ Ok fs → after ≡ Some (written before (outputs fs)) → IsLeftBy sources w before after
   inputs_left contents fs (Err r) made read judged h ok left = never (IsLeftBy sources w before after) fs r (sym h ∙ ok)
   inputs_left contents fs (Ok xs) made read judged h ok left =
-      let (i, image, files) = steps_ok h.0 (filed w.output) fs (sym h.2 ∙ ok) in
+      let (i, image, files) = steps_ok h.0 (filed w.container w.output) fs (sym h.2 ∙ ok) in
       image_left contents fs xs i h.0 read judged h.1 image files left
 
   files_left : (out : Outcome) (fs : List OutFile) → writes_all fs ≡ Ok out → after ≡ Some (written before out.files) → after ≡ Some (written before (outputs fs))
@@ -221,24 +261,25 @@ module _ (s : Reads) (sources : Bool) (w : LinkWords) (before : Files) (after : 
       read_left (inputs_of before (files_read w)) asked out refl (subst (λ (t : Option Files). FilesAsk t s sources w asked) over h) ok
       (subst (λ (t : Option Files). AreWritten t after out.files) over left)
 
-link_left : (sources : Bool) (w : LinkWords) (o : Outside) (before : Files) → o.before ≡ Some before → LinkAnswers sources w o answer.Done → IsLeftBy sources w before o.after
+link_left : ReadingLaw → (sources : Bool) (w : LinkWords) (o : Outside) (before : Files) → IsLinked w → o.before ≡ Some before → LinkAnswers sources w o answer.Done
+    → IsLeftBy sources w before o.after
 unfolding LinkAnswers
-link_left sources w o before told h =
+link_left reading sources w o before good told h =
     let says = h.2 in
-    told_left (reads_of o) sources w before o.after told h.0 says.0 h.1 says.1 says.2
+    told_left reading (reads_of o) sources w good.written before o.after told h.0 says.0 h.1 says.1 says.2
 
-pub headline : (x : Result Command ℕ) (o : Outside) (seats left : List Seat) (a : Answer) → Commanded x o seats left a → Headline x o.before o.after a
+headline : ReadingLaw → (x : Result Command ℕ) (o : Outside) (seats left : List Seat) (a : Answer) → ((c : Command) → x ≡ Ok c → IsGood c) → Commanded x o seats left a → Headline x o.before o.after a
 unfolding Commanded
-headline x o seats left a h = record {
+headline reading x o seats left a good h = record {
   link = λ w before asked told done.
       let answers : LinkAnswers false w o answer.Done = subst (LinkAnswers false w o) done (subst (λ (y : Result Command ℕ). Commanded y o seats left a) asked h).0 in
-      let r = link_left false w o before told answers in
+      let r = link_left reading false w o before (good (command.Link w) asked) told answers in
       (r.image, r.views, r.link);
   build = λ w before asked told done.
       let answers : LinkAnswers true w o answer.Done = subst (LinkAnswers true w o) done (subst (λ (y : Result Command ℕ). Commanded y o seats left a) asked h).0 in
-      let r = link_left true w o before told answers in
-      (r.image, r.views, r.link, r.stand refl);
+      let r = link_left reading true w o before (good (command.Build w) asked) told answers in
+      (r.image, r.views, r.link, r.stand);
 }
 
-pub headline_of : (words : List (List ℕ)) (o : Outside) (seats left : List Seat) (a : Answer) → Commanded (command_of words) o seats left a → Headline (command_of words) o.before o.after a
-headline_of words o seats left a h = headline (command_of words) o seats left a h
+pub headline_of : ReadingLaw → (words : List (List ℕ)) (o : Outside) (seats left : List Seat) (a : Answer) → Commanded (command_of words) o seats left a → Headline (command_of words) o.before o.after a
+headline_of reading words o seats left a h = headline reading (command_of words) o seats left a (good_command words) h

@@ -26,6 +26,7 @@ mod RunRanges
 mod RunStartup
 mod RunSteps
 mod HeadlineLemmas
+mod SelectionLemmas
 mod SoundLemmas
 mod StartLemmas
 mod WriteLemmas

@@ -12,6 +12,7 @@ use Rattle.aof_object.specs.declared.records.Object.{Object}
 use Rattle.boot_code.specs.Boots.{ByteMap}
 use Rattle.place_model.specs.declared.scatter.Kind.{Kind}
 use Rattle.place_model.specs.Plans.{Plan}
+use Rattle.armasm_core.specs.Assembling.{AssembledFrom}
 use Rattle.armasm_core.specs.Standing.{SourceStands}
 use Rattle.link_model.specs.declared.images.Image.{Image}
 use Rattle.link_model.specs.declared.selection.Linked.{Linked}
@@ -55,17 +56,19 @@ pub record IsLinkedInto (sources : Bool) (w : LinkWords) (before : Files) (after
 -- ---- statements
 
 -- the input of a place is the object of a number among the linked ones, which begin with the objects among the inputs
-pub record IsObjectOf (inputs : List (Named Linkable)) (objects : List (Named Object)) (place own : ℕ) (o : Named Object) : Type 0 where
+pub record IsLinkedInput (inputs : List (Named Linkable)) (objects : List (Named Object)) (place own : ℕ) (o : Named Object) : Type 0 where
   pub is : slice_get inputs place ≡ Some (record { name = o.name; «module» = o.«module»; value = input.Object o.value })
   pub before : own ≡ length (objects_among (take place inputs))
   pub there : slice_get objects own ≡ Some o
 
--- what the lines of the source say that is the input of a place stands where its object stands by the plan: with the plan's
--- values of its symbols, and in the ranges of the plan's regions
+-- The input of a place is the object of a source: its areas, symbols and relocations are those of what the source's lines say,
+-- and its entry that of its line ENTRY. What the lines say stands where the object stands by the plan: with the plan's values of
+-- its symbols, and in the ranges of the plan's regions.
 pub record StandsBy (files : Files) (inputs : List (Named Linkable)) (plan : Plan) (l : Linked) (view : ByteMap) (place : ℕ) (name text : List ℕ) : Type 0 where
   pub own : ℕ
   pub object : Named Object
-  pub object_of : IsObjectOf inputs l.objects place own object
+  pub linked : IsLinkedInput inputs l.objects place own object
+  pub assembled : AssembledFrom (Some files) name text (Ok object.value)
   pub stands : (region : ℕ → Range32) → AreRanges plan own region
       → SourceStands (content files) name text (values_by plan l own) view region
 
