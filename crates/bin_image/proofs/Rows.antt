@@ -6,7 +6,7 @@ use Rattle.link_model.specs.declared.images.Image.{Image}
 use Rattle.link_model.specs.declared.images.ImageKind.TheVariants as form
 use Rattle.bin_image.specs.Fields.{address}
 use Rattle.bin_image.specs.Maps.{bound_line, ended}
-use Rattle.bin_image.specs.Files.{files_of}
+use Rattle.bin_image.specs.Files.{load_files}
 
 abbrev scatter_image : Image
 scatter_image = record {
@@ -23,7 +23,7 @@ scatter_image = record {
   moves = [];
 }
 
-files_row : files_of scatter_image (codes "out")
+files_row : load_files scatter_image (codes "out")
     ≡ (record { name = codes "out.ROM"; bytes = 1 ∷ 2 ∷ 3 ∷ 4 ∷ [] })
     ∷ (record {
       name = codes "out.map";
