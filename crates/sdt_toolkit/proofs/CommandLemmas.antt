@@ -36,7 +36,7 @@ unasked (command.ExtractMember library member output) o seats left = (answers.no
 unasked (command.List file) o seats left = (answers.no_memory (listing_of file) (OfOne (listing.lists file)) (file ∷ []) o (listing.lists file []) ([], refl) left, refl)
 unasked (command.Link words) o seats left = (inl left, refl)
 unasked (command.Build words) o seats left = (inl left, refl)
-unasked (command.InterruptKit output acknowledge) o seats left = (left.files, left.sink, refl)
+unasked (command.InterruptKit output acknowledge) o seats left = ((left.files, left.sink), refl)
 unasked (command.Run run) o seats left = no_memory run o seats seats (record { outside = left; devices = refl })
 
 pub refused : (e : WordsFault) (x : Result Command ℕ) (o : Outside) (seats : List Seat) (a : Answer) → Reads (Err e) x → RefusedBy e a → IsLeft o → Commanded x o seats seats a

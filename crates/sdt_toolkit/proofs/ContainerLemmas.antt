@@ -1,6 +1,5 @@
 -- What the files of a placed image hold, container by container.
-use Rattle.std.proofs.Common.{◌≡◌, ℕ, ◌+◌, ◌%◌, ◌^◌, ◌<◌, ◌≤◌, Bool, true, false, cond, List, [], ◌∷◌, ◌++◌, length, map, append-nil, Option, Some, None, Result, Ok, Err, refl, sym, ap, ◌∙◌, subst, arith}
-use Rattle.std.specs.Prelude.{codes}
+use Rattle.std.proofs.Common.{◌≡◌, ℕ, ◌+◌, ◌%◌, ◌^◌, ◌<◌, ◌≤◌, nat_le, ◌||◌, Bool, true, false, cond, List, [], ◌∷◌, ◌++◌, length, map, append-nil, Option, Some, None, Result, Ok, Err, refl, sym, ap, ◌∙◌, subst, arith}
 use Rattle.std.specs.List.{flat_map, list_any, AllByRecursion}
 use Rattle.std.proofs.lemmas.Bool.{leb-false}
 use Rattle.std.proofs.lemmas.List.{length-map}
@@ -18,18 +17,19 @@ use Rattle.place_model.specs.declared.scatter.Kind.{Kind}
 use Rattle.place_model.specs.declared.scatter.Kind.TheVariants as kind
 use Rattle.place_model.specs.declared.scatter.Scatter.{Scatter}
 use Rattle.place_model.specs.declared.scatter.ScatterLoad.{ScatterLoad}
-use Rattle.place_model.specs.Plans.{Contents, Plan, PlannedLoad, loads_from}
+use Rattle.place_model.specs.Plans.{Contents, Plan, PlannedLoad, loads_from, table_words}
 use Rattle.image_model.specs.Views.{IsLoadView}
 use Rattle.link_model.specs.declared.images.Image.{Image}
 use Rattle.link_model.specs.declared.images.LoadRegion.{LoadRegion}
 use Rattle.link_model.specs.declared.selection.Named.{Named}
+use Rattle.link_items.specs.LinkedItems.{contents_of}
 use Rattle.armlink_core.proofs.ValidLemmas.{scatter_small}
 use Rattle.bin_image.specs.declared.records.OutFile.{OutFile}
 use Rattle.bin_image.specs.Files as load
 use Rattle.bin_image.specs.Files.{binary_file, map_load}
 use Rattle.bin_image.specs.Maps as maps
 use Rattle.elf_image.specs.Files.{AreApart, InLoad, IsElf, elf_file, elf_load, elf_record, file_size}
-use Rattle.elf_image.proofs.WrittenLemmas.{file_length, loads, written}
+use Rattle.elf_image.proofs.WrittenLemmas.{file_length, loads as loads_are, written as reads_back}
 use Rattle.tool_words.specs.declared.command.Bank.{Bank}
 use Rattle.tool_words.specs.declared.command.Container.{Container}
 use Rattle.tool_words.specs.declared.command.Container.TheVariants as container
@@ -59,8 +59,9 @@ module _ (s : Scatter) (ram : Option (List Range32)) (os : List (Named Object)) 
 
   few_loads : length s.loads ≤ 64 → length i.loads < 2 ^ 16
   few_loads few =
-      let same = loads_length plan (views i.start) i (h.files i.start refl).files in
-      let all = plan_length (kind.Scatter s) _ _ 0 s.loads in
+      let c : Contents = contents_of h.link.objects h.assigned.regions h.veneers in
+      let same : length i.loads ≡ length plan = loads_length plan (views i.start) i (h.files i.start refl).files in
+      let all : length plan ≡ length s.loads = plan_length (kind.Scatter s) c (table_words (kind.Scatter s) c) 0 s.loads in
       omega (arith, same, all, few)
 
 scatter_counted : ReadingLaw → (file text : List ℕ) (banks : Option (List Bank)) (k : Kind) (ram : Option (List Range32)) (os : List (Named Object)) (i : Image) (views : ℕ → ByteMap)
@@ -90,23 +91,20 @@ bases_fit out [] h = tt
 bases_fit out (l ∷ ls) h = (h.0.base_fits, bases_fit out ls h.1)
 
 -- all are apart from those before
-AreApartFrom : List LoadRegion → LoadRegion → Type 0
+abbrev AreApartFrom : List LoadRegion → LoadRegion → Type 0
 AreApartFrom before l = AllByRecursion (AreApart l) before
 
 one_more : (out : List ℕ) (before : List LoadRegion) (l : LoadRegion) (ls : List LoadRegion) → AllByRecursion (AreApartFrom before) ls
     → AllByRecursion (maps.IsApart (map_load out l)) (map (map_load out) ls) → AllByRecursion (AreApartFrom (before ++ l ∷ [])) ls
-unfolding AreApartFrom
 one_more out before l [] h apart = tt
 one_more out before l (m ∷ ms) h apart = (all_append (AreApart m) before (l ∷ []) h.0 ((λ a in_m in_l. apart.0 a in_l in_m), tt), one_more out before l ms h.1 apart.1)
 
 each_apart : (out : List ℕ) (before ls : List LoadRegion) → AllByRecursion (AreApartFrom before) ls → maps.AreApart (map (map_load out) ls)
     → EachStands (λ before l. AllByRecursion (AreApart l) before) before ls
-unfolding AreApartFrom
 each_apart out before [] h apart = tt
 each_apart out before (l ∷ ls) h apart = (h.0, each_apart out (before ++ l ∷ []) ls (one_more out before l ls h.1 apart.0) apart.1)
 
 none_before : (ls : List LoadRegion) → AllByRecursion (AreApartFrom []) ls
-unfolding AreApartFrom
 none_before [] = tt
 none_before (l ∷ ls) = (tt, none_before ls)
 
@@ -124,10 +122,10 @@ is_elf out i valid counted sized = record {
 is_elf_file : (i : Image) (view : ByteMap) → IsElf i → Boots (map_of (segments_of i)) view (written_in i) i.start i.bound (i.entry + flag i.thumb) → IsElfFile i view (elf_file i)
 is_elf_file i view elf boots = record {
   elf = elf_record i;
-  reads = written i elf;
+  reads = reads_back i elf;
   entry = refl;
-  loads = loads i;
-  boots = subst (λ (m : ByteMap). Boots m view (written_in i) i.start i.bound (i.entry + flag i.thumb)) (sym (loads i)) boots;
+  loads = loads_are i;
+  boots = subst (λ (m : ByteMap). Boots m view (written_in i) i.start i.bound (i.entry + flag i.thumb)) (sym (loads_are i)) boots;
 }
 
 -- what is short enough is written
@@ -137,19 +135,23 @@ filed_as c out i fs h = go (list_any is_long (image_files c out i)) refl h
     go : (b : Bool) → list_any is_long (image_files c out i) ≡ b → cond b (Err too_large) (Ok (image_files c out i)) ≡ Ok fs
         → (list_any is_long (image_files c out i) ≡ false) × (fs ≡ image_files c out i)
     go true e k = absurd (let bad : ◌≡◌ {A = Result (List OutFile) Refusal} (Err too_large) (Ok fs) = k in cc)
-    go false e k = (e, cc)
+    go false e k = (e, let same : ◌≡◌ {A = Result (List OutFile) Refusal} (Ok (image_files c out i)) (Ok fs) = k in cc)
 
 first_short : (out bytes : List ℕ) → list_any is_long (one_file out bytes) ≡ false → length bytes < 2 ^ 32
-first_short out bytes h = leb-false (2 ^ 32) (length bytes) (grind)
+first_short out bytes h = leb-false (2 ^ 32) (length bytes) (alone (nat_le (2 ^ 32) (length bytes)) h)
+  where
+    alone : (b : Bool) → (b || false) ≡ false → b ≡ false
+    alone true e = e
+    alone false e = refl
 
 elf_short : (out : List ℕ) (i : Image) → list_any is_long (image_files container.Elf out i) ≡ false → file_size i.loads < 2 ^ 32
 elf_short out i h = let size = file_length i in let short = first_short out (elf_file i) h in omega (arith, size, short)
 
-scatter_elf : (s : Scatter) (out : List ℕ) (i : Image) (views : ℕ → ByteMap) → Reaches (kind.Scatter s) i views → length i.loads < 2 ^ 16 → file_size i.loads < 2 ^ 32
+scatter_elf : (s : Scatter) (i : Image) (views : ℕ → ByteMap) → Reaches (kind.Scatter s) i views → length i.loads < 2 ^ 16 → file_size i.loads < 2 ^ 32
     → IsElfFile i (views i.start) (elf_file i)
-scatter_elf s out i views reaches counted sized =
+scatter_elf s i views reaches counted sized =
     let can : CanRun i (views i.start) = reaches.1 in
-    is_elf_file i (views i.start) (is_elf (codes "image") i (can.filed (codes "image") refl refl).map counted sized) reaches.0
+    is_elf_file i (views i.start) (is_elf [] i (can.filed [] refl refl).map counted sized) reaches.0
 
 -- ---- the bytes alone
 
@@ -177,7 +179,7 @@ files_hold reading (placement.Scatter file) container.LoadFiles text banks k ram
     λ line some. (refl, (can.filed out line some).map)
 files_hold reading (placement.Scatter file) container.Elf text banks k ram os i views out fs together asked placed is =
     let here : IsPlacedAs (kind.Scatter asked.0) ram os i views = subst (λ (k : Kind). IsPlacedAs k ram os i views) asked.2 placed in
-    scatter_elf asked.0 out i views here.reaches (scatter_counted reading file text banks k ram os i views asked placed) (elf_short out i (filed_as container.Elf out i fs is).0)
+    scatter_elf asked.0 i views here.reaches (scatter_counted reading file text banks k ram os i views asked placed) (elf_short out i (filed_as container.Elf out i fs is).0)
 files_hold reading (placement.Plain base) container.Binary text banks k ram os i views out fs together asked placed is =
     plain_binary base ram os i views (subst (λ (k : Kind). IsPlacedAs k ram os i views) asked.0 placed)
 files_hold reading (placement.Plain base) container.LoadFiles text banks k ram os i views out fs together asked placed is = absurd together

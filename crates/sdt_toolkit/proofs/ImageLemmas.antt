@@ -1,7 +1,6 @@
 -- The image of inputs, and its files.
-use Rattle.std.proofs.Common.{◌≡◌, ℕ, ◌+◌, ◌%◌, ◌^◌, ◌<◌, ◌≤◌, List, [], ◌∷◌, length, map, Bool, true, false, cond, ◌||◌, Option, None, Result, Ok, Err, refl, sym, ap, ◌∙◌, subst, arith, get_or, zero, suc}
+use Rattle.std.proofs.Common.{◌≡◌, ℕ, ◌+◌, ◌%◌, ◌^◌, ◌<◌, ◌≤◌, nat_le, List, [], ◌∷◌, length, map, Bool, true, false, cond, ◌||◌, Option, None, Result, Ok, Err, refl, sym, ap, ◌∙◌, subst, arith, get_or, zero, suc}
 use Rattle.std.proofs.lemmas.Bool.{leb-false}
-use Rattle.std.proofs.lemmas.Bool.Decides.{nat_tests}
 use Rattle.std.proofs.lemmas.List.Folds.{list_any-append}
 use Rattle.std.specs.List.{list_any, AllByRecursion}
 use Rattle.sdt_word.specs.declared.ranges.Range32.{Range32}
@@ -117,12 +116,16 @@ module _ (law : ImagesArePlaced) (text : List ℕ) (banks : Option (List Bank)) 
     memory = λ i e. in_memory p h.0 i based sound (subst (LinksTo p text banks h.0) e h.2);
   }
 
-  pub told_image : (p : LinkPlacement) (inputs : List (Named Linkable)) → IsBased p → LinksSound (objects_among inputs) (archives_among inputs) → (r : Result Image Fault)
-      → Tells r (IsLinkedBy p text banks inputs) → Tells r (ImageIs p text banks inputs)
-  told_image p inputs based sound (Ok i) h = image_is p inputs (Ok i) based h (sound h.0 h.1)
-  told_image p inputs based sound (Err (fault.Refused e)) h = image_is p inputs (Err e) based h (sound h.0 h.1)
-  told_image p inputs based sound (Err (fault.ReadFault q)) h = h
-  told_image p inputs based sound (Err fault.NoMemory) h = tt
+  sound_image : (p : LinkPlacement) (inputs : List (Named Linkable)) (image : Result Image Refusal) → IsBased p → LinksSound (objects_among inputs) (archives_among inputs)
+      → IsLinkedBy p text banks inputs image → ImageIs p text banks inputs image
+  sound_image p inputs image based sound h = image_is p inputs image based h (sound h.0 h.1)
+
+  pub told_image : (p : LinkPlacement) (inputs : List (Named Linkable)) → IsBased p → LinksSound (objects_among inputs) (archives_among inputs) → (Is : Result Image Refusal → Type 0)
+      → ((image : Result Image Refusal) → Is image → IsLinkedBy p text banks inputs image) → (r : Result Image Fault) → Tells r Is → Tells r (ImageIs p text banks inputs)
+  told_image p inputs based sound Is linked (Ok i) h = sound_image p inputs (Ok i) based sound (linked (Ok i) h)
+  told_image p inputs based sound Is linked (Err (fault.Refused e)) h = sound_image p inputs (Err e) based sound (linked (Err e) h)
+  told_image p inputs based sound Is linked (Err (fault.ReadFault q)) h = h
+  told_image p inputs based sound Is linked (Err fault.NoMemory) h = tt
 
 -- ---- what is written of it
 
@@ -170,13 +173,12 @@ long_load out i h =
     (list_any-append is_long (map (load_file out) i.loads) (map_file i out ∷ [])
     ∙ or_true (list_any is_long (map (load_file out) i.loads)) (list_any is_long (map_file i out ∷ [])) (sym (long_scattered out i.loads) ∙ h))
 
-long_file : (bytes : List ℕ) → 2 ^ 32 ≤ length bytes → list_any is_long (one_file [] bytes) ≡ true
-long_file bytes h = grind (arith, nat_tests)
-
-pub long_elf : (out : List ℕ) (i : Image) → 2 ^ 32 ≤ file_size i.loads → filed container.Elf out i ≡ Err too_large
+pub long_elf : (out : List ℕ) (i : Image) → nat_le (2 ^ 32) (file_size i.loads) ≡ true → filed container.Elf out i ≡ Err too_large
 long_elf out i h =
-    let size = file_length i in
-    any_long (one_file out (elf_file i)) (long_file (elf_file i) (omega (arith, size, h)))
+    any_long (one_file out (elf_file i)) (or_true (nat_le (2 ^ 32) (length (elf_file i))) false (ap (λ (n : ℕ). nat_le (2 ^ 32) n) (file_length i) ∙ h))
+
+pub short_elf : (i : Image) → nat_le (2 ^ 32) (file_size i.loads) ≡ false → file_size i.loads < 2 ^ 32
+short_elf i h = leb-false (2 ^ 32) (file_size i.loads) h
 
 or_false : (a b : Bool) → (a || b) ≡ false → (a ≡ false) × (b ≡ false)
 or_false true b h = absurd (let bad : true ≡ false = h in cc)

@@ -1,6 +1,6 @@
 //! The image of inputs, and its files.
 
-ghost use Rattle.std.specs.Prelude.{◌≡◌, ◌%◌, ◌+◌, ◌-◌, ◌<◌, ◌≤◌, ◌^◌, All, IfOk, length, min};
+ghost use Rattle.std.specs.Prelude.{◌≡◌, ◌%◌, ◌+◌, ◌-◌, ◌<◌, ◌≤◌, ◌^◌, All, IfOk, length, min, nat_le};
 ghost use Rattle.std.specs.List.{AllByRecursion, list_any};
 ghost use Rattle.alf_archive.specs.Grammar.{IsValid as IsValidArchive};
 ghost use Rattle.aof_object.specs.Validity.{IsValid};
@@ -214,13 +214,20 @@ fn elf_size(loads: &[LoadRegion]) -> u64
     size
 }
 
+fn is_long_elf(loads: &[LoadRegion]) -> bool
+    requires { length loads.now < 2 ^ 16 }
+    ensures { result ≡ nat_le (2 ^ 32) (file_size loads.now) }
+{
+    elf_size(loads) >= 0x1_0000_0000
+}
+
 /// The ELF file, which is made only where it is short enough.
 fn elf_file(alloc: Global, image: &Image, out: &Text) -> Result<List<OutFile>, Fault>
     requires { length image.now.loads < 2 ^ 16 }
     ensures value { Gives result (filed written.Elf out.now image.now) }
     ensures short { IfOk result (λ files. All (λ f. length f.bytes < 2 ^ 32) files) }
 {
-    if elf_size(image.loads.as_slice()) >= 0x1_0000_0000 {
+    if is_long_elf(image.loads.as_slice()) {
         return Err(too_large());
     }
     let bytes = write_elf(alloc, image)?;
