@@ -23,7 +23,7 @@ mod tables;
 pub mod whole;
 mod writing;
 
-pub use crate::assembling::assemble;
+pub use crate::assembling::{MOST_BYTES, assemble};
 pub use crate::builders::{AreaBuilder, Finished};
 pub use crate::emission::emit;
 pub use crate::entry::entry_of;

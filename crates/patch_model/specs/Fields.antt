@@ -9,7 +9,7 @@ use Rattle.aof_object.specs.declared.records.Reloc.{Reloc}
 pub use Rattle.aof_object.specs.declared.relocations.Field.{Field}
 pub use Rattle.aof_object.specs.declared.relocations.FieldKind.{FieldKind as Kind}
 pub use Rattle.aof_object.specs.declared.relocations.FieldKind.TheVariants.{Byte, Half, Word, Branch}
-unfoldable pub use Rattle.aof_object.specs.Relocations.{kind_by, kind_of, place_by, field_of, size_of, is_relative, is_by_symbol, number_named}
+pub use Rattle.aof_object.specs.Relocations.{kind_by, kind_of, place_by, field_of, size_of, is_relative, is_by_symbol, number_named}
 
 -- ---- what they name
 

@@ -10,7 +10,7 @@ ghost use Rattle.sdt_toolkit.specs.Sources.{AssemblyAnswersOver, Spells};
 
 use crate::sound::object_fits;
 use aof_object::write_object;
-use armasm_core::assemble;
+use armasm_core::{MOST_BYTES, assemble};
 use chunk_file::size_law;
 use sdt_fault::answer::{Answer, Fault};
 use sdt_fault::kinds::Quantity;
@@ -41,24 +41,21 @@ fn object_file<S: Store>(
     write_object(alloc, &object)
 }
 
-/// The most bytes of a source; a longer file is not read to its end.
-const MOST_BYTES: u32 = 1 << 24;
-
 fn too_large() -> Fault
     ensures { result ≡ fault.Refused (TooLarge SourceBytes most_bytes) }
 {
     Fault::Refused(Refusal::TooLarge {
         quantity: Quantity::SourceBytes,
-        limit: u64::from(MOST_BYTES),
+        limit: MOST_BYTES as u64,
     })
 }
 
-/// Writes the object of a source.
+/// Writes the object of a source. A file of more than `MOST_BYTES` bytes is not read to its end.
 pub fn assemble_file<S: Store>(alloc: Global, store: &mut S, source: &Text, output: Text) -> Answer
     ensures { AssemblyAnswersOver source.now output (S.files store.old) (S.files store.new) (S.read_faults store.old) (S.read_faults store.new)
         (S.write_faults store.old) (S.write_faults store.new) result }
 {
-    let text = match read_input_up_to(alloc, store, source, MOST_BYTES) {
+    let text = match read_input_up_to(alloc, store, source, MOST_BYTES as u32) {
         Ok(Some(text)) => text,
         Ok(None) => return fault_answer(too_large()),
         Err(end) => return end_answer(end),
