@@ -65,15 +65,6 @@ headers_length offset (l ∷ ls) =
     let f = length-append (load_words offset l) (loads_words (offset + length l.bytes) ls) in
     omega (arith, e, f)
 
--- how many bytes the file has
-pub file_length : (i : Image) → length (elf_file i) ≡ file_size i.loads
-file_length i =
-    let words = words_length (elf_words i.start i.loads) in
-    let rows = length-append (header_words i.start (length i.loads)) (loads_words (first_offset (length i.loads)) i.loads) in
-    let headers = headers_length (first_offset (length i.loads)) i.loads in
-    let whole = length-append (bytes_of_words (elf_words i.start i.loads)) (loads_bytes i.loads) in
-    omega (arith, words, rows, headers, whole)
-
 apart_segments : (l : LoadRegion) (o offset : ℕ) (before : List LoadRegion) → AllByRecursion (AreApart l) before → AllByRecursion (IsApart (load_segment o l)) (segments_from offset before)
 apart_segments l o offset [] h = tt
 apart_segments l o offset (x ∷ xs) h = (h.0, apart_segments l o (offset + length x.bytes) xs h.1)
@@ -101,6 +92,13 @@ module _ (i : Image) where
       let f = words_are in
       omega (arith, e, f)
 
+  -- how many bytes the file has
+  pub file_length : length (elf_file i) ≡ file_size i.loads
+  file_length =
+      let e = length-append (bytes_of_words (elf_words i.start i.loads)) (loads_bytes i.loads) in
+      let f = head_length in
+      omega (arith, e, f)
+
 module _ (i : Image) (is : IsElf i) where
   executable : half_in (elf_file i) 0x10 ≡ 2
   executable = refl
@@ -125,12 +123,6 @@ module _ (i : Image) (is : IsElf i) where
 
   entry : word_in (elf_file i) 0x18 ≡ i.start
   entry = number_of-bytes_of i.start 4 is.start_fits
-
-  file_length : length (elf_file i) ≡ file_size i.loads
-  file_length =
-      let e = length-append (bytes_of_words (elf_words i.start i.loads)) (loads_bytes i.loads) in
-      let f = head_length i in
-      omega (arith, e, f)
 
   -- ---- a program header
 
@@ -188,7 +180,7 @@ module _ (i : Image) (is : IsElf i) where
     fits : l.base + length l.bytes ≤ 2 ^ 32 → IsSegment (length (elf_file i)) (load_segment offset l)
     fits space =
         let w = within in
-        let n = file_length in
+        let n = file_length i in
         record { within = inr (omega (arith, w, n)); held = omega arith; in_space = space }
 
     loads_it : loaded_at (elf_file i) (header_at (elf_file i) (length before)) ≡ load_segment offset l ∷ []
@@ -237,7 +229,7 @@ module _ (i : Image) (is : IsElf i) where
 
   all_held : AllByRecursion (λ c. Holds c (elf_file i)) (checks (elf_file i))
   all_held =
-      let n = file_length in
+      let n = file_length i in
       let c = count in
       let t = table in
       let long : 52 ≤ length (elf_file i) = omega (arith, n) in
