@@ -240,10 +240,10 @@ module _ (s : Scatter) (ram : Option (List Range32)) (l : Linked) (a : Assigned)
         };
         seen = λ to fits. are_seen k ram l a vs h chosen refl;
         files = λ to fits. record {
-            files = its_files k ram l a vs h chosen refl;
-            moved = λ x b shows.
-                subst (λ (fs : List Segment). zeroed (Some 0) (moved (map_of fs) (copies_of scattered)) (parts_of scattered) x ≡ Some b) (sym files)
-                (moved_view scattered filling its_view (files_of scattered filling) (is_shown k ram l a vs h chosen refl) (is_loaded k ram l a vs h chosen refl) x b shows);
+          files = its_files k ram l a vs h chosen refl;
+          moved = λ x b shows.
+              subst (λ (fs : List Segment). zeroed (Some 0) (moved (map_of fs) (copies_of scattered)) (parts_of scattered) x ≡ Some b) (sym files)
+              (moved_view scattered filling its_view (files_of scattered filling) (is_shown k ram l a vs h chosen refl) (is_loaded k ram l a vs h chosen refl) x b shows);
         };
         entry = λ to fits. whole_entry k ram l a vs h chosen refl;
         reaches = (
@@ -300,11 +300,11 @@ module _ (base : ℕ) (ram : Option (List Range32)) (l : Linked) (a : Assigned) 
         told = record { regions = refl; start = refl; bound = refl; thumb = refl };
         seen = λ to fits. are_seen k ram l a vs h chosen refl;
         files = λ to fits. record {
-            files = its_files k ram l a vs h chosen refl;
-            cleared = λ x.
-                ap (λ (fs : List Segment). zeroed (Some 0) (map_of fs) (parts_of plain_plan) x) (segments_same k ram l a vs h chosen refl)
-                ∙ plain_law base c (items_in l.objects) filling plain_view (files_of plain_plan filling)
-                (is_placed k ram l a vs h chosen refl).assigned (is_shown k ram l a vs h chosen refl) (is_loaded k ram l a vs h chosen refl) x;
+          files = its_files k ram l a vs h chosen refl;
+          cleared = λ x.
+              ap (λ (fs : List Segment). zeroed (Some 0) (map_of fs) (parts_of plain_plan) x) (segments_same k ram l a vs h chosen refl)
+              ∙ plain_law base c (items_in l.objects) filling plain_view (files_of plain_plan filling)
+              (is_placed k ram l a vs h chosen refl).assigned (is_shown k ram l a vs h chosen refl) (is_loaded k ram l a vs h chosen refl) x;
         };
         entry = λ to fits. whole_entry k ram l a vs h chosen refl;
         reaches = tt;
