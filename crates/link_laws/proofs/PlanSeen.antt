@@ -93,32 +93,32 @@ module _ (base : ℕ) (rel : Bool) (ram : Option (List Range32)) (l : Linked) (a
     (h : IsPlacedLink (kind.Aif base rel) ram l a.regions vs) (needed : vs ≡ veneers_of (link_of l) a.regions true) (s : IsSelection l)
     (applied : AreApplied (link_plan (kind.Aif base rel) l a.regions vs) l (numbers_by (link_plan (kind.Aif base rel) l a.regions vs) l.objects) g)
     (shows : IsView (link_plan (kind.Aif base rel) l a.regions vs) (filled g (link_plan (kind.Aif base rel) l a.regions vs) (header_by (kind.Aif base rel) (link_plan (kind.Aif base rel) l a.regions vs) g)) view)
-    where
-  abbrev its_plan : Plan
-  its_plan = link_plan (kind.Aif base rel) l a.regions vs
+  where
+    abbrev its_plan : Plan
+    its_plan = link_plan (kind.Aif base rel) l a.regions vs
 
-  abbrev ws : List ℕ
-  ws = header_words false its_plan base g.call
+    abbrev ws : List ℕ
+    ws = header_words false its_plan base g.call
 
-  no_gap : (b : Bool) → base + gap (if b then base else 0) 4 base ≡ base
-  no_gap true = omega arith
-  no_gap false = let whole = h.loads.0 in omega (arith, whole)
+    no_gap : (b : Bool) → base + gap (if b then base else 0) 4 base ≡ base
+    no_gap true = omega arith
+    no_gap false = let whole = h.loads.0 in omega (arith, whole)
 
-  headed : Holds view base (bytes_of_words ws)
-  headed =
-      let sized = applied_are_sized (kind.Aif base rel) ram l a.regions vs (numbers_by its_plan l.objects) g (header_by (kind.Aif base rel) its_plan g) h applied refl in
-      subst (λ (n : ℕ). Holds view n (bytes_of_words ws)) (no_gap rel) (view_things its_plan (filled g its_plan (bytes_of_words ws)) view sized shows).0.0
+    headed : Holds view base (bytes_of_words ws)
+    headed =
+        let sized = applied_are_sized (kind.Aif base rel) ram l a.regions vs (numbers_by its_plan l.objects) g (header_by (kind.Aif base rel) its_plan g) h applied refl in
+        subst (λ (n : ℕ). Holds view n (bytes_of_words ws)) (no_gap rel) (view_things its_plan (filled g its_plan (bytes_of_words ws)) view sized shows).0.0
 
-  small : base < 2 ^ 32
-  small =
-      let called = is_called base rel ram l a vs h needed s.entered in
-      let low = called.low in
-      let high = called.high in
-      let end = room base rel ram l a vs h needed s.entered in
-      omega (arith, low, high, end)
+    small : base < 2 ^ 32
+    small =
+        let called = is_called base rel ram l a vs h needed s.entered in
+        let low = called.low in
+        let high = called.high in
+        let end = room base rel ram l a vs h needed s.entered in
+        omega (arith, low, high, end)
 
-  marked : IsMarked (kind.Aif base rel) view
-  marked = (word_in view base ws 1 0xE1A00000 refl (omega arith) headed, word_in view base ws 10 base refl small headed)
+    marked : IsMarked (kind.Aif base rel) view
+    marked = (word_in view base ws 1 0xE1A00000 refl (omega arith) headed, word_in view base ws 10 base refl small headed)
 
 is_marked : (k : Kind) (ram : Option (List Range32)) (l : Linked) (a : Assigned) (vs : List Veneer) (g : Given) (view : ByteMap)
     → IsPlacedLink k ram l a.regions vs → vs ≡ veneers_of (link_of l) a.regions (has_header k) → IsSelection l
@@ -138,11 +138,11 @@ views_are_seen k ram l a vs g view h needed chosen applied entry shows = record 
   shows = shows;
   marked = is_marked k ram l a vs g view h needed chosen applied shows;
   objects = λ own o at. record {
-      placed = objects_are_placed k ram l a.regions vs (numbers_by (link_plan k l a.regions vs) l.objects) h own o at;
-      ranges = ranges_exist k ram l a.regions vs h own;
-      shown = λ region ranges.
-          objects_are_shown k ram l a.regions vs (numbers_by (link_plan k l a.regions vs) l.objects) g (header_by k (link_plan k l a.regions vs) g) view h applied
-          (header_is k (link_plan k l a.regions vs) g) shows own o at region ranges;
+    placed = objects_are_placed k ram l a.regions vs (numbers_by (link_plan k l a.regions vs) l.objects) h own o at;
+    ranges = ranges_exist k ram l a.regions vs h own;
+    shown = λ region ranges.
+        objects_are_shown k ram l a.regions vs (numbers_by (link_plan k l a.regions vs) l.objects) g (header_by k (link_plan k l a.regions vs) g) view h applied
+        (header_is k (link_plan k l a.regions vs) g) shows own o at region ranges;
   };
   names = names_mean (link_plan k l a.regions vs) l chosen;
 }

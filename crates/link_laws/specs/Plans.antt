@@ -55,7 +55,8 @@ pub record IsSelection (l : Linked) : Type 0 where
   pub definitions : l.definitions ≡ definitions_from 0 (objects_in l.objects)
   pub once : AreExportedOnce l.objects
   pub entered : IsEntryOf l
-  pub only : (other : ℕ) (o : Named Object) (e : Entry) → slice_get l.objects other ≡ Some o → o.value.entry ≡ Some e → other ≡ l.entry.object
+  pub only : (other : ℕ) (o : Named Object) (e : Entry) → slice_get l.objects other ≡ Some o → o.value.entry ≡ Some e
+      → other ≡ l.entry.object
 
 -- ---- what names mean
 

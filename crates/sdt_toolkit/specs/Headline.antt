@@ -36,7 +36,8 @@ use Rattle.sdt_toolkit.specs.Starting.{FitsAt}
 
 -- of the inputs that were read, the linked objects were placed by one plan and make the image, and its files, which hold it, were
 -- written in order
-pub record IsLinkedInto (sources : Bool) (w : LinkWords) (before : Files) (after : Option Files) (image : Image) (views : ℕ → ByteMap) : Type 0 where
+pub record IsLinkedInto (sources : Bool) (w : LinkWords) (before : Files) (after : Option Files) (image : Image)
+    (views : ℕ → ByteMap) : Type 0 where
   pub reads : Reads
   pub contents : List (List ℕ)
   pub inputs : List (Named Linkable)
@@ -64,7 +65,8 @@ pub record IsLinkedInput (inputs : List (Named Linkable)) (objects : List (Named
 -- The input of a place is the object of a source: its areas, symbols and relocations are those of what the source's lines say,
 -- and its entry that of its line ENTRY. What the lines say stands where the object stands by the plan: with the plan's values of
 -- its symbols, and in the ranges of the plan's regions.
-pub record StandsBy (files : Files) (inputs : List (Named Linkable)) (plan : Plan) (l : Linked) (view : ByteMap) (place : ℕ) (name text : List ℕ) : Type 0 where
+pub record StandsBy (files : Files) (inputs : List (Named Linkable)) (plan : Plan) (l : Linked) (view : ByteMap)
+    (place : ℕ) (name text : List ℕ) : Type 0 where
   pub own : ℕ
   pub object : Named Object
   pub linked : IsLinkedInput inputs l.objects place own object
