@@ -1,0 +1,5 @@
+pub mod NumberLemmas
+pub mod LineLemmas
+pub mod ScriptLemmas
+pub mod ReadLemmas
+mod Rows
