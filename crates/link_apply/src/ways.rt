@@ -89,4 +89,3 @@ pub fn target_by(
     let reach = total(at + ahead(thumb) + span(thumb, word), 0, middle(thumb));
     target_of(thumb, reach, sums.more, sums.less, *found)
 }
-

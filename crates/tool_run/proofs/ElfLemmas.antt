@@ -91,9 +91,9 @@ with_one : (b : List ℕ) (ss : List Segment) (s : Segment) → IsSegment (lengt
     → Same b ss → Same b (ss ++ s ∷ [])
 with_one b ss s h all apart same a =
     let memory : held_by b (ss ++ s ∷ []) a ≡ store (held_by b ss) s.address (file_bytes b s) a =
-        ap (λ (ls : List Load). loaded (λ x. 0) ls a) (map-append (load_of b) ss (s ∷ [])) ∙ ap (λ (m : Bytes). m a) (loaded_more (λ x. 0) (map (load_of b) ss) (load_of b s)) in
+    ap (λ (ls : List Load). loaded (λ x. 0) ls a) (map-append (load_of b) ss (s ∷ [])) ∙ ap (λ (m : Bytes). m a) (loaded_more (λ x. 0) (map (load_of b) ss) (load_of b s)) in
     let view : shown_with b ss s a ≡ unwrap_or (map_of (map (elf.loaded b) (ss ++ s ∷ [])) a) 0 =
-        ap (λ (ls : List maps.Segment). unwrap_or (map_of ls a) 0) (sym (map-append (elf.loaded b) ss (s ∷ []))) in
+    ap (λ (ls : List maps.Segment). unwrap_or (map_of ls a) 0) (sym (map-append (elf.loaded b) ss (s ∷ []))) in
     memory ∙ (by_place (below_or_not a s.address) (below_or_not a (s.address + s.memory_size)) (below_or_not a (s.address + s.file_size)) ∙ view)
   where
     off : (InMemory s a → ⊥) → unwrap_or (map_of (map (elf.loaded b) ss) a) 0 ≡ shown_with b ss s a
@@ -135,9 +135,10 @@ walk b (suc n) h = next (word_in b (header_at b n) == 1) refl (walk b n (λ k lt
     next : (t : Bool) → (word_in b (header_at b n) == 1) ≡ t → AreLoaded b (segments_before b n) → Holds (Fits n) b × Holds (Apart n) b
         → AreLoaded b (segments_before b n ++ (if t then segment_in b n ∷ [] else []))
     next true e before now =
-        let is = eqb-true (word_in b (header_at b n)) 1 e in
-        (all_more (length b) (segments_before b n) (segment_in b n) before.0 (now.0 is),
-        with_one b (segments_before b n) (segment_in b n) (now.0 is) before.0 (now.1 is) before.1)
+        let is = eqb-true (word_in b (header_at b n)) 1 e in (
+          all_more (length b) (segments_before b n) (segment_in b n) before.0 (now.0 is),
+          with_one b (segments_before b n) (segment_in b n) (now.0 is) before.0 (now.1 is) before.1,
+        )
     next false e before now = subst (AreLoaded b) (sym (append-nil (segments_before b n))) before
 
 each : (b : List ℕ) (j n : ℕ) → AllByRecursion (λ c. Holds c b) (load_checks j n ++ Enters ∷ []) → (k : ℕ) → k < n → Holds (Fits (j + k)) b × Holds (Apart (j + k)) b

@@ -87,11 +87,7 @@ fn read_aif_file<S: Store>(
     }
 }
 
-fn read_elf_file<S: Store>(
-    alloc: Global,
-    store: &mut S,
-    file: &Text,
-) -> Result<Image, ImageEnd>
+fn read_elf_file<S: Store>(alloc: Global, store: &mut S, file: &Text) -> Result<Image, ImageEnd>
     ensures read { let told = S.files store.old in let rose = Rose (S.read_faults store.old) (S.read_faults store.new) in
         Reads (IsRead told rose (image.Elf file.now)) rose (IsInput told (image.Elf file.now)) result }
     ensures needed { IfOk result (λ image. AreNeeded image) }
