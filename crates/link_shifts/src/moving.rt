@@ -22,8 +22,8 @@ pub fn names_moving(image: &Image<'_>, object: u32, reloc: Reloc) -> bool
     requires { Tells image.now }
     ensures { result ≡ names_moving (link_of image.now.linked.now) image.now.placement.now object reloc }
 {
-    match reloc.symbol() {
-        None => true,
-        Some(number) => is_moving(&image.names, object, number),
+    if reloc.is_by_symbol() {
+        return is_moving(&image.names, object, reloc.number());
     }
+    true
 }

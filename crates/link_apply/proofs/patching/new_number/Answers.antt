@@ -10,7 +10,7 @@ returns c =
     let kind : c.field-field.result.kind ≡ kind_of c.args.reloc = ap (λ (f : Field). f.kind) c.field-field.ensures in
     record {
       value = λ p region values number own there sound leads goes.
-          let place = ap (λ (f : Field). f.place) c.field-field.ensures in
+          let place = c.from.ensures ∙ ap (λ (f : Field). f.place) c.field-field.ensures in
           let word = c.number_of-word.ensures ∙ ap (λ bytes. number_in bytes (field_of c.args.reloc)) c.as_slice.ensures in
           c.number_by.ensures.value p region leads
           ∙ (λ i. number_with p region (c.args.base + place i) (word i) c.sums_of.result.more c.sums_of.result.less (way_by c.args.detour.target) (kind i))

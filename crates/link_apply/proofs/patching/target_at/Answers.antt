@@ -9,7 +9,7 @@ pub returns : goal.returns
 returns c = λ bases number own there t branch sound.
     let told = told_of (values_by bases c.args.symbols.now) c.args.base number c.args.area.now c.args.reloc c.args.start c.sums_of.result own there sound
     (λ unmixed same. c.sums_of.ensures.tells (values_by bases c.args.symbols.now) c.args.area.now.relocs (field_of c.args.reloc) there unmixed same) in
-    let place = ap (λ (f : Field). f.place) c.field-field.ensures in
+    let place = c.from.ensures ∙ ap (λ (f : Field). f.place) c.field-field.ensures in
     let word = c.number_of-word.ensures ∙ ap (λ bytes. number_in bytes (field_of c.args.reloc)) c.as_slice.ensures in
     let thumb : c.is_thumb-thumb.result ≡ t = c.is_thumb-thumb.ensures t (ap (λ (f : Field). f.kind) c.field-field.ensures ∙ branch) in
     let more = sym told.more in

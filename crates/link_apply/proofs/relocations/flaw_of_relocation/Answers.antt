@@ -10,7 +10,7 @@ pub returns : goal.returns
 returns c = λ p region values known leads goes.
     let sound : has_bad_field c.args.number c.args.area.now c.args.reloc ≡ false = sym (c.is_bad_field.ensures values known) ∙ c.if-is_bad_field.false in
     let there = sym (known (field_of c.args.reloc).place) ∙ c.requires.there in
-    let place = ap (λ (f : Field). f.place) c.field-field.ensures in
+    let place = c.from.ensures ∙ ap (λ (f : Field). f.place) c.field-field.ensures in
     let word = c.number_of-word.ensures ∙ ap (λ bytes. number_in bytes (field_of c.args.reloc)) c.as_slice.ensures in
     let only = c.is_only_at-only.ensures in
     let kind : c.field-field.result.kind ≡ kind_of c.args.reloc = ap (λ (f : Field). f.kind) c.field-field.ensures in

@@ -1,4 +1,5 @@
-use Rattle.std.proofs.Common.{ℕ, List, Option, Some, sym, ap, ◌∙◌, eq-eqb, ◌%◌}
+use Rattle.std.proofs.Common.{ℕ, List, Option, Some, sym, ap, ◌∙◌, ◌%◌}
+use Rattle.std.specs.Prelude.{◌==◌}
 use Rattle.std.specs.Option.{option_map}
 use Rattle.sdt_fault.specs.declared.refusal.Refusal.TheVariants.{Duplicate}
 use Rattle.link_select.specs.Index.{number_in}
@@ -10,13 +11,13 @@ returns-in_default c = sym (clash_none c.args.index.now c.args.objects.now c.arg
 
 pub returns-in_default-name_at : goal.returns-in_default-name_at
 returns-in_default-name_at c =
-    let exported = eq-eqb (c.args.symbol.now.attributes % 4) 3 c.if-symbol-ne3.false in
+    let exported = sym (ap (λ (n : ℕ). n % 4 == 3) c.flags.ensures) ∙ sym c.is_exported.ensures ∙ c.if-not-is_exported.false in
     sym (clash_some c.args.index.now c.args.objects.now c.args.first c.args.name.now c.args.symbol.now c.in-Some.number c.requires (ap (λ (n : List ℕ). number_in c.args.index.now n) (sym c.as_slice.ensures) ∙ sym c.in-Some.ensures) exported
     ∙ ap (λ (o : Option (List ℕ)). option_map (λ n. Duplicate c.args.symbol.now.name c.args.name.now n) o) (sym c.in_default-name_at.ensures))
 
 pub returns : goal.returns
 returns c =
-    let exported = eq-eqb (c.args.symbol.now.attributes % 4) 3 c.if-symbol-ne3.false in
+    let exported = sym (ap (λ (n : ℕ). n % 4 == 3) c.flags.ensures) ∙ sym c.is_exported.ensures ∙ c.if-not-is_exported.false in
     (λ i. Some (Duplicate (c.in_ok-try_clone.ensures i) (c.in_ok-try_clone-2.ensures i) (c.in_ok-try_clone-3.ensures i)))
     ∙ sym (clash_some c.args.index.now c.args.objects.now c.args.first c.args.name.now c.args.symbol.now c.in-Some.number c.requires (ap (λ (n : List ℕ). number_in c.args.index.now n) (sym c.as_slice.ensures) ∙ sym c.in-Some.ensures) exported
     ∙ ap (λ (o : Option (List ℕ)). option_map (λ n. Duplicate c.args.symbol.now.name c.args.name.now n) o) (sym c.in-Some-name_at.ensures))

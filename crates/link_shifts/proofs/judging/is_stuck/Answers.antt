@@ -1,4 +1,5 @@
 use Rattle.std.proofs.Common.{◌∙◌, ap, arith}
+use Rattle.patch_model.specs.Fields.{Field}
 use Rattle.link_values.specs.Shifts.{names_moving}
 use Rattle.link_model.specs.Members.{link_of}
 use Rattle.link_shifts.specs.Balances.{balance_in}
@@ -11,4 +12,4 @@ returns c =
     let base = c.base_at-address.ensures ∙ c.requires.image.names.bases c.args.judged.now.object c.args.judged.now.number in
     stuck moving c.args.judged.now.area.now.relocs c.args.reloc c.args.judged.now.balances.now c.saturating_sub-offset.result _ c.balance_at-balance.result c.names_moving-moving.result c.cannot_move.result
     c.requires.balances (c.balance_at-balance.ensures ∙ ap (balance_in c.args.judged.now.balances.now) c.spot_of.ensures) c.names_moving-moving.ensures
-    (grind (arith, base, c.saturating_sub-offset.ensures, c.place_of.ensures, c.image_base.ensures, c.from-place.ensures)) c.cannot_move.ensures
+    (grind (arith, base, c.saturating_sub-offset.ensures, ap (λ (f : Field). f.place) c.field-field.ensures, c.image_base.ensures, c.from-place.ensures)) c.cannot_move.ensures
