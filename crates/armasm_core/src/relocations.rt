@@ -17,14 +17,22 @@ use sdt_fault::{NoMemory, Text};
 use std::alloc::Global;
 use std::collections::BTreeMap;
 
-/// The number of a symbol that is listed.
+/// The place of a symbol that is listed.
+fn listed_at(symbols: &Symbols, name: &Text) -> u32
+    requires { IsListed symbols.now name.now }
+    ensures { result ≡ place_of name.now symbols.now }
+{
+    symbols.number_of(name).unwrap()
+}
+
+/// The number of a symbol that is listed, which has 24 bits in a relocation.
 fn number_of(symbols: &Symbols, name: &Text) -> u32
     requires few { length symbols.now < 2 ^ 24 }
     requires listed { IsListed symbols.now name.now }
     ensures number { result ≡ place_of name.now symbols.now }
     ensures below { result < 2 ^ 24 }
 {
-    symbols.number_of(name).unwrap()
+    listed_at(symbols, name)
 }
 
 fn word_relocation(symbols: &Symbols, target: &Target) -> Option<u32>

@@ -1,1 +1,4 @@
 pub mod ElfLemmas
+pub mod NeedLemmas
+pub mod ReadLemmas
+pub mod RunLemmas
