@@ -1,10 +1,12 @@
 -- The answer to a run whose image was not read.
-use Rattle.std.proofs.Common.{List, Option, Some, None, Result, Err, refl}
+use Rattle.std.proofs.Common.{◌≡◌, List, Option, Some, None, Result, Ok, Err, refl}
+use Rattle.sdt_fault.specs.declared.answer.Answer.{Answer}
 use Rattle.sdt_fault.specs.declared.answer.Answer.TheVariants as answer
 use Rattle.sdt_fault.specs.declared.refusal.Refusal.{Refusal}
 use Rattle.sdt_fault.specs.declared.refusal.Refusal.TheVariants.{NoEntry}
 use Rattle.sdt_outside.specs.Counts.{Rose}
 use Rattle.sdt_outside.specs.Files.{Files}
+use Rattle.arm7_bus.specs.declared.memory.Bank.{Bank as MemoryBank}
 use Rattle.arm7_bus.specs.Seats.{Seat}
 use Rattle.run_opening.specs.declared.image.Image.{Image}
 use Rattle.tool_answers.specs.Outcomes.{Outside}
@@ -14,7 +16,7 @@ use Rattle.tool_run.specs.declared.ends.ImageEnd.{ImageEnd}
 use Rattle.tool_run.specs.declared.ends.ImageEnd.TheVariants as end
 use Rattle.tool_run.specs.Ends.{Reads, image_answer}
 use Rattle.tool_run.specs.Images.{IsInput, IsRead, image_of}
-use Rattle.tool_run.specs.Runs.{IsUntouched, RunAnswers}
+use Rattle.tool_run.specs.Runs.{AreBanks, ImageRuns, IsUntouched, RunAnswers}
 
 any_read : (told : Option Files) (rose : Type 0) (image : RunImage) → (read : Result Image Refusal) × IsRead told rose image read
 any_read None rose image = (Err NoEntry, tt)
@@ -30,3 +32,18 @@ unread (end.Refused r) run o seats left h left_so = record { read = Err r; read_
 unread (end.Failed name) run o seats left h left_so =
     let any = any_read o.before (Rose o.reads o.reads_now) run.image in record { read = any.0; read_so = any.1; says = (h.0, h.1, left_so) }
 unread end.NoMemory run o seats left h left_so = no_memory run o seats left left_so
+
+pub image_run : (run : RunWords) (o : Outside) (seats left : List Seat) (image : Image) (banks : List MemoryBank) (a : Answer) → IsRead o.before (Rose o.reads o.reads_now) run.image (Ok image)
+    → AreBanks run banks → ImageRuns banks image run.steps o.printed o.prints (Rose o.faults o.faults_now) seats left a → o.after ≡ o.before → RunAnswers run o seats left a
+image_run run o seats left image banks answer.Done read are ran files =
+    record { read = Ok image; read_so = read; says = record { image = image; read_so = refl; banks = banks; are_banks = are; ran = ran; files = files } }
+image_run run o seats left image banks (answer.Stopped why) read are h files =
+    record { read = Ok image; read_so = read; says = (h.0, record { image = image; read_so = refl; banks = banks; are_banks = are; ran = h.1; files = files }) }
+image_run run o seats left image banks answer.SinkFault read are ran files =
+    record { read = Ok image; read_so = read; says = record { image = image; read_so = refl; banks = banks; are_banks = are; ran = ran; files = files } }
+image_run run o seats left image banks (answer.Refused r) read are h files =
+    record { read = Ok image; read_so = read; says = ((banks, are, h.0), record { outside = record { files = files; sink = h.1 }; devices = h.2 }) }
+image_run run o seats left image banks answer.NoMemory read are h files =
+    record { read = Ok image; read_so = read; says = record { outside = record { files = files; sink = h.0 }; devices = h.1 } }
+image_run run o seats left image banks (answer.ReadFault name) read are h files = absurd h
+image_run run o seats left image banks (answer.WriteFault name) read are h files = absurd h
