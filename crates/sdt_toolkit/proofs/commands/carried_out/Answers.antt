@@ -42,3 +42,8 @@ pub returns-in-Build-clause-commanded : goal.returns-in-Build-clause-commanded
 unfolding Commanded
 returns-in-Build-clause-commanded g c =
     rw c.in-Build.is (c.link_files-in-Build.ensures (g.K.Sink.bytes c.args.sink.now) (g.K.Sink.faults c.args.sink.now), refl)
+
+pub returns-in-InterruptKit-clause-commanded : goal.returns-in-InterruptKit-clause-commanded
+unfolding Commanded
+returns-in-InterruptKit-clause-commanded g c =
+    rw c.in-InterruptKit.is ((c.write_kit.ensures.says, refl), refl)
