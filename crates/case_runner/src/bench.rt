@@ -1,11 +1,12 @@
 //! The bench on which the steps of a case are carried out.
 
 use crate::cases::{Action, Case, DeviceKind, Fault, Seat, Setting, Step, Wish, failed};
+use crate::devices::{push_state, states_of};
 use crate::words::{first_difference, line_start, push_shown};
 use sdt_fault::answer::{Answer, status_of};
 use sdt_fault::report::text_of;
 use sdt_fault::{Bytes, NoMemory, Text};
-use sdt_outside::{Device, MemorySink, MemoryStore, Timer, Uart};
+use sdt_outside::{Device, DeviceState, MemorySink, MemoryStore, Timer, Uart};
 use std::alloc::Global;
 
 /// The room of the sink where a case doesn't say.
@@ -29,6 +30,8 @@ struct Outcome {
     line: usize,
     answer: Answer,
     sink: MemorySink,
+    // in the order of the seats
+    devices: Vec<DeviceState>,
     answer_wanted: bool,
     text_wanted: bool,
 }
@@ -101,18 +104,19 @@ fn run<T: Tool>(
 ) -> Result<(), Fault> {
     let mut sink = MemorySink::with_room(alloc, bench.room)?;
     let seats = bench.seats.as_slice();
-    let answer = called(alloc, tool, words, &mut bench.store, &mut sink, seats)?;
+    let (answer, devices) = called(alloc, tool, words, &mut bench.store, &mut sink, seats)?;
     bench.outcome = Some(Outcome {
         line,
         answer,
         sink,
+        devices,
         answer_wanted: false,
         text_wanted: false,
     });
     Ok(())
 }
 
-// The answer of a command with new devices on these seats.
+// The answer of a command with new devices on these seats, and their states behind it.
 fn called<T: Tool>(
     alloc: Global,
     tool: &T,
@@ -120,15 +124,21 @@ fn called<T: Tool>(
     store: &mut MemoryStore,
     sink: &mut MemorySink,
     seats: &[Seat],
-) -> Result<Answer, NoMemory> {
+) -> Result<(Answer, Vec<DeviceState>), NoMemory> {
     let mut devices: Vec<Box<dyn Device>> = Vec::new(alloc);
     for seat in seats {
         match seat.kind {
-            DeviceKind::Timer => devices.push(Box::new(alloc, Timer::new(seat.base))?)?,
+            DeviceKind::Timer { period, control } => {
+                let mut timer = Timer::new(seat.base);
+                timer.period = period;
+                timer.control = control;
+                devices.push(Box::new(alloc, timer)?)?;
+            }
             DeviceKind::Uart => devices.push(Box::new(alloc, Uart::new(seat.base))?)?,
         }
     }
-    Ok(tool.run(alloc, words, store, sink, &mut devices))
+    let answer = tool.run(alloc, words, store, sink, &mut devices);
+    Ok((answer, states_of(alloc, &mut devices, seats)?))
 }
 
 fn set(alloc: Global, bench: &mut Bench, line: usize, setting: &Setting) -> Result<(), Fault> {
@@ -257,7 +267,32 @@ fn want(alloc: Global, bench: &mut Bench, line: usize, wish: &Wish) -> Result<()
             Some(_) => Err(failed(alloc, line, "no file of this name", "one")),
             None => Ok(()),
         },
+        Wish::Shows { base, state } => want_state(alloc, bench, line, *base, state),
     }
+}
+
+fn want_state(
+    alloc: Global,
+    bench: &Bench,
+    line: usize,
+    base: u32,
+    wanted: &DeviceState,
+) -> Result<(), Fault> {
+    let Some(outcome) = &bench.outcome else {
+        return Err(failed(alloc, line, "a run in front of it", "none"));
+    };
+    let seat = bench.seats.iter().position(|seat| seat.base == base);
+    let Some(came) = seat.and_then(|seat| outcome.devices.get(seat)) else {
+        return Err(failed(alloc, line, "a device at this address", "none"));
+    };
+    if came == wanted {
+        return Ok(());
+    }
+    let mut told = String::new(alloc);
+    push_state(&mut told, wanted)?;
+    let mut shown = String::new(alloc);
+    push_state(&mut shown, came)?;
+    Err(failed(alloc, line, told.as_str(), shown.as_str()))
 }
 
 fn want_status(

@@ -3,11 +3,13 @@
 ghost use Rattle.std.specs.Prelude.{◌≡◌, ◌≤◌, ◌+◌, ◌%◌, ◌^◌};
 
 use sdt_fault::{Bytes, NoMemory, Text};
+use sdt_outside::DeviceState;
 use std::alloc::{AllocError, AllocFailed, Global};
 
 #[derive(Clone, Copy)]
 pub enum DeviceKind {
-    Timer,
+    /// A timer that begins with this period and this control word, and else with zeros.
+    Timer { period: u32, control: u32 },
     Uart,
 }
 
@@ -47,6 +49,8 @@ pub enum Wish {
     Length { name: Text, length: usize },
     Same { first: Text, second: Text },
     Absent { name: Text },
+    /// The device at this address is in this state.
+    Shows { base: u32, state: DeviceState },
 }
 
 #[derive(Drop)]

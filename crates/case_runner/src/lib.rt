@@ -5,6 +5,7 @@
 mod bench;
 mod cases;
 mod contents;
+mod devices;
 mod files;
 mod sections;
 mod steps;

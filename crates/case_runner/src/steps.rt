@@ -5,6 +5,7 @@ use crate::contents::{Unread, bytes_of, content, unescaped};
 use crate::sections::Section;
 use crate::words::{number_of, words_of};
 use sdt_fault::{Bytes, Text};
+use sdt_outside::DeviceState;
 use std::alloc::Global;
 
 #[derive(Clone, Copy)]
@@ -23,6 +24,7 @@ enum Verb {
     Length,
     Same,
     Absent,
+    Shows,
 }
 
 /// The step of a section, or what its line is wanted to be.
@@ -61,6 +63,7 @@ fn verb_of(words: &[String]) -> Option<Verb> {
         "length" => Some(Verb::Length),
         "same" => Some(Verb::Same),
         "absent" => Some(Verb::Absent),
+        "shows" => Some(Verb::Shows),
         _ => None,
     }
 }
@@ -72,7 +75,7 @@ fn form_of(verb: Verb) -> &'static str {
         Verb::Patch => "patch NAME PLACE HEX",
         Verb::Failing => "failing [NUMBERS]",
         Verb::Room => "room BYTES",
-        Verb::Device => "device timer|uart BASE",
+        Verb::Device => "device timer BASE [PERIOD CONTROL] or device uart BASE",
         Verb::Run => "run WORDS",
         Verb::Status => "status NUMBER",
         Verb::Answer => "answer TEXT",
@@ -81,6 +84,8 @@ fn form_of(verb: Verb) -> &'static str {
         Verb::Length => "length NAME BYTES",
         Verb::Same => "same NAME NAME",
         Verb::Absent => "absent NAME",
+        Verb::Shows =>
+            "shows timer BASE PERIOD CONTROL COUNT up|down or shows uart BASE LAST NUMBER",
     }
 }
 
@@ -114,6 +119,7 @@ fn read_action(
             words,
             section.body.as_slice(),
         )?)),
+        Verb::Shows => Ok(Action::Want(read_shows(words)?)),
     }
 }
 
@@ -171,8 +177,7 @@ fn read_failing(alloc: Global, words: &[String]) -> Result<Setting, Unread> {
 }
 
 fn read_device(words: &[String]) -> Result<Setting, Unread> {
-    ends_at(words, 3)?;
-    let kind = kind_of(word_at(words, 1)?)?;
+    let kind = read_kind(words)?;
     let base = number_at(words, 2)?;
     if base > 0xFFFF_FFF0 || base % 4 != 0 {
         return Err(Unread::Malformed);
@@ -183,10 +188,62 @@ fn read_device(words: &[String]) -> Result<Setting, Unread> {
     })
 }
 
-fn kind_of(word: &str) -> Result<DeviceKind, Unread> {
+// A timer stands still where no more is said of it.
+fn read_kind(words: &[String]) -> Result<DeviceKind, Unread> {
+    match word_at(words, 1)? {
+        "timer" if words.len() > 3 => {
+            ends_at(words, 5)?;
+            Ok(DeviceKind::Timer {
+                period: small_at(words, 3)?,
+                control: small_at(words, 4)?,
+            })
+        }
+        "timer" => Ok(DeviceKind::Timer {
+            period: 0,
+            control: 0,
+        }),
+        "uart" => {
+            ends_at(words, 3)?;
+            Ok(DeviceKind::Uart)
+        }
+        _ => Err(Unread::Malformed),
+    }
+}
+
+fn read_shows(words: &[String]) -> Result<Wish, Unread> {
+    let base = small_at(words, 2)?;
+    match word_at(words, 1)? {
+        "timer" => {
+            ends_at(words, 7)?;
+            Ok(Wish::Shows {
+                base,
+                state: DeviceState::TimerState {
+                    period: small_at(words, 3)?,
+                    control: small_at(words, 4)?,
+                    count: small_at(words, 5)?,
+                    up: read_line(word_at(words, 6)?)?,
+                },
+            })
+        }
+        "uart" => {
+            ends_at(words, 5)?;
+            Ok(Wish::Shows {
+                base,
+                state: DeviceState::UartState {
+                    last: small_at(words, 3)?,
+                    number: small_at(words, 4)?,
+                },
+            })
+        }
+        _ => Err(Unread::Malformed),
+    }
+}
+
+// Whether a line is up.
+fn read_line(word: &str) -> Result<bool, Unread> {
     match word {
-        "timer" => Ok(DeviceKind::Timer),
-        "uart" => Ok(DeviceKind::Uart),
+        "up" => Ok(true),
+        "down" => Ok(false),
         _ => Err(Unread::Malformed),
     }
 }
@@ -280,6 +337,14 @@ fn name_at(alloc: Global, words: &[String], at: usize) -> Result<Text, Unread> {
 
 fn number_at(words: &[String], at: usize) -> Result<u64, Unread> {
     number_of(word_at(words, at)?).ok_or(Unread::Malformed)
+}
+
+// A number below 2^32.
+fn small_at(words: &[String], at: usize) -> Result<u32, Unread> {
+    match u32::try_from(number_at(words, at)?) {
+        Ok(number) => Ok(number),
+        Err(_) => Err(Unread::Malformed),
+    }
 }
 
 fn place_at(words: &[String], at: usize) -> Result<usize, Unread> {

@@ -89,7 +89,7 @@ module _ (b : Board) (work ack : ℕ) (m : Bytes) (ack-whole : ack % 4 ≡ 0) (s
       rw (four h.bytes 0x48 (omega arith), h.shown 0x48 (omega arith) (omega arith), h.shown 0x49 (omega arith) (omega arith), h.shown 0x4A (omega arith) (omega arith), h.shown 0x4B (omega arith) (omega arith)) refl in
       w ∙ f ∙ rw h.placed (omega arith)
 
-  is-kit : IsKit b work ack m
+  pub is-kit : IsKit b work ack m
   is-kit = record {
     whole = h.whole;
     low = h.low;

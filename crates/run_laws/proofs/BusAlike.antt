@@ -92,7 +92,7 @@ module _ (work ack : ℕ) where
       go false true o = record { first = h.first; second = h.second; third = h.third; device = h.device }
       go false false o = h
 
-  work-served : (s : State) (xs : List Access) → HasWork work ack s.contents → HasWork work ack (served s xs).contents
+  pub work-served : (s : State) (xs : List Access) → HasWork work ack s.contents → HasWork work ack (served s xs).contents
   work-served s [] h = h
   work-served s (Fetch a w ∷ rest) h = work-served (after_read s a w) rest (subst (HasWork work ack) (sym (contents-read s a w)) h)
   work-served s (Load a w ∷ rest) h = work-served (after_read s a w) rest (subst (HasWork work ack) (sym (contents-read s a w)) h)

@@ -1,6 +1,7 @@
 -- A run that ends by Exit over devices ends so over silent ones.
-use Rattle.std.proofs.Common.{◌≡◌, ◌≢◌, ℕ, zero, suc, ◌+◌, false, List, [], ◌∷◌, ◌++◌, refl, sym, ap, subst, ◌∙◌, arith, inl, inr, append-nil, append_assoc}
+use Rattle.std.proofs.Common.{◌≡◌, ◌≢◌, ℕ, zero, suc, ◌+◌, ◌≤◌, false, List, [], ◌∷◌, ◌++◌, length, refl, sym, ap, subst, ◌∙◌, arith, inl, inr, append-nil, append_assoc}
 use Rattle.std.specs.List.{AllByRecursion}
+use Rattle.std.proofs.lemmas.List.{length-append}
 use Rattle.sdt_outside.specs.declared.device.DeviceState.{DeviceState}
 use Rattle.sdt_outside.specs.declared.device.DeviceState.TheVariants as device
 use Rattle.sdt_outside.specs.Devices.{lines_of}
@@ -58,6 +59,10 @@ prints-end core s (y ∷ ys) text core1 s1 x e core2 s2 piece (d, core3, s3, fir
   ap (λ (l : List ℕ). l ++ piece) is ∙ append_assoc first rest piece,
 )
 
+count-end : (xs : List Stepped) (x : Stepped) → length (xs ++ x ∷ []) ≡ suc (length xs)
+count-end [] x = refl
+count-end (y ∷ ys) x = ap suc (count-end ys x)
+
 go-on-end : (xs : List Stepped) (x : Stepped) → GoOn xs → x.event ≢ event.Host 0x11 → GoOn (xs ++ x ∷ [])
 go-on-end [] x all h = (h, tt)
 go-on-end (y ∷ ys) x all h = (all.0, go-on-end ys x all.1 h)
@@ -70,21 +75,21 @@ may-exit-end (y ∷ z ∷ ys) x all = (all.0, may-exit-end (z ∷ ys) x all.1)
 no-exit : (e : Event) (core : ArmState) (s : State) (piece : List ℕ) → GoesOn e core s piece → e ≢ event.Host 0x11
 no-exit e core s piece on is = subst (λ (y : Event). GoesOn y core s piece) is on
 
-abbrev Steps : ArmState → State → List ℕ → ArmState → State → Type 0
-Steps core s text core' s' = (xs : List Stepped) × GoOn xs × Prints core s xs text core' s'
+abbrev Steps : ArmState → State → ℕ → List ℕ → ArmState → State → Type 0
+Steps core s n text core' s' = (xs : List Stepped) × (length xs ≡ n) × GoOn xs × Prints core s xs text core' s'
 
-leads-prints : (core : ArmState) (s : State) (n : ℕ) (text : List ℕ) (core' : ArmState) (s' : State) → Leads core s n text core' s' → Steps core s text core' s'
-leads-prints core s zero text core' s' stays = ([], tt, (refl, refl, refl))
+leads-prints : (core : ArmState) (s : State) (n : ℕ) (text : List ℕ) (core' : ArmState) (s' : State) → Leads core s n text core' s' → Steps core s n text core' s'
+leads-prints core s zero text core' s' stays = ([], refl, tt, (refl, refl, refl))
 leads-prints core s (suc n) whole core' s' (goes {text = text} piece {core1 = core1} {s1 = s1} e before step on) =
     further (leads-prints core s n text core1 s1 before)
   where
     m : IsStepOf core1 (after_tick s1) step.first e core' s'
     m = record { step = step.step; ends = step.ends }
 
-    further : Steps core s text core1 s1 → Steps core s (text ++ piece) core' s'
-    further (xs, all, run) =
+    further : Steps core s n text core1 s1 → Steps core s (suc n) (text ++ piece) core' s'
+    further (xs, count, all, run) =
         let w = is-whole core1 (after_tick s1) step.first e core' s' piece m (inl on) in
-        (xs ++ step.first ∷ [], go-on-end xs step.first all (λ i. no-exit e core' s' piece on (w.event ∙ i)), prints-end core s xs text core1 s1 step.first e core' s' piece run m (inl on))
+        (xs ++ step.first ∷ [], count-end xs step.first ∙ ap suc count, go-on-end xs step.first all (λ i. no-exit e core' s' piece on (w.event ∙ i)), prints-end core s xs text core1 s1 step.first e core' s' piece run m (inl on))
 
 -- ---- they are steps of the model
 
@@ -200,6 +205,16 @@ exits-too {k = k} (aligned-goes {xs = y ∷ ys} {ps = ps} x0 made more) e m =
     joined [] h = absurd h.last
     joined (z ∷ zs) h = record { last = h.last; before = (m.0, h.before) }
 
+-- and has no more steps
+no-longer : {b : Board} {work ack : ℕ} {k : Scratch} {p : Whole} {xs ps : List Stepped} → Aligned b work ack k p xs ps → length ps ≤ length xs
+no-longer aligned-ends = omega arith
+no-longer (stops x xs int short) = omega arith
+no-longer (aligned-goes x0 made more) = let h = no-longer more in omega arith
+no-longer (returns {zs = zs} l x front int long reach more) =
+    let h = no-longer more in
+    let all = length-append front zs in
+    omega (arith, h, all)
+
 -- ---- back to a run
 
 first-step : (core : ArmState) (s : State) (n : ℕ) (piece text : List ℕ) (e : Event) (core1 core2 : ArmState) (s1 s2 : State)
@@ -210,11 +225,11 @@ first-step core s (suc n) piece whole e core1 core2 s1 s2 step on (goes {text = 
     subst (λ (l : List ℕ). Leads core s (suc (suc n)) l core2 s2) (append_assoc piece text later)
     (goes later e' (first-step core s n piece text e core1 core3 s1 s3 step on before) step' on')
 
-abbrev Exits : ArmState → State → List ℕ → ArmState → State → Type 0
-Exits core s text core' s' =
-    (n : ℕ) × (core1 : ArmState) × (s1 : State) × Leads core s n text core1 s1 × IsStep core1 s1 (event.Host 0x11) core' s'
+abbrev Exits : ℕ → ArmState → State → List ℕ → ArmState → State → Type 0
+Exits count core s text core' s' =
+    (n : ℕ) × (suc n ≡ count) × (core1 : ArmState) × (s1 : State) × Leads core s n text core1 s1 × IsStep core1 s1 (event.Host 0x11) core' s'
 
-prints-exits : (core : ArmState) (s : State) (ps : List Stepped) (text : List ℕ) (core' : ArmState) (s' : State) → EndsInExit ps → MayExit ps → Prints core s ps text core' s' → Exits core s text core' s'
+prints-exits : (core : ArmState) (s : State) (ps : List Stepped) (text : List ℕ) (core' : ArmState) (s' : State) → EndsInExit ps → MayExit ps → Prints core s ps text core' s' → Exits (length ps) core s text core' s'
 prints-exits core s [] text core' s' last before run = absurd last
 prints-exits core s (x ∷ []) text core' s' last before (e, core1, s1, piece, rest, m, on, (none, c, b), is) =
     let w = is-whole core (after_tick s) x e core1 s1 piece m on in
@@ -224,7 +239,7 @@ prints-exits core s (x ∷ []) text core' s' last before (e, core1, s1, piece, r
     subst (λ (y : State). IsStep core s (event.Host 0x11) core' y) (sym b)
     (subst (λ (y : ArmState). IsStep core s (event.Host 0x11) y s1) (sym c) (subst (λ (y : Event). IsStep core s y core1 s1) exit step)) in
     let empty : text ≡ [] = is ∙ ap (λ (l : List ℕ). piece ++ l) none ∙ append-nil piece ∙ silent exit on in
-    (0, core, s, subst (λ (l : List ℕ). Leads core s 0 l core s) (sym empty) stays, step2)
+    (0, refl, core, s, subst (λ (l : List ℕ). Leads core s 0 l core s) (sym empty) stays, step2)
   where
     silent : e ≡ event.Host 0x11 → GoesOrExits e core1 s1 piece → piece ≡ []
     silent i (inl h) = absurd (no-exit e core1 s1 piece h i)
@@ -232,8 +247,9 @@ prints-exits core s (x ∷ []) text core' s' last before (e, core1, s1, piece, r
 prints-exits core s (x ∷ y ∷ ys) text core' s' last before (e, core1, s1, piece, rest, m, on, more, is) =
     let w = is-whole core (after_tick s) x e core1 s1 piece m on in
     let goes-on : GoesOn e core1 s1 piece = still w.event on in
-    let (n, core2, s2, leads, exit) = prints-exits core1 s1 (y ∷ ys) rest core' s' last before.1 more in (
+    let (n, count, core2, s2, leads, exit) = prints-exits core1 s1 (y ∷ ys) rest core' s' last before.1 more in (
       suc n,
+      ap suc count,
       core2,
       s2,
       subst (λ (l : List ℕ). Leads core s (suc n) l core2 s2) (sym is)
@@ -249,7 +265,7 @@ prints-exits core s (x ∷ y ∷ ys) text core' s' last before (e, core1, s1, pi
 
 pub exits-alike : RunsAreTransparent → ExitsAlike
 exits-alike law work ack most made core core_t' q t t' text ready_q ready_t silent has contents board kit fine rules run =
-    let (xs, all, prints) = leads-prints core t run.count text run.core1 run.s1 run.leads in
+    let (xs, length_is, all, prints) = leads-prints core t run.count text run.core1 run.s1 run.leads in
     let step = run.ends.2 in
     let m : IsStepOf run.core1 (after_tick run.s1) step.first (event.Host 0x11) core_t' t' = record { step = step.step; ends = step.ends } in
     let w = is-whole run.core1 (after_tick run.s1) step.first (event.Host 0x11) core_t' t' [] m (inr (refl, refl)) in
@@ -275,8 +291,17 @@ exits-alike law work ack most made core core_t' q t t' text ready_q ready_t sile
     let (core_q', q', printed_q) = alike work ack aligned core core core_t' q t t' text refl refl
     (record { ready_q = ready_q; ready_t = ready_t; silent = silent; work_t = has; twins = twins; state = same ∙ sym self }) plain printed in
     let too = exits-too aligned (ends-end xs step.first (sym w.event)) may in
-    let (n, core1, s1, leads, exit) = prints-exits core q ps text core_q' q' too.last too.before printed_q in
-    (suc n, n + 1, core_q', q', record { count = n; core1 = core1; s1 = s1; leads = leads; ends = (omega arith, refl, exit) })
+    let (n, counted, core1, s1, leads, exit) = prints-exits core q ps text core_q' q' too.last too.before printed_q in
+    let fewer = no-longer aligned in
+    let all_made = count-end xs step.first in
+    let few = run.ends.0 in
+    let is_made = run.ends.1 in (
+      n + 1,
+      omega (arith, counted, fewer, all_made, length_is, is_made),
+      core_q',
+      q',
+      record { count = n; core1 = core1; s1 = s1; leads = leads; ends = (omega (arith, counted, fewer, all_made, length_is, few), refl, exit) },
+    )
   where
     store-of : ℕ → Scratch → State → Bytes
     store-of work k q = (beside work k (over core q)).memory

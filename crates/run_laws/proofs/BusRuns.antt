@@ -39,7 +39,7 @@ board-next s xs = board-served (after_tick s) xs ∙ board-tick s
 pub ready-next : (s : State) (xs : List Access) → IsReady s → IsReady (next s xs)
 ready-next s xs r = ready-served (after_tick s) xs (ready-tick s r)
 
-board-left : (s : State) (xs : List (List Access)) → board_of (left_by s xs) ≡ board_of s
+pub board-left : (s : State) (xs : List (List Access)) → board_of (left_by s xs) ≡ board_of s
 board-left s [] = refl
 board-left s (x ∷ xs) = board-left (next s x) xs ∙ board-next s x
 

@@ -3,6 +3,7 @@ pub mod BusAlike
 pub mod BusBeside
 pub mod BusExits
 pub mod BusRuns
+pub mod BusStarted
 pub mod BusStrings
 pub mod BusTwins
 pub mod Devices

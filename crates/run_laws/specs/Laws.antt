@@ -17,7 +17,7 @@ use Rattle.kit_laws.specs.Handler.{IsKit}
 use Rattle.kit_laws.specs.Rules.{KeepsRules}
 use Rattle.run_laws.specs.Boards.{IsBoard}
 use Rattle.run_laws.specs.Devices.{AreOffDevices, lines_for, ticked_for, touches_of}
-use Rattle.run_laws.specs.Silent.{AreSilent, HasWork}
+use Rattle.run_laws.specs.Silent.{AreQuiet, AreSilent, HasWork}
 use Rattle.run_laws.specs.Steps.{AreMade, IsRunOf, Print, StoresAreUsed, given_by, left_by, steps_made}
 
 -- registers and a bus have at most one step
@@ -87,11 +87,20 @@ RunLeavesDevices =
     → (s'.devices ≡ ticked_for (steps_made why made) s.devices) × (touches_of s'.devices ≡ touches_of s.devices))
 
 -- where a program with the handler keeps the rules until it exits, and its run over devices ends by Exit, the run over
--- silent devices ends by Exit too, with the same text
+-- silent devices ends by Exit too, with the same text and no more steps
 abbrev pub ExitsAlike : Type 0
 ExitsAlike =
     (work ack most made : ℕ) (core core_t' : ArmState) (q t t' : State) (text : List ℕ)
     → IsReady q → IsReady t → AreSilent q.devices → HasWork work ack t.contents → t.contents ≡ q.contents → board_of t ≡ board_of q
     → IsKit (board_of q) work ack q.contents.memory → IsValidState (over core q) → KeepsRules (board_of q) work (over core q)
     → Runs most core t stop.Exit made text core_t' t'
-    → (most' : ℕ) × (made' : ℕ) × (core_q' : ArmState) × (q' : State) × Runs most' core q stop.Exit made' text core_q' q'
+    → (made' : ℕ) × (made' ≤ made) × (core_q' : ArmState) × (q' : State) × Runs most core q stop.Exit made' text core_q' q'
+
+-- so it is where quiet steps lead to that program, whatever they leave in the handler's memory
+abbrev pub StartedExitsAlike : Type 0
+StartedExitsAlike =
+    (work ack most made : ℕ) (core core_t' : ArmState) (q t t' : State) (steps : List Stepped) (text : List ℕ)
+    → IsReady q → IsReady t → AreSilent q.devices → HasWork work ack t.contents → t.contents ≡ q.contents → board_of t ≡ board_of q
+    → IsValidState (over core t) → AreQuiet core t steps → IsKit (board_of q) work ack (behind (over core t) steps).memory
+    → KeepsRules (board_of q) work (behind (over core t) steps) → Runs most core t stop.Exit made text core_t' t'
+    → (made' : ℕ) × (made' ≤ made) × (core_q' : ArmState) × (q' : State) × Runs most core q stop.Exit made' text core_q' q'

@@ -1,6 +1,6 @@
 //! The laws. Their calls do nothing; their contracts are the laws.
 
-ghost use Rattle.run_laws.specs.Laws.{BoardIsOne, BusRunIsOne, BusRunsAreRuns, BusStepIsOne, DevicesAreLeft, ExitsAlike, MadeStepsAreOne, RunLeavesDevices, RunsAreBusRuns, StepsAreMade};
+ghost use Rattle.run_laws.specs.Laws.{BoardIsOne, BusRunIsOne, BusRunsAreRuns, BusStepIsOne, DevicesAreLeft, ExitsAlike, MadeStepsAreOne, RunLeavesDevices, RunsAreBusRuns, StartedExitsAlike, StepsAreMade};
 
 use arm7_model::{step_is_one, step_is_valid};
 use kit_laws::runs_are_transparent;
@@ -63,4 +63,13 @@ pub fn exits_alike()
     ensures { ExitsAlike }
 {
     runs_are_transparent();
+}
+
+/// So it does where quiet steps, as those of startup code, lead to the program.
+pub fn started_exits_alike()
+    ensures { StartedExitsAlike }
+{
+    step_is_valid();
+    bus_run_is_one();
+    exits_alike();
 }
