@@ -1,4 +1,5 @@
 mod AssembleLemmas
+mod BeginLemmas
 mod FaultLemmas
 mod LawLemmas
 mod ListLemmas

@@ -49,7 +49,7 @@ reading_none name flats r e = by_area (list_any says_area flats) e
     by_area true k = lines_none (said_by r) r.before r.unread k
     by_area false k = absurd (cc)
 
-source_none : (name : List ℕ) (flats : List Flat) (r : Reading) → source_faults name flats r ≡ None
+pub source_none : (name : List ℕ) (flats : List Flat) (r : Reading) → source_faults name flats r ≡ None
     → (layout_faults (said_by r) ≡ None) × (value_faults (said_by r) ≡ None)
 source_none name flats r e =
     let both = neither (reading_faults name flats r) (told (value_faults (said_by r))) e in

@@ -2,6 +2,7 @@
 pub mod Assembling
 pub mod Passes
 pub mod Standing
+pub mod Beginning
 pub mod Building
 pub mod Emission
 pub mod Emitted

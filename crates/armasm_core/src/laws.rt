@@ -1,6 +1,7 @@
 //! Laws of the definitions, each proved as the contract of an empty function.
 
 ghost use Rattle.armasm_core.specs.Assembling.{OneAssembly};
+ghost use Rattle.armasm_core.specs.Beginning.{SourcesBegin};
 ghost use Rattle.armasm_core.specs.Standing.{ObjectsOfFlatsAreValid, ObjectsOfFlatsStand};
 
 use asm_reading::laws::{one_reading, readings_are_fit};
@@ -34,4 +35,15 @@ pub fn objects_of_flats_are_valid()
     readings_are_fit();
     sources_keep_states();
     objects_are_valid();
+}
+
+/// A source whose object has an entry has one line ENTRY, and the entry is where that line stands, in its state; another
+/// source has none.
+pub fn sources_begin()
+    ensures { SourcesBegin }
+{
+    expansion_law();
+    one_reading();
+    readings_are_fit();
+    sources_keep_states();
 }

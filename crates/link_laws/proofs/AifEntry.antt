@@ -36,7 +36,8 @@ use Rattle.link_items.specs.LinkedItems.{item_of, items_in, item_at, region_vene
 use Rattle.link_place.specs.Placed.{placement_of}
 use Rattle.link_apply.specs.Placed.{veneers_at, target_in, home_of, called}
 use Rattle.link_laws.specs.Joins.{IsEntryOf}
-use Rattle.link_laws.specs.Placing.{bases_of, IsPlacedLink}
+use Rattle.link_laws.specs.Placing.{bases_of, veneers_in as veneers_of_plan, IsPlacedLink}
+use Rattle.link_laws.specs.Plans.{call_by}
 use Rattle.link_laws.proofs.ItemLemmas.{area_valid}
 use Rattle.link_laws.proofs.ListLemmas.{found_all, in_filter, in_filter_map, in_back, in_front, in_map}
 use Rattle.link_laws.proofs.MadeAddressLemmas.{has_places, veneers_there}
@@ -335,11 +336,14 @@ module _ (base : ℕ) (rel : Bool) (ram : Option (List Range32)) (l : Linked) (a
     pub veneer_place : IsVeneerPlace
     veneer_place = let (s, at, is) = stood_in_place ro.origin ro.base ro.things (AVeneer home true) in_region in record { spot = s; place = at.0; there = at.1; is = is }
 
-    pub veneer_is : veneers_at p 0 home true ≡ Some veneer_place.spot.address
-    veneer_is =
+    veneer_in : veneers_of_plan (Some ro) home true ≡ Some veneer_place.spot.address
+    veneer_in =
         let once : AreOnce vs = subst AreOnce (sym needed) (veneers_law (link_of l) a.regions true).once in
         let apart = things_apart l.objects a.regions vs 0 k 0 ro (shaped k ram l a.regions vs h 0 ro refl) refl once in
-        veneers_there k c 0 ro refl home true ∙ is_first ro apart veneer_place.place veneer_place.spot home true veneer_place.there veneer_place.is
+        is_first ro apart veneer_place.place veneer_place.spot home true veneer_place.there veneer_place.is
+
+    pub veneer_is : veneers_at p 0 home true ≡ Some veneer_place.spot.address
+    veneer_is = veneers_there k c 0 ro refl home true ∙ veneer_in
 
     veneer_bounds : (base + 128 ≤ veneer_place.spot.address) × (veneer_place.spot.address + 12 ≤ base + length_of ro) × (veneer_place.spot.address % 4 ≡ 0)
     veneer_bounds =
@@ -388,3 +392,11 @@ module _ (base : ℕ) (rel : Bool) (ram : Option (List Range32)) (l : Linked) (a
       go : (b : Bool) → l.entry.thumb ≡ b → IsCalled base end (called l.entry.thumb l p)
       go true e = veneer_called e
       go false e = entry_called e
+
+  -- the header calls what the plan says
+  pub calls : call_by l.entry.thumb plan l ≡ Some (called l.entry.thumb l p)
+  calls = go l.entry.thumb refl
+    where
+      go : (b : Bool) → l.entry.thumb ≡ b → call_by l.entry.thumb plan l ≡ Some (called l.entry.thumb l p)
+      go false e = ap (λ (b : Bool). call_by b plan l) e ∙ ap Some (sym (called_entry e))
+      go true e = ap (λ (b : Bool). call_by b plan l) e ∙ veneer_in e ∙ ap Some (sym (called_veneer e))

@@ -1,5 +1,5 @@
 -- A link that is made as an AIF starts.
-use Rattle.std.proofs.Common.{◌≡◌, ℕ, ◌+◌, ◌-◌, Bool, true, false, List, [], ◌∷◌, length, map, refl, sym, ap, subst, ◌∙◌, arith, Option, Some, None}
+use Rattle.std.proofs.Common.{◌≡◌, ℕ, ◌+◌, ◌*◌, ◌-◌, Bool, true, false, List, [], ◌∷◌, length, map, refl, sym, ap, subst, ◌∙◌, arith, Option, Some, None}
 use Rattle.std.specs.Prelude.{slice_get, unwrap_or, is_some}
 use Rattle.std.specs.List.{find, flat_map}
 use Rattle.std.specs.Option.{option_map}
@@ -46,7 +46,7 @@ use Rattle.link_laws.proofs.ShiftApplied.{moved_is_applied}
 use Rattle.link_laws.proofs.ShiftNeeds.{entry_there}
 use Rattle.link_laws.proofs.ShiftPlaced.{aif_placement, whole_image}
 use Rattle.link_laws.proofs.ShiftPlacement.{base_moves, veneers_move}
-use Rattle.link_laws.proofs.ShiftStarts.{moved_image_boots, moved_image_shows}
+use Rattle.link_laws.proofs.ShiftStarts.{file_size, moved_image_boots, moved_image_shows}
 
 apart : {X : Type 0} (x : X) (o : Option X) → o ≡ None → o ≡ Some x → ⊥
 apart x o none some = cc
@@ -343,6 +343,13 @@ module _ (base : ℕ) (ram : Option (List Range32)) (l : Linked) (a : Assigned) 
           subst (AllBoot (moving_file base l a vs p offset)) (λ i to. each to i) (moved_image_boots.in_arm base ram l a vs p (items_in l.objects) offset views moving)
       go true thumb =
           moved_image_boots.by_veneer base ram l a vs p (items_in l.objects) offset views (λ to. to + (entry_at l p - base) + flag l.entry.thumb) moving (λ to r. enters_there to (as_room to r) thumb)
+
+  -- its file has the relocator and the list behind its parts
+  module _ (to : ℕ) (room : HasRoomAt (aif_at base l a vs p) (parts_size here) (zero_size here) to) where
+    pub size_there : length (aif_at base l a vs p) ≡ parts_size (aif_plan to true contents) + 60 + 4 * length (moving_list base l a vs p) + 4
+    size_there =
+        sym (ap length same_file) ∙ file_size base ram l a vs p (items_in l.objects) offset views moving
+        ∙ ap (λ (n : ℕ). n + 60 + 4 * length (moving_list base l a vs p) + 4) (sym (parts_same to room))
 
 pub moved_is_seen : MovedIsSeen
 moved_is_seen base to ram l a vs p h fair room = seen_there base ram l a vs p h fair to room

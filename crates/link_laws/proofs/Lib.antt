@@ -44,6 +44,7 @@ pub mod ShiftApplied
 pub mod AifEntry
 pub mod AifMade
 pub mod AifStarts
+pub mod PlanNumbers
 pub mod PlanNames
 pub mod PlanSeen
 pub mod ShiftRows

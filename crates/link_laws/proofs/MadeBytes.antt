@@ -268,7 +268,7 @@ stood_none : (origin at : ℕ) (ts : List Thing) → NoStartup ts → AllByRecur
 stood_none origin at [] none = tt
 stood_none origin at (t ∷ ts) none = (none.0, stood_none origin (start_of origin at t + size_of t) ts none.1)
 
-no_boot : (k : Kind) (c : Contents) (words : ℕ) → ((n : ℕ) → startup_in k n words ≡ []) → boot_address (plan_for k c words) ≡ None
+pub no_boot : (k : Kind) (c : Contents) (words : ℕ) → ((n : ℕ) → startup_in k n words ≡ []) → boot_address (plan_for k c words) ≡ None
 no_boot k c words bare =
     let rs : List Planned = regions_of (plan_for k c words) in
     let none : AllByRecursion (λ r. AllByRecursion (λ s. is_startup s.thing ≡ false) (stood_in r)) rs =

@@ -1,7 +1,7 @@
 -- What names mean by a plan: a reference has the value of the one symbol that exports its name.
-use Rattle.std.proofs.Common.{◌≡◌, ℕ, zero, suc, ◌+◌, ◌==◌, Bool, true, false, cond, List, [], ◌∷◌, ◌++◌, refl, sym, ap, subst, ◌∙◌, arith, Option, Some, None}
-use Rattle.std.specs.Prelude.{slice_get}
-use Rattle.std.specs.List.{find}
+use Rattle.std.proofs.Common.{◌≡◌, ◌≢◌, ℕ, zero, suc, ◌+◌, ◌%◌, ◌==◌, Bool, true, false, cond, List, [], ◌∷◌, ◌++◌, refl, sym, ap, subst, ◌∙◌, arith, Option, Some, None}
+use Rattle.std.specs.Prelude.{is_some, slice_get}
+use Rattle.std.specs.List.{AllByRecursion}
 use Rattle.std.specs.Option.{option_map, option_and_then, option_or}
 use Rattle.std.specs.Str.{bytes_eq}
 use Rattle.std.proofs.lemmas.Option.{slice_get-map}
@@ -10,17 +10,21 @@ use Rattle.sdt_word.specs.Numbers.{bit}
 use Rattle.aof_object.specs.declared.records.Object.{Object}
 use Rattle.aof_object.specs.declared.records.Symbol.{Symbol}
 use Rattle.aof_object.specs.Checks.{is_exported}
+use Rattle.aof_object.specs.Objects.{exported}
+use Rattle.aof_object.specs.Validity.{IsSymbol, IsValid, heads}
 use Rattle.patch_model.specs.Fields.{Meant}
 use Rattle.place_model.specs.Plans.{Plan}
+use Rattle.place_model.proofs.ListLemmas.{all_at}
 use Rattle.link_model.specs.declared.selection.Definition.{Definition}
 use Rattle.link_model.specs.declared.selection.Linked.{Linked}
 use Rattle.link_model.specs.declared.selection.Named.{Named}
 use Rattle.link_model.specs.Definitions.{definition_in, definitions_in, definitions_from}
-use Rattle.link_model.specs.Meaning.{Meaning, Defined, OfRegion, Weak, definition_of, meaning_by, meaning_of, symbol_of}
-use Rattle.link_model.specs.Members.{link_of, objects_in}
+use Rattle.link_model.specs.Meaning.{Meaning, Defined, definition_of, meaning_by, meaning_of, symbol_of}
+use Rattle.link_model.specs.Members.{objects_in}
 use Rattle.link_model.specs.Values.{meant_by, meant_of, unplaced}
 use Rattle.link_laws.specs.Placing.{bases_of}
-use Rattle.link_laws.specs.Plans.{IsExport, AreExportedOnce, NoneExports, IsSelection, IsMeaning, IsMeantBy, NamesMean, numbers_by, values_by}
+use Rattle.link_laws.specs.Plans.{IsExport, NoneExports, IsSelection, IsMeaning, IsMeantBy, AreMeant, NamesMean, numbers_by, values_by}
+use Rattle.link_laws.proofs.ListLemmas.{each_at}
 
 -- ---- the first definition of a name
 
@@ -153,10 +157,19 @@ no_export q i (o ∷ os) h own k s e =
 
 -- ---- the value of a symbol
 
-symbol_there : (os : List (Named Object)) (own k : ℕ) (o : Named Object) (s : Symbol) → slice_get os own ≡ Some o → slice_get o.value.symbols k ≡ Some s
+pub symbol_there : (os : List (Named Object)) (own k : ℕ) (o : Named Object) (s : Symbol) → slice_get os own ≡ Some o → slice_get o.value.symbols k ≡ Some s
     → symbol_of (objects_in os) own k ≡ Some s
 symbol_there os own k o s at there =
     ap (option_and_then (λ (v : Object). slice_get v.symbols k)) (slice_get-map (λ (p : Named Object). p.value) os own ∙ ap (option_map (λ (p : Named Object). p.value)) at) ∙ there
+
+-- a valid object's symbols are definitions or references
+symbol_scope : (o : Object) (k : ℕ) (s : Symbol) → IsValid o → slice_get o.symbols k ≡ Some s → s.attributes % 4 ≢ 0
+symbol_scope o k s valid at = (each_at (λ names y. IsSymbol (exported names) (heads o.areas) y) [] o.symbols k s valid.symbols at).1.scope
+
+-- one that isn't defined, has no number and yet a meaning is weak
+none_is_weak : (weak : Bool) → is_some (meaning_by None None weak) ≡ true → weak ≡ true
+none_is_weak true h = refl
+none_is_weak false h = absurd cc
 
 module _ (plan : Plan) (l : Linked) (h : IsSelection l) where
   abbrev os : List (Named Object)
@@ -200,22 +213,29 @@ module _ (plan : Plan) (l : Linked) (h : IsSelection l) where
   of_no_name true = refl
   of_no_name false = refl
 
-  reference : (s : Symbol) (weak : Bool) → IsMeaning plan l.objects s (Means (meaning_by (definition_of defs s.name) (numbers s.name) weak))
-  reference s weak = record {
+  reference : (s : Symbol) (weak : Bool) → (bit s.attributes 4 == 1) ≡ weak → is_some (meaning_by (definition_of defs s.name) (numbers s.name) weak) ≡ true
+      → IsMeaning plan l.objects s (Means (meaning_by (definition_of defs s.name) (numbers s.name) weak))
+  reference s weak is known = record {
     defined = λ own k d e. by_definition s weak own k d e (definition_of defs s.name) refl;
     of_region = λ none n at.
         ap (λ (f : Option Definition). Means (meaning_by f (numbers s.name) weak)) (undefined s.name none (definition_of defs s.name) refl)
         ∙ ap (λ (m : Option ℕ). Means (meaning_by None m weak)) at;
     of_none = λ none at.
-        ap (λ (f : Option Definition). Means (meaning_by f (numbers s.name) weak)) (undefined s.name none (definition_of defs s.name) refl)
-        ∙ ap (λ (m : Option ℕ). Means (meaning_by None m weak)) at ∙ of_no_name weak;
+        let nothing : meaning_by (definition_of defs s.name) (numbers s.name) weak ≡ meaning_by None None weak =
+        ap (λ (f : Option Definition). meaning_by f (numbers s.name) weak) (undefined s.name none (definition_of defs s.name) refl)
+        ∙ ap (λ (m : Option ℕ). meaning_by None m weak) at in
+        (is ∙ none_is_weak weak (sym (ap is_some nothing) ∙ known), ap Means nothing ∙ of_no_name weak);
   }
 
   means : (own k : ℕ) (o : Named Object) (s : Symbol) → slice_get l.objects own ≡ Some o → slice_get o.value.symbols k ≡ Some s
-      → (b : Bool) → IsMeantBy b plan l.objects own s (Means (cond b (Some (Defined own k)) (meaning_by (definition_of defs s.name) (numbers s.name) (bit s.attributes 4 == 1))))
-  means own k o s at there true = ap (meant_of (bases_of plan) own) (symbol_there l.objects own k o s at there)
-  means own k o s at there false = reference s (bit s.attributes 4 == 1)
+      → (b : Bool) → is_some (cond b (Some (Defined own k)) (meaning_by (definition_of defs s.name) (numbers s.name) (bit s.attributes 4 == 1))) ≡ true
+      → IsMeantBy b plan l.objects own s (Means (cond b (Some (Defined own k)) (meaning_by (definition_of defs s.name) (numbers s.name) (bit s.attributes 4 == 1))))
+  means own k o s at there true known = ap (meant_of (bases_of plan) own) (symbol_there l.objects own k o s at there)
+  means own k o s at there false known = reference s (bit s.attributes 4 == 1) refl known
 
-  pub names_mean : NamesMean plan l
-  names_mean own k o s at there =
-      subst (IsMeantBy (bit s.attributes 0 == 1) plan l.objects own s) (sym (value_is own k o s at there)) (means own k o s at there (bit s.attributes 0 == 1))
+  pub names_mean : AllByRecursion (λ o. IsValid o.value) l.objects → AreMeant plan l → NamesMean plan l
+  names_mean valid meant own k o s at there =
+      let scope : s.attributes % 4 ≢ 0 = symbol_scope o.value k s (all_at (λ o. IsValid o.value) l.objects own o valid at) there in
+      let known : is_some (meaning_of defs numbers own k s) ≡ true =
+      sym (ap (λ (ds : List Definition). is_some (meaning_of ds numbers own k s)) h.definitions) ∙ meant own k s (symbol_there l.objects own k o s at there) scope in
+      subst (IsMeantBy (bit s.attributes 0 == 1) plan l.objects own s) (sym (value_is own k o s at there)) (means own k o s at there (bit s.attributes 0 == 1) known)

@@ -1,16 +1,13 @@
 -- What a view of a plan shows of linked objects, and where the program begins.
-use Rattle.std.proofs.Common.{◌≡◌, ℕ, zero, suc, ◌+◌, ◌-◌, ◌*◌, ◌%◌, ◌^◌, ◌<◌, ◌≤◌, Bool, true, false, if◌then◌else◌, List, [], ◌∷◌, ◌++◌, length, refl, sym, ap, subst, ◌∙◌, arith, Option, Some, None}
+use Rattle.std.proofs.Common.{◌≡◌, ℕ, zero, suc, ◌+◌, ◌*◌, ◌%◌, ◌^◌, ◌<◌, ◌≤◌, Bool, true, false, if◌then◌else◌, List, [], ◌∷◌, refl, ap, subst, ◌∙◌, arith, Option, Some, None}
 use Rattle.std.specs.Prelude.{slice_get, slice_index, IsSomeAnd}
 use Rattle.std.specs.Option.{option_map}
-use Rattle.std.specs.List.{AllByRecursion}
 use Rattle.std.proofs.lemmas.Option.{slice_get-map}
 use Rattle.sdt_word.specs.Bytes.{bytes_of}
-use Rattle.sdt_word.specs.Numbers.{flag}
 use Rattle.sdt_word.specs.declared.ranges.Range32.{Range32}
 use Rattle.aof_object.specs.declared.areas.AreaHead.{AreaHead}
 use Rattle.aof_object.specs.declared.records.Area.{Area}
 use Rattle.aof_object.specs.declared.records.Entry.{Entry}
-use Rattle.aof_object.specs.declared.records.Object.{Object}
 use Rattle.aof_object.specs.Checks.{left_over}
 use Rattle.aof_object.specs.Validity.{IsValid, IsEntered, head_of, heads}
 use Rattle.boot_code.specs.Boots.{ByteMap, HoldsWord}
@@ -28,7 +25,6 @@ use Rattle.image_laws.proofs.ViewLemmas.{view_things}
 use Rattle.link_model.specs.declared.placing.Assigned.{Assigned}
 use Rattle.link_model.specs.declared.placing.Veneer.{Veneer}
 use Rattle.link_model.specs.declared.selection.Linked.{Linked}
-use Rattle.link_model.specs.declared.selection.Named.{Named}
 use Rattle.link_model.specs.Members.{link_of}
 use Rattle.link_model.specs.Veneers.{veneers_of}
 use Rattle.link_items.specs.LinkedItems.{has_header}
@@ -36,7 +32,7 @@ use Rattle.link_place.specs.Placed.{placement_of}
 use Rattle.link_values.specs.Placed.{base_in}
 use Rattle.link_laws.specs.Joins.{IsEntryOf}
 use Rattle.link_laws.specs.Placing.{AreApplied, IsHeaderOf, IsPlacedLink, bases_of, link_plan}
-use Rattle.link_laws.specs.Plans.{AreSeenBy, IsMarked, IsSelection, IsShownBy, ViewsAreSeen, entry_by, header_by, numbers_by}
+use Rattle.link_laws.specs.Plans.{IsMarked, IsSelection, ViewsAreSeen, entry_by, header_by, numbers_by}
 use Rattle.link_laws.proofs.AifEntry.{is_called, room}
 use Rattle.link_laws.proofs.MadeAddressLemmas.{has_places}
 use Rattle.link_laws.proofs.PlacedLemmas.{objects_are_placed}
@@ -84,10 +80,10 @@ module _ (k : Kind) (ram : Option (List Range32)) (l : Linked) (a : Assigned) (v
 
 -- ---- the header
 
-header_is : (k : Kind) (plan : Plan) (g : Given) → IsHeaderOf k (header_by k plan g)
-header_is (kind.Scatter s) plan g = tt
-header_is (kind.Plain base) plan g = tt
-header_is (kind.Aif base relocatable) plan g = refl
+header_is : (k : Kind) (p : Plan) (g : Given) → IsHeaderOf k (header_by k p g)
+header_is (kind.Scatter s) p g = tt
+header_is (kind.Plain base) p g = tt
+header_is (kind.Aif base relocatable) p g = refl
 
 module _ (base : ℕ) (rel : Bool) (ram : Option (List Range32)) (l : Linked) (a : Assigned) (vs : List Veneer) (g : Given) (view : ByteMap)
     (h : IsPlacedLink (kind.Aif base rel) ram l a.regions vs) (needed : vs ≡ veneers_of (link_of l) a.regions true) (s : IsSelection l)
@@ -131,10 +127,11 @@ is_marked (kind.Aif base rel) ram l a vs g view h needed chosen applied shows = 
 -- ---- the law
 
 pub views_are_seen : ViewsAreSeen
-views_are_seen k ram l a vs g view h needed chosen applied entry shows = record {
+views_are_seen k ram l a vs g view h needed chosen meant applied entry called shows = record {
   given = g;
   applied = applied;
   entry = entry;
+  called = called;
   shows = shows;
   marked = is_marked k ram l a vs g view h needed chosen applied shows;
   objects = λ own o at. record {
@@ -144,5 +141,5 @@ views_are_seen k ram l a vs g view h needed chosen applied entry shows = record 
         objects_are_shown k ram l a.regions vs (numbers_by (link_plan k l a.regions vs) l.objects) g (header_by k (link_plan k l a.regions vs) g) view h applied
         (header_is k (link_plan k l a.regions vs) g) shows own o at region ranges;
   };
-  names = names_mean (link_plan k l a.regions vs) l chosen;
+  names = names_mean (link_plan k l a.regions vs) l chosen h.valid meant;
 }

@@ -73,7 +73,7 @@ module _ (base : ℕ) (ram : Option (List Range32)) (l : Linked) (a : Assigned) 
   abbrev offsets : List ℕ
   offsets = moving_list base l a vs p
 
-  file_size : length file ≡ parts + 60 + 4 * length offsets + 4
+  pub file_size : length file ≡ parts + 60 + 4 * length offsets + 4
   file_size =
       let front : length (parts_bytes true plan base (given_at base l p offset)) ≡ parts = parts_length base true (contents_of l.objects a.regions vs) items (given_at base l p offset) ram m.image true in
       let tail : List ℕ = relocator_list ++ (offsets ++ 0xFFFFFFFF ∷ []) in

@@ -1,6 +1,6 @@
 -- What an ARM image file is in memory: it is the view of its plan, or becomes it at each address that leaves room; and so of every
 -- kind of image that is answered.
-use Rattle.std.proofs.Common.{◌≡◌, ◌⊎◌, inl, inr, ℕ, ◌+◌, ◌-◌, ◌/◌, ◌^◌, ◌%◌, ◌<◌, ◌≤◌, Bool, true, false, cond, List, [], ◌∷◌, length, Option, Some, None, Ok, refl, sym, ap, ◌∙◌, subst, arith}
+use Rattle.std.proofs.Common.{◌≡◌, ◌⊎◌, inl, inr, ℕ, ◌+◌, ◌-◌, ◌*◌, ◌/◌, ◌^◌, ◌<◌, ◌≤◌, Bool, true, false, cond, List, [], ◌∷◌, length, Option, Some, None, refl, sym, ap, ◌∙◌, subst, arith}
 use Rattle.std.specs.Prelude.{slice_index}
 use Rattle.sdt_word.specs.Numbers.{flag}
 use Rattle.sdt_word.specs.declared.ranges.Range32.{Range32}
@@ -10,9 +10,10 @@ use Rattle.arm7_model.proofs.MemoryLemmas.{store-below, store-in}
 use Rattle.boot_code.specs.Aif.{BootsAif, IsFixedLoadable, ShowsImage, aif_bound, file_at, shifted_file}
 use Rattle.boot_code.specs.Boots.{ByteMap, Boots, covers, zeroed}
 use Rattle.boot_code.specs.Startup.{zeros}
-use Rattle.boot_code.proofs.ViewLemmas.{covers-false, covers-inside, covers-off, covers-true, get_or-zeros, length-zeros}
+use Rattle.boot_code.proofs.ViewLemmas.{covers-false, covers-inside, covers-true, get_or-zeros, length-zeros}
 use Rattle.place_model.specs.declared.scatter.Kind.{Kind}
 use Rattle.place_model.specs.declared.scatter.Kind.TheVariants as kind
+use Rattle.place_model.specs.Assignment.{description}
 use Rattle.place_model.specs.Plans.{Plan}
 use Rattle.scatter_text.specs.Laws.{ReadingLaw}
 use Rattle.image_model.specs.AifFiles.{aif_plan, fixed_aif, offsets_of, shifted_offsets}
@@ -29,6 +30,8 @@ use Rattle.link_model.specs.declared.selection.Linked.{Linked}
 use Rattle.link_model.specs.declared.selection.Named.{Named}
 use Rattle.link_model.specs.Members.{link_of}
 use Rattle.link_model.specs.Veneers.{veneers_of}
+use Rattle.link_model.specs.RegionNames.{names_of_plain}
+use Rattle.link_select.specs.Laws.{HaveMeanings}
 use Rattle.link_items.specs.LinkedItems.{items_in}
 use Rattle.link_place.specs.Placed.{placement_of}
 use Rattle.link_values.specs.Shifts.{not_relocatable, shifts_of}
@@ -38,15 +41,17 @@ use Rattle.link_laws.specs.AifJoins.{HasRoomAt, placement_at}
 use Rattle.link_laws.specs.AifStarts.{HasParts, IsSeen, aif_at, contents_at, entry_at, given_of, view_at}
 use Rattle.link_laws.specs.Joins.{IsMade}
 use Rattle.link_laws.specs.Placing.{link_plan}
-use Rattle.link_laws.specs.Plans.{AreSeenBy, IsSelection, entry_by}
-use Rattle.link_laws.proofs.AifStarts.{becomes_there, entry_moves, made_fixed_boots, made_has_parts, made_is_aif, made_is_seen, made_moving_boots, moved_is_seen}
+use Rattle.link_laws.specs.Plans.{AreMeant, AreSeenBy, IsSelection, entry_by}
+use Rattle.link_laws.proofs.AifEntry.{calls}
+use Rattle.link_laws.proofs.AifStarts.{becomes_there, entry_moves, size_there, made_fixed_boots, made_has_parts, made_is_aif, made_is_seen, made_moving_boots, moved_is_seen}
 use Rattle.link_laws.proofs.MadePlacedLemmas.{are_needed, made_is_placed}
+use Rattle.link_laws.proofs.PlanNumbers.{plain_numbered}
 use Rattle.link_laws.proofs.PlanSeen.{entry_whole, views_are_seen}
-use Rattle.armlink_core.specs.Images.{image_of, linking}
+use Rattle.armlink_core.specs.Images.{image_of}
 use Rattle.sdt_toolkit.specs.Plans.{HasViews, ImagesArePlaced, IsPlacedAs, zero_part}
-use Rattle.sdt_toolkit.specs.Starting.{AreSound, HasRoom}
-use Rattle.sdt_toolkit.proofs.SelectionLemmas.{IsAnswered, answered, made_by, not_refused, still_image}
-use Rattle.sdt_toolkit.proofs.StartLemmas.{bytes_alike, plain_views, scatter_views}
+use Rattle.sdt_toolkit.specs.Starting.{HasRoom}
+use Rattle.sdt_toolkit.proofs.SelectionLemmas.{IsAnswered, answered, made_by, meant_by, not_refused, still_image}
+use Rattle.sdt_toolkit.proofs.StartLemmas.{bytes_alike, loads_named, plain_views, scatter_views}
 
 -- ---- a file that is loaded where it runs, with its zero part cleared
 
@@ -112,10 +117,13 @@ module _ (base : ℕ) (relocatable : Bool) (ram : Option (List Range32)) (l : Li
   whole_entry : entry_at l (placement_of (aif_plan base relocatable (contents_at l a vs))) ≡ entry_by (aif_plan base relocatable (contents_at l a vs)) l
   whole_entry = entry_whole (kind.Aif base relocatable) ram l a vs seen.placed chosen.entered
 
-  aif_seen : AreSeenBy (kind.Aif base relocatable) (aif_plan base relocatable (contents_at l a vs)) l view
-  aif_seen =
-      views_are_seen (kind.Aif base relocatable) ram l a vs (given_of l (placement_of (aif_plan base relocatable (contents_at l a vs)))) view seen.placed needed chosen seen.applied
-      (ap (λ (n : ℕ). n + flag l.entry.thumb) whole_entry) seen.shows
+  aif_seen : HaveMeanings (Some names_of_plain) l → AreSeenBy (kind.Aif base relocatable) (aif_plan base relocatable (contents_at l a vs)) l view
+  aif_seen meanings =
+      let k : Kind = kind.Aif base relocatable in
+      let meant : AreMeant (aif_plan base relocatable (contents_at l a vs)) l =
+      meant_by k ram l a.regions vs seen.placed names_of_plain meanings (plain_numbered k (contents_at l a vs) (λ n words. refl) refl) in
+      views_are_seen k ram l a vs (given_of l (placement_of (aif_plan base relocatable (contents_at l a vs)))) view seen.placed needed chosen meant seen.applied
+      (ap (λ (n : ℕ). n + flag l.entry.thumb) whole_entry) (calls base relocatable ram l a vs seen.placed needed chosen.entered) seen.shows
 
 -- ---- the image
 
@@ -171,10 +179,13 @@ module _ (base : ℕ) (ram : Option (List Range32)) (l : Linked) (a : Assigned) 
   fixed_seen : IsSeen base false ram l a vs fixed_own fixed_view
   fixed_seen = made_is_seen base false ram l a vs fixed_own h
 
+  loads : IsFixedLoadable (fixed_aif fixed_plan base (given_of l fixed_own)) (plan.parts_size fixed_plan) (plan.zero_size fixed_plan) ((given_of l fixed_own).call - base) base fixed_view
+  loads =
+      fixed_image_loads base (contents_at l a vs) (items_in l.objects) (given_of l fixed_own) ram fixed_view
+      (record { image = made_is_aif base false ram l a vs fixed_own h; shows = fixed_seen.shows })
+
   fixed_loads : (x : ℕ) → zeroed (Some 0) (file_at (aif_file fixed_image) base) (zero_part base fixed_plan ∷ []) x ≡ fixed_view x
   fixed_loads x =
-      let loads = fixed_image_loads base (contents_at l a vs) (items_in l.objects) (given_of l fixed_own) ram fixed_view
-      (record { image = made_is_aif base false ram l a vs fixed_own h; shows = fixed_seen.shows }) in
       ap (λ (f : List ℕ). zeroed (Some 0) (file_at f base) (zero_part base fixed_plan ∷ []) x) its_file
       ∙ cleared_is (fixed_aif fixed_plan base (given_of l fixed_own)) (plan.parts_size fixed_plan) (plan.zero_size fixed_plan) ((given_of l fixed_own).call - base) base fixed_view loads x
 
@@ -189,8 +200,8 @@ module _ (base : ℕ) (ram : Option (List Range32)) (l : Linked) (a : Assigned) 
       subst (λ (n : ℕ). Boots (file_at file base) fixed_view (covers (base + n) (zero_size fixed_own.regions)) base (aif_bound 0 (zero_size fixed_own.regions)) entry) (sym fixed_parts.parts) by_zero in
       subst (λ (f : List ℕ). Boots (file_at f base) fixed_view (covers (base + parts_size fixed_own.regions) (zero_size fixed_own.regions)) base (aif_bound 0 (zero_size fixed_own.regions)) entry) (sym its_file) by_parts
 
-  fixed_placed : (os : List (Named Object)) → l.objects ≡ os → IsPlacedAs (kind.Aif base false) ram os fixed_image (λ to. fixed_view)
-  fixed_placed os objects = record {
+  fixed_placed : HaveMeanings (Some names_of_plain) l → (os : List (Named Object)) → l.objects ≡ os → IsPlacedAs (kind.Aif base false) ram os fixed_image (λ to. fixed_view)
+  fixed_placed meanings os objects = record {
     link = l;
     assigned = a;
     veneers = vs;
@@ -201,9 +212,16 @@ module _ (base : ℕ) (ram : Option (List Range32)) (l : Linked) (a : Assigned) 
     places = refl;
     placed = made_is_placed (kind.Aif base false) ram l a vs fixed_own h;
     needed = is_needed base false ram l a vs [] h;
-    told = record { regions = refl; start = refl; bound = ap (aif_bound 0) fixed_parts.zero; thumb = refl };
-    seen = λ to fits. aif_seen base false ram l a vs chosen (is_needed base false ram l a vs [] h) fixed_view fixed_seen;
-    files = λ to fits. fixed_loads;
+    told = record {
+      names = loads_named 0 fixed_own.regions (regions_bytes (link_of l) fixed_own) (description (kind.Aif base false));
+      regions = refl;
+      start = refl;
+      bound = ap (aif_bound 0) fixed_parts.zero;
+      thumb = refl;
+      moves = refl;
+    };
+    seen = λ to fits. aif_seen base false ram l a vs chosen (is_needed base false ram l a vs [] h) fixed_view fixed_seen meanings;
+    files = λ to fits. record { size = ap length its_file ∙ loads.size; cleared = fixed_loads };
     entry = λ to fits. whole_entry base false ram l a vs chosen (is_needed base false ram l a vs [] h) fixed_view fixed_seen;
     reaches = fixed_boots;
   }
@@ -268,8 +286,8 @@ module _ (base : ℕ) (ram : Option (List Range32)) (l : Linked) (a : Assigned) 
     moved_seen : IsSeen to true None l a vs (placement_at to l a vs) (moved_views to)
     moved_seen = moved_is_seen base to ram l a vs moving_own h movable has_room
 
-    seen_there : AreSeenBy (kind.Aif to true) moved_plan l (moved_views to)
-    seen_there = aif_seen to true None l a vs chosen (is_needed base true ram l a vs (moves_of l moving_own) h) (moved_views to) moved_seen
+    seen_there : HaveMeanings (Some names_of_plain) l → AreSeenBy (kind.Aif to true) moved_plan l (moved_views to)
+    seen_there meanings = aif_seen to true None l a vs chosen (is_needed base true ram l a vs (moves_of l moving_own) h) (moved_views to) moved_seen meanings
 
     becomes : ShowsImage (aif_file moving_image) (plan.parts_size moved_plan) (plan.zero_size moved_plan) base (moves_of l moving_own) to (moved_views to)
     becomes =
@@ -277,13 +295,18 @@ module _ (base : ℕ) (ram : Option (List Range32)) (l : Linked) (a : Assigned) 
         (subst (λ (f : List ℕ). ShowsImage f (plan.parts_size moved_plan) (plan.zero_size moved_plan) base (offsets_of (shifts_of (link_of l) moving_own) moving_plan) to (moved_views to)) (sym same_file)
         (becomes_there base ram l a vs moving_own h movable to has_room))
 
+    moving_size : length (aif_file moving_image) ≡ plan.parts_size moved_plan + 60 + 4 * length (moves_of l moving_own) + 4
+    moving_size =
+        ap length same_file ∙ size_there base ram l a vs moving_own h movable to has_room
+        ∙ ap (λ (ms : List ℕ). plan.parts_size moved_plan + 60 + 4 * length ms + 4) (sym same_moves)
+
     entry_there : to + (entry_at l moving_own - base) ≡ entry_by moved_plan l
     entry_there =
         sym (entry_moves base ram l a vs moving_own h movable to has_room)
         ∙ whole_entry to true None l a vs chosen (is_needed base true ram l a vs (moves_of l moving_own) h) (moved_views to) moved_seen
 
-  moving_placed : (os : List (Named Object)) → l.objects ≡ os → IsPlacedAs (kind.Aif base true) ram os moving_image moved_views
-  moving_placed os objects = record {
+  moving_placed : HaveMeanings (Some names_of_plain) l → (os : List (Named Object)) → l.objects ≡ os → IsPlacedAs (kind.Aif base true) ram os moving_image moved_views
+  moving_placed meanings os objects = record {
     link = l;
     assigned = a;
     veneers = vs;
@@ -294,9 +317,16 @@ module _ (base : ℕ) (ram : Option (List Range32)) (l : Linked) (a : Assigned) 
     places = refl;
     placed = made_is_placed (kind.Aif base true) ram l a vs moving_own h;
     needed = is_needed base true ram l a vs (moves_of l moving_own) h;
-    told = record { regions = refl; start = refl; bound = ap (aif_bound (length (moves_of l moving_own))) its_parts.zero; thumb = refl };
-    seen = seen_there;
-    files = becomes;
+    told = record {
+      names = loads_named 0 moving_own.regions (regions_bytes (link_of l) moving_own) (description (kind.Aif base true));
+      regions = refl;
+      start = refl;
+      bound = ap (aif_bound (length (moves_of l moving_own))) its_parts.zero;
+      thumb = refl;
+      moves = same_moves;
+    };
+    seen = λ to fits. seen_there to fits meanings;
+    files = λ to fits. record { size = moving_size to fits; becomes = becomes to fits };
     entry = entry_there;
     reaches = moving_boots;
   }
@@ -307,7 +337,7 @@ fixed_answered : (base : ℕ) (ram : Option (List Range32)) (os : List (Named Ob
 fixed_answered base ram os i n =
     let p : Placement = placement_of (link_plan (kind.Aif base false) n.linked n.assigned.regions n.veneers) in
     subst (HasViews (kind.Aif base false) ram os) (still_image (kind.Aif base false) ram i n.linked n.assigned n.veneers p refl n.answer)
-    ((λ to. fixed_view base ram n.linked n.assigned n.veneers n.answer.made n.selection), fixed_placed base ram n.linked n.assigned n.veneers n.answer.made n.selection os n.objects)
+    ((λ to. fixed_view base ram n.linked n.assigned n.veneers n.answer.made n.selection), fixed_placed base ram n.linked n.assigned n.veneers n.answer.made n.selection n.meanings os n.objects)
 
 moving_answered : (base : ℕ) (ram : Option (List Range32)) (os : List (Named Object)) (i : Image) → IsAnswered (kind.Aif base true) ram os i → HasViews (kind.Aif base true) ram os i
 moving_answered base ram os i n =
@@ -316,7 +346,7 @@ moving_answered base ram os i n =
     let image : moving_image base ram n.linked n.assigned n.veneers n.answer.made n.selection movable ≡ i =
     ap (λ (ms : List ℕ). image_of (kind.Aif base true) (made_by n.linked n.assigned n.veneers p) ms) (sym listed) ∙ n.answer.image in
     subst (HasViews (kind.Aif base true) ram os) image
-    (moved_views base ram n.linked n.assigned n.veneers n.answer.made n.selection movable, moving_placed base ram n.linked n.assigned n.veneers n.answer.made n.selection movable os n.objects)
+    (moved_views base ram n.linked n.assigned n.veneers n.answer.made n.selection movable, moving_placed base ram n.linked n.assigned n.veneers n.answer.made n.selection movable n.meanings os n.objects)
 
 aif_answered : (base : ℕ) (relocatable : Bool) (ram : Option (List Range32)) (os : List (Named Object)) (i : Image) → IsAnswered (kind.Aif base relocatable) ram os i
     → HasViews (kind.Aif base relocatable) ram os i

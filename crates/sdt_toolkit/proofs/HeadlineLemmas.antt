@@ -1,24 +1,32 @@
 -- What `link` and `build` leave, from their answers.
-use Rattle.std.proofs.Common.{◌≡◌, ℕ, zero, suc, Bool, true, false, cond, List, [], ◌∷◌, ◌++◌, Option, Some, None, Result, Ok, Err, refl, sym, ap, ◌∙◌, subst}
+use Rattle.std.proofs.Common.{◌≡◌, ℕ, zero, suc, ◌+◌, ◌==◌, eq-eqb, eqb-true, Bool, true, false, List, [], ◌∷◌, ◌++◌, Option, Some, None, Result, Ok, Err, refl, sym, ap, ◌∙◌, subst}
 use Rattle.std.specs.Prelude.{length, slice_get, take}
-use Rattle.std.specs.List.{list_any, cons_option}
+use Rattle.std.specs.List.{cons_option}
+use Rattle.std.specs.Option.{option_map_or}
 use Rattle.sdt_fault.specs.declared.answer.Answer.{Answer}
 use Rattle.sdt_fault.specs.declared.answer.Answer.TheVariants as answer
 use Rattle.sdt_fault.specs.declared.refusal.Refusal.{Refusal}
 use Rattle.sdt_outside.specs.Files.{Files, content}
 use Rattle.chunk_file.specs.Reading.{◌>>=◌}
+use Rattle.aof_object.specs.declared.records.Area.{Area}
+use Rattle.aof_object.specs.declared.records.Entry.{Entry}
 use Rattle.aof_object.specs.declared.records.Object.{Object}
+use Rattle.aof_object.specs.Flags.{is_thumb_area}
 use Rattle.arm7_bus.specs.Seats.{Seat}
 use Rattle.boot_code.specs.Boots.{ByteMap}
 use Rattle.armasm_core.specs.Assembling.{AssembledFrom}
+use Rattle.armasm_core.specs.Beginning.{BeginsBy, SourceBegins, SourcesBegin, area_state}
 use Rattle.armasm_core.specs.Standing.{StandsFrom}
 use Rattle.link_model.specs.declared.images.Image.{Image}
+use Rattle.link_model.specs.declared.selection.Linked.{Linked}
 use Rattle.link_model.specs.declared.selection.Named.{Named}
 use Rattle.link_model.specs.Chosen.{taken}
+use Rattle.link_model.specs.Definitions.{is_thumb}
 use Rattle.link_model.specs.Members.{members_of}
+use Rattle.place_model.specs.Plans.{Plan}
 use Rattle.scatter_text.specs.Laws.{ReadingLaw}
 use Rattle.link_laws.specs.Placing.{bases_of, region_with, veneers_in}
-use Rattle.link_laws.specs.Plans.{values_by}
+use Rattle.link_laws.specs.Plans.{IsSelection, entry_by, values_by}
 use Rattle.bin_image.specs.declared.records.OutFile.{OutFile}
 use Rattle.tool_words.specs.declared.command.Command.{Command}
 use Rattle.tool_words.specs.declared.command.Command.TheVariants as command
@@ -162,7 +170,45 @@ source_at s (n ∷ names) (bytes ∷ contents) xs h (suc k) name text at there i
     let (x, ys, first, rest, whole) = behind_first_is h.0 (InputsAre s true names contents) xs h.2 in
     subst (λ (zs : List (Named Linkable)). IsObjectAmong s.told zs (suc k) name text) whole (one_behind s.told x ys k name text (source_at s names contents ys rest k name text at there is))
 
--- ---- the image in memory
+-- ---- where the program begins
+
+state_same : (o : Option Area) → is_thumb o ≡ option_map_or (λ (a : Area). is_thumb_area a.attributes) o false
+state_same None = refl
+state_same (Some a) = refl
+
+-- by a source whose object is linked under a number
+module _ (law : SourcesBegin) (files : Files) (plan : Plan) (l : Linked) (chosen : IsSelection l) (own : ℕ) (o : Named Object) (there : slice_get l.objects own ≡ Some o)
+    (name text : List ℕ) (assembled : AssembledFrom (Some files) name text (Ok o.value)) where
+  abbrev Begins : Bool → Type 0
+  Begins has = SourceBegins has (content files) name text (bases_of plan own) (entry_by plan l) l.entry.thumb
+
+  same_object : own ≡ l.entry.object → o ≡ chosen.entered.object
+  same_object is = let both : Some o ≡ Some chosen.entered.object = sym there ∙ ap (slice_get l.objects) is ∙ chosen.entered.at in cc
+
+  by_entry : (e : Option Entry) → o.value.entry ≡ e → BeginsBy (content files) name text o.value e → Begins (own == l.entry.object)
+  by_entry None none h = go (own == l.entry.object) refl
+    where
+      go : (b : Bool) → (own == l.entry.object) ≡ b → Begins b
+      go true e =
+          let same : o ≡ chosen.entered.object = same_object (eqb-true own l.entry.object e) in
+          absurd (let bad : None ≡ Some (record { area = l.entry.area; offset = l.entry.offset }) = sym none ∙ ap (λ (z : Named Object). z.value.entry) same ∙ chosen.entered.entry in cc)
+      go false e = h (bases_of plan own) (entry_by plan l) l.entry.thumb
+  by_entry (Some e) some h =
+      let is : own ≡ l.entry.object = chosen.only own o e there some in
+      let same : o ≡ chosen.entered.object = same_object is in
+      let both : Some e ≡ Some (record { area = l.entry.area; offset = l.entry.offset }) = sym some ∙ ap (λ (z : Named Object). z.value.entry) same ∙ chosen.entered.entry in
+      let entry : e ≡ record { area = l.entry.area; offset = l.entry.offset } = cc in
+      let address : bases_of plan own e.area + e.offset ≡ entry_by plan l =
+      ap (λ (z : Entry). bases_of plan own z.area + z.offset) entry ∙ ap (λ (i : ℕ). bases_of plan i l.entry.area + l.entry.offset) is in
+      let state : area_state o.value e.area ≡ l.entry.thumb =
+      ap (λ (z : Entry). area_state o.value z.area) entry ∙ ap (λ (z : Named Object). area_state z.value l.entry.area) same
+      ∙ sym (state_same (slice_get chosen.entered.object.value.areas l.entry.area)) ∙ sym chosen.entered.state in
+      subst Begins (sym (eq-eqb own l.entry.object is))
+      (subst (λ (t : Bool). SourceBegins true (content files) name text (bases_of plan own) (entry_by plan l) t) state
+      (subst (λ (n : ℕ). SourceBegins true (content files) name text (bases_of plan own) n (area_state o.value e.area)) address (h (bases_of plan own))))
+
+  begins : Begins (own == l.entry.object)
+  begins = by_entry o.value.entry refl (law (content files) name text o.value assembled)
 
 -- ---- the lemma
 
@@ -179,7 +225,7 @@ record IsLeftBy (sources : Bool) (w : LinkWords) (before : Files) (after : Optio
   pub stand : SourcesAre sources w before after image views link
 
 -- what a source's lines say stands by the plan of its object
-module _ (w : LinkWords) (before : Files) (after : Option Files) (image : Image) (views : ℕ → ByteMap) (h : IsLinkedInto true w before after image views) where
+module _ (law : SourcesBegin) (w : LinkWords) (before : Files) (after : Option Files) (image : Image) (views : ℕ → ByteMap) (h : IsLinkedInto true w before after image views) where
   among : (k : ℕ) (name text : List ℕ) → slice_get w.names k ≡ Some name → is_source_name name ≡ true → content before name ≡ Some text → IsObjectAmong (Some before) h.inputs k name text
   among k name text at source holds =
       let there = input_at before w.names (inputs_in w.placement h.contents) (under_names before w.placement w.names h.contents h.read) k name text at holds in
@@ -201,14 +247,16 @@ module _ (w : LinkWords) (before : Files) (after : Option Files) (image : Image)
         stands = λ region ranges.
             let plan = plan_at h.shape h.placed.link h.placed.assigned h.placed.veneers to in
             o.stands o.own (values_by plan h.placed.link o.own) (bases_of plan) (views to) region (λ area. veneers_in (region_with plan o.own area)) seen.placed (seen.shown region ranges);
+        begins =
+            begins law before (plan_at h.shape h.placed.link h.placed.assigned h.placed.veneers to) h.placed.link h.placed.selected o.own o.object there name text o.assembled;
       }
 
-stand_by : (sources : Bool) (w : LinkWords) (before : Files) (after : Option Files) (image : Image) (views : ℕ → ByteMap) (h : IsLinkedInto sources w before after image views)
+stand_by : SourcesBegin → (sources : Bool) (w : LinkWords) (before : Files) (after : Option Files) (image : Image) (views : ℕ → ByteMap) (h : IsLinkedInto sources w before after image views)
     → SourcesAre sources w before after image views h
-stand_by true w before after image views h = statements_stand w before after image views h
-stand_by false w before after image views h = tt
+stand_by law true w before after image views h = statements_stand law w before after image views h
+stand_by law false w before after image views h = tt
 
-module _ (reading : ReadingLaw) (s : Reads) (sources : Bool) (w : LinkWords) (together : ComeTogether w.placement w.container) (before : Files) (after : Option Files)
+module _ (reading : ReadingLaw) (law : SourcesBegin) (s : Reads) (sources : Bool) (w : LinkWords) (together : ComeTogether w.placement w.container) (before : Files) (after : Option Files)
     (over : s.told ≡ Some before) where
   image_left : (contents : List (List ℕ)) (fs : List OutFile) (inputs : List (Named Linkable)) (i : Image) (image : Result Image Refusal)
       → inputs_of before (files_read w) ≡ Ok contents → InputsAre s sources w.names (inputs_in w.placement contents) (Ok inputs)
@@ -233,7 +281,7 @@ module _ (reading : ReadingLaw) (s : Reads) (sources : Bool) (w : LinkWords) (to
         placed = memory.placed;
         holds = files_hold reading w.placement w.container (text_in w.placement contents) w.ram memory.shape memory.ram is.objects i memory.views w.output fs together memory.asked memory.placed files;
       } in
-      record { image = i; views = memory.views; link = link; stand = stand_by sources w before after i memory.views link }
+      record { image = i; views = memory.views; link = link; stand = stand_by law sources w before after i memory.views link }
 
   inputs_left : (contents : List (List ℕ)) (fs : List OutFile) (inputs : Result (List (Named Linkable)) Refusal) (made : Result (List OutFile) Refusal)
       → inputs_of before (files_read w) ≡ Ok contents → InputsAre s sources w.names (inputs_in w.placement contents) inputs
@@ -261,25 +309,25 @@ module _ (reading : ReadingLaw) (s : Reads) (sources : Bool) (w : LinkWords) (to
       read_left (inputs_of before (files_read w)) asked out refl (subst (λ (t : Option Files). FilesAsk t s sources w asked) over h) ok
       (subst (λ (t : Option Files). AreWritten t after out.files) over left)
 
-link_left : ReadingLaw → (sources : Bool) (w : LinkWords) (o : Outside) (before : Files) → IsLinked w → o.before ≡ Some before → LinkAnswers sources w o answer.Done
+link_left : ReadingLaw → SourcesBegin → (sources : Bool) (w : LinkWords) (o : Outside) (before : Files) → IsLinked w → o.before ≡ Some before → LinkAnswers sources w o answer.Done
     → IsLeftBy sources w before o.after
 unfolding LinkAnswers
-link_left reading sources w o before good told h =
+link_left reading law sources w o before good told h =
     let says = h.2 in
-    told_left reading (reads_of o) sources w good.written before o.after told h.0 says.0 h.1 says.1 says.2
+    told_left reading law (reads_of o) sources w good.written before o.after told h.0 says.0 h.1 says.1 says.2
 
-headline : ReadingLaw → (x : Result Command ℕ) (o : Outside) (seats left : List Seat) (a : Answer) → ((c : Command) → x ≡ Ok c → IsGood c) → Commanded x o seats left a → Headline x o.before o.after a
+headline : ReadingLaw → SourcesBegin → (x : Result Command ℕ) (o : Outside) (seats left : List Seat) (a : Answer) → ((c : Command) → x ≡ Ok c → IsGood c) → Commanded x o seats left a → Headline x o.before o.after a
 unfolding Commanded
-headline reading x o seats left a good h = record {
+headline reading law x o seats left a good h = record {
   link = λ w before asked told done.
       let answers : LinkAnswers false w o answer.Done = subst (LinkAnswers false w o) done (subst (λ (y : Result Command ℕ). Commanded y o seats left a) asked h).0 in
-      let r = link_left reading false w o before (good (command.Link w) asked) told answers in
+      let r = link_left reading law false w o before (good (command.Link w) asked) told answers in
       (r.image, r.views, r.link);
   build = λ w before asked told done.
       let answers : LinkAnswers true w o answer.Done = subst (LinkAnswers true w o) done (subst (λ (y : Result Command ℕ). Commanded y o seats left a) asked h).0 in
-      let r = link_left reading true w o before (good (command.Build w) asked) told answers in
+      let r = link_left reading law true w o before (good (command.Build w) asked) told answers in
       (r.image, r.views, r.link, r.stand);
 }
 
-pub headline_of : ReadingLaw → (words : List (List ℕ)) (o : Outside) (seats left : List Seat) (a : Answer) → Commanded (command_of words) o seats left a → Headline (command_of words) o.before o.after a
-headline_of reading words o seats left a h = headline reading (command_of words) o seats left a (good_command words) h
+pub headline_of : ReadingLaw → SourcesBegin → (words : List (List ℕ)) (o : Outside) (seats left : List Seat) (a : Answer) → Commanded (command_of words) o seats left a → Headline (command_of words) o.before o.after a
+headline_of reading law words o seats left a h = headline reading law (command_of words) o seats left a (good_command words) h

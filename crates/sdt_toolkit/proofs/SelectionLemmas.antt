@@ -1,6 +1,6 @@
 -- What is selected exports each name once and has one entry, and a link that is answered is made of it.
-use Rattle.std.proofs.Common.{◌≡◌, ◌≢◌, inl, inr, ◌⊎◌, ℕ, zero, suc, ◌+◌, ◌%◌, ◌<◌, ◌≤◌, ◌==◌, Bool, true, false, cond, ◌||◌, nat_lt, if◌then◌else◌, List, [], ◌∷◌, ◌++◌, Option, Some, None, Result, Ok, Err, refl, sym, ap, ◌∙◌, subst, arith}
-use Rattle.std.specs.Prelude.{slice_get, IsSomeAnd}
+use Rattle.std.proofs.Common.{◌≡◌, inl, inr, ◌⊎◌, ℕ, zero, suc, ◌+◌, ◌%◌, ◌<◌, ◌≤◌, Bool, true, false, cond, ◌||◌, nat_lt, if◌then◌else◌, List, [], ◌∷◌, ◌++◌, Option, Some, None, Result, Ok, Err, refl, sym, ap, ◌∙◌, subst, arith}
+use Rattle.std.specs.Prelude.{is_some, slice_get, IsSomeAnd}
 use Rattle.std.specs.List.{AllByRecursion}
 use Rattle.std.specs.Option.{option_map}
 use Rattle.std.specs.Str.{bytes_eq}
@@ -26,6 +26,7 @@ use Rattle.place_model.specs.Assignment.{description, described_regions}
 use Rattle.place_model.specs.Laws.{IsWholeBase}
 use Rattle.place_model.proofs.ListLemmas.{all_at}
 use Rattle.link_model.specs.declared.images.Image.{Image}
+use Rattle.link_model.specs.declared.placing.AreaName.{AreaName}
 use Rattle.link_model.specs.declared.placing.Assigned.{Assigned}
 use Rattle.link_model.specs.declared.placing.Placement.{Placement}
 use Rattle.link_model.specs.declared.placing.Veneer.{Veneer}
@@ -36,13 +37,15 @@ use Rattle.link_model.specs.Chosen.{exports}
 use Rattle.link_model.specs.Definitions.{definitions_from, is_thumb, linked_entry}
 use Rattle.link_model.specs.Members.{link_of, objects_in}
 use Rattle.link_model.specs.Options.{refused_or}
+use Rattle.link_model.specs.RegionValues.{number_of_region}
 use Rattle.link_select.specs.declared.entries.Entered.{Entered}
 use Rattle.link_select.specs.Entries.{entered_by, entered_from, only_entry}
 use Rattle.link_select.specs.Exports.{duplicate}
-use Rattle.link_select.specs.Laws.{AreDefinedOnce, ExportsAt, SaysDuplicate}
+use Rattle.link_select.specs.Laws.{AreDefinedOnce, ExportsAt, HaveMeanings, SaysDuplicate}
 use Rattle.link_select.specs.Selection.{count_areas, count_symbols, judged, limited, refused, selection_of}
 use Rattle.link_select.specs.Undefined.{undefined}
 use Rattle.link_select.proofs.LawLemmas.{duplicate_law, kept}
+use Rattle.link_select.proofs.MeaningLemmas.{meanings_exist}
 use Rattle.link_items.specs.LinkedItems.{contents_of, has_header}
 use Rattle.link_assign.specs.Assigning.{assignment_of}
 use Rattle.link_veneer.specs.Planning.{planned_veneers}
@@ -51,10 +54,11 @@ use Rattle.link_apply.specs.Applied.{applied}
 use Rattle.link_apply.specs.Flaws.{apply_refusal}
 use Rattle.link_apply.specs.Laws.{AreBytes}
 use Rattle.link_apply.specs.RegionBytes.{regions_bytes}
-use Rattle.link_laws.specs.Joins.{IsEntryOf, IsMade}
-use Rattle.link_laws.specs.Placing.{link_plan}
-use Rattle.link_laws.specs.Plans.{AreExportedOnce, IsExport, IsSelection}
+use Rattle.link_laws.specs.Joins.{IsMade}
+use Rattle.link_laws.specs.Placing.{IsPlacedLink, link_plan}
+use Rattle.link_laws.specs.Plans.{AreExportedOnce, AreMeant, IsExport, IsSelection, numbers_by}
 use Rattle.link_laws.proofs.MadePlacedLemmas.{is_placement}
+use Rattle.link_laws.proofs.PlanNumbers.{numbered}
 use Rattle.armlink_core.specs.declared.making.Made.{Made}
 use Rattle.armlink_core.specs.Linking.{made_at, made_of, made_with, symbols_of}
 use Rattle.armlink_core.specs.Images.{image_made, image_of, linking}
@@ -278,6 +282,13 @@ selected regions os l valid h =
     subst (IsSelected os) (ok_same one l is)
     (selected_by os e (exported_once os valid (defined_once os (kept regions os l h).0)) (judged_entry regions os e judge))
 
+-- where its regions have these symbols, each of its symbols has a meaning by its plan
+pub meant_by : (k : Kind) (ram : Option (List Range32)) (l : Linked) (regions : List (List AreaName)) (vs : List Veneer) → IsPlacedLink k ram l regions vs
+    → (names : List (List ℕ)) → HaveMeanings (Some names) l
+    → ((q : List ℕ) → among q names ≡ true → is_some (number_of_region (placement_of (link_plan k l regions vs)) q) ≡ true) → AreMeant (link_plan k l regions vs) l
+meant_by k ram l regions vs h names meanings each = λ own i s there scope.
+    meanings (numbers_by (link_plan k l regions vs) l.objects) own i s (numbered k ram l regions vs h names each) there scope
+
 -- ---- a link that is answered
 
 abbrev pub made_by : (l : Linked) → Assigned → List Veneer → Placement → Made
@@ -297,6 +308,7 @@ pub record IsAnswered (k : Kind) (ram : Option (List Range32)) (os : List (Named
   pub veneers : List Veneer
   pub objects : linked.objects ≡ os
   pub selection : IsSelection linked
+  pub meanings : HaveMeanings (Some (symbols_of k)) linked
   pub answer : IsAnsweredBy k ram i linked assigned veneers (placement_of (link_plan k linked assigned.regions veneers))
 
 nothing_moves : (k : Kind) (l : Linked) (p : Placement) → can_move k ≡ false → moves_in k l p ≡ Ok []
@@ -352,5 +364,6 @@ module _ (k : Kind) (ram : Option (List Range32)) (os : List (Named Object)) (i 
         veneers = vs;
         objects = s.objects;
         selection = s.selection;
+        meanings = meanings_exist (Some (symbols_of k)) os (Ok l) selection;
         answer = subst (IsAnsweredBy k ram i l a vs) (is_placement k ram l a vs p answer.made) answer;
       }

@@ -1,5 +1,5 @@
 -- What a scatter image and an image of bytes alone are in memory: their files, moved and cleared, are the view of their plan.
-use Rattle.std.proofs.Common.{◌≡◌, ℕ, suc, ◌+◌, ◌%◌, ◌<◌, ◌==◌, not, Bool, true, false, cond, if◌then◌else◌, List, [], ◌∷◌, ◌++◌, length, map, append_assoc, Option, Some, None, Result, Ok, Err, refl, sym, ap, ◌∙◌, subst, arith}
+use Rattle.std.proofs.Common.{◌≡◌, ℕ, suc, ◌+◌, ◌%◌, ◌<◌, ◌==◌, not, Bool, true, false, cond, if◌then◌else◌, List, [], ◌∷◌, ◌++◌, length, map, append_assoc, Option, Some, Ok, refl, sym, ap, ◌∙◌, subst, arith}
 use Rattle.std.specs.Prelude.{unwrap_or}
 use Rattle.std.specs.List.{filter, flat_map, find, AllByRecursion}
 use Rattle.std.specs.Option.{option_map}
@@ -45,25 +45,29 @@ use Rattle.link_model.specs.declared.placing.Veneer.{Veneer}
 use Rattle.link_model.specs.declared.selection.Linked.{Linked}
 use Rattle.link_model.specs.declared.selection.Named.{Named}
 use Rattle.link_model.specs.Members.{link_of}
+use Rattle.link_model.specs.RegionNames.{names_of_plain}
 use Rattle.link_model.specs.Veneers.{veneers_of}
+use Rattle.link_select.specs.Laws.{HaveMeanings}
 use Rattle.link_items.specs.LinkedItems.{contents_of, has_header, items_in}
 use Rattle.link_place.specs.Placed.{placement_of}
 use Rattle.link_apply.specs.RegionBytes.{regions_bytes}
 use Rattle.link_laws.specs.Joins.{IsMade, PlacesOf, bytes_of_load, files_from, given_in, filled_in}
 use Rattle.link_laws.specs.Placing.{link_plan, IsPlacedLink}
-use Rattle.link_laws.specs.Plans.{AreSeenBy, IsSelection, entry_by, header_by}
+use Rattle.link_laws.specs.Plans.{AreMeant, AreSeenBy, IsCalledBy, IsSelection, entry_by, header_by}
 use Rattle.link_laws.proofs.MadeAppliedLemmas.{made_has_places, made_is_applied}
 use Rattle.link_laws.proofs.MadeBytesLaws.{made_sized, made_has_files}
 use Rattle.link_laws.proofs.MadePlacedLemmas.{are_needed, made_is_placed}
 use Rattle.link_laws.proofs.MadeStart.{made_boots}
+use Rattle.link_laws.proofs.PlanNumbers.{plain_numbered, scatter_numbered}
 use Rattle.link_laws.proofs.PlanSeen.{entry_whole, views_are_seen}
 use Rattle.armlink_core.specs.Images.{bytes_in, image_of, linking, loads_from as regions_loaded}
+use Rattle.armlink_core.specs.Linking.{symbols_of}
 use Rattle.armlink_core.specs.Sizes.{zeros_in}
 use Rattle.sdt_toolkit.specs.Plans.{HasViews, IsPlacedAs}
 use Rattle.sdt_toolkit.specs.Starting.{AreSound, segments_of}
 use Rattle.sdt_toolkit.proofs.RunLinks.{can_run}
 use Rattle.sdt_toolkit.proofs.RunNames.{IsNamedLoad, named_by}
-use Rattle.sdt_toolkit.proofs.SelectionLemmas.{IsAnswered, IsAnsweredBy, answered, made_by, still_image}
+use Rattle.sdt_toolkit.proofs.SelectionLemmas.{IsAnswered, answered, made_by, meant_by, still_image}
 
 -- ---- its load regions
 
@@ -82,12 +86,23 @@ segments_alike number rs parts (l ∷ loads) =
     ap (λ (bytes : List ℕ). (record { base = l.base; bytes = bytes }) ∷ map segment_of (regions_loaded (suc number) rs parts loads)) (bytes_alike number rs parts)
     ∙ ap (λ (rest : List Segment). (record { base = l.base; bytes = bytes_of_load number rs parts }) ∷ rest) (segments_alike (suc number) rs parts loads)
 
+-- they have the names of the description
+pub loads_named : (number : ℕ) (rs : List Region) (parts : List (List ℕ)) (loads : List ScatterLoad)
+    → map (λ (l : LoadRegion). l.name) (regions_loaded number rs parts loads) ≡ map (λ (l : ScatterLoad). l.name) loads
+loads_named number rs parts [] = refl
+loads_named number rs parts (l ∷ loads) = ap (λ (names : List (List ℕ)). l.name ∷ names) (loads_named (suc number) rs parts loads)
+
 -- ---- what they are in memory
 
 header_none : (k : Kind) (p : Plan) (g : Given) → has_header k ≡ false → header_by k p g ≡ []
 header_none (kind.Scatter s) p g e = refl
 header_none (kind.Plain base) p g e = refl
 header_none (kind.Aif base relocatable) p g e = absurd cc
+
+none_called : (k : Kind) (p : Plan) (l : Linked) (call : ℕ) → has_header k ≡ false → IsCalledBy k p l call
+none_called (kind.Scatter s) p l call e = tt
+none_called (kind.Plain base) p l call e = tt
+none_called (kind.Aif base relocatable) p l call e = absurd cc
 
 module _ (k : Kind) (ram : Option (List Range32)) (l : Linked) (a : Assigned) (vs : List Veneer) (h : IsMade k ram l a vs (placement_of (link_plan k l a.regions vs)))
     (chosen : IsSelection l) (plain : has_header k ≡ false) where
@@ -134,9 +149,10 @@ module _ (k : Kind) (ram : Option (List Range32)) (l : Linked) (a : Assigned) (v
   whole_entry : made_image.entry ≡ entry_by plan l
   whole_entry = entry_whole k ram l a vs is_placed chosen.entered
 
-  are_seen : AreSeenBy k plan l made_view
-  are_seen =
-      views_are_seen k ram l a vs given made_view is_placed is_needed chosen (made_is_applied k ram l a vs own h) (ap (λ (n : ℕ). n + flag l.entry.thumb) whole_entry)
+  are_seen : AreMeant plan l → AreSeenBy k plan l made_view
+  are_seen meant =
+      views_are_seen k ram l a vs given made_view is_placed is_needed chosen meant (made_is_applied k ram l a vs own h) (ap (λ (n : ℕ). n + flag l.entry.thumb) whole_entry)
+      (none_called k plan l given.call plain)
       (subst (λ (header : List ℕ). IsView plan (filled given plan header) made_view) (sym (header_none k plan given plain)) is_shown)
 
 -- ---- a scatter image
@@ -208,10 +224,12 @@ module _ (s : Scatter) (ram : Option (List Range32)) (l : Linked) (a : Assigned)
   its_places : PlacesOf its_own scattered
   its_places = made_has_places (kind.Scatter s) ram l a vs its_own h
 
-  scatter_placed : (os : List (Named Object)) → l.objects ≡ os → IsPlacedAs (kind.Scatter s) ram os its_image (λ to. its_view)
-  scatter_placed os objects =
+  scatter_placed : HaveMeanings (Some (symbols_of (kind.Scatter s))) l → (os : List (Named Object)) → l.objects ≡ os → IsPlacedAs (kind.Scatter s) ram os its_image (λ to. its_view)
+  scatter_placed meanings os objects =
       let k : Kind = kind.Scatter s in
       let (boot, there) = has_boot s (contents_of l.objects a.regions vs) v in
+      let meant : AreMeant scattered l =
+      meant_by k ram l a.regions vs (is_placed k ram l a vs h chosen refl) (symbols_of (kind.Scatter s)) meanings (scatter_numbered s (contents_of l.objects a.regions vs) boot there) in
       let start : its_image.start ≡ boot = ap (λ (o : Option ℕ). unwrap_or o 0) there in
       let files : segments_of its_image ≡ files_of scattered filling = segments_same k ram l a vs h chosen refl in
       -- the rows of the image's regions are those of the plan
@@ -233,12 +251,14 @@ module _ (s : Scatter) (ram : Option (List Range32)) (l : Linked) (a : Assigned)
         placed = is_placed k ram l a vs h chosen refl;
         needed = is_needed k ram l a vs h chosen refl;
         told = record {
+          names = loads_named 0 its_own.regions (regions_bytes (link_of l) its_own) (description k);
           regions = refl;
           start = there ∙ ap Some (sym start);
           bound = λ i. bound_of (its_places.copies i) (its_places.parts i);
           thumb = refl;
+          moves = refl;
         };
-        seen = λ to fits. are_seen k ram l a vs h chosen refl;
+        seen = λ to fits. are_seen k ram l a vs h chosen refl meant;
         files = λ to fits. record {
           files = its_files k ram l a vs h chosen refl;
           moved = λ x b shows.
@@ -259,7 +279,7 @@ scatter_answered s ram os i v named n =
     let k : Kind = kind.Scatter s in
     let p : Placement = placement_of (link_plan k n.linked n.assigned.regions n.veneers) in
     subst (HasViews k ram os) (still_image k ram i n.linked n.assigned n.veneers p refl n.answer)
-    ((λ to. its_view s ram n.linked n.assigned n.veneers n.answer.made n.selection v named), scatter_placed s ram n.linked n.assigned n.veneers n.answer.made n.selection v named os n.objects)
+    ((λ to. its_view s ram n.linked n.assigned n.veneers n.answer.made n.selection v named), scatter_placed s ram n.linked n.assigned n.veneers n.answer.made n.selection v named n.meanings os n.objects)
 
 pub scatter_views : ReadingLaw → (s : Scatter) (text : List ℕ) → scatter_of text ≡ Ok s → (ram : Option (List Range32)) (os : List (Named Object)) (i : Image)
     → AreSound os → linking (kind.Scatter s) ram os ≡ Ok i → HasViews (kind.Scatter s) ram os i
@@ -281,10 +301,12 @@ module _ (base : ℕ) (ram : Option (List Range32)) (l : Linked) (a : Assigned) 
   abbrev plain_image : Image
   plain_image = made_image (kind.Plain base) ram l a vs h chosen refl
 
-  plain_placed : (os : List (Named Object)) → l.objects ≡ os → IsPlacedAs (kind.Plain base) ram os plain_image (λ to. plain_view)
-  plain_placed os objects =
+  plain_placed : HaveMeanings (Some (symbols_of (kind.Plain base))) l → (os : List (Named Object)) → l.objects ≡ os → IsPlacedAs (kind.Plain base) ram os plain_image (λ to. plain_view)
+  plain_placed meanings os objects =
       let k : Kind = kind.Plain base in
       let c : Contents = contents_of l.objects a.regions vs in
+      let meant : AreMeant plain_plan l =
+      meant_by k ram l a.regions vs (is_placed k ram l a vs h chosen refl) names_of_plain meanings (plain_numbered k c (λ n words. refl) refl) in
       let filling : Filling = held k ram l a vs h chosen refl in
       record {
         link = l;
@@ -297,8 +319,15 @@ module _ (base : ℕ) (ram : Option (List Range32)) (l : Linked) (a : Assigned) 
         places = refl;
         placed = is_placed k ram l a vs h chosen refl;
         needed = is_needed k ram l a vs h chosen refl;
-        told = record { regions = refl; start = refl; bound = refl; thumb = refl };
-        seen = λ to fits. are_seen k ram l a vs h chosen refl;
+        told = record {
+          names = loads_named 0 (placement_of plain_plan).regions (regions_bytes (link_of l) (placement_of plain_plan)) (description k);
+          regions = refl;
+          start = refl;
+          bound = refl;
+          thumb = refl;
+          moves = refl;
+        };
+        seen = λ to fits. are_seen k ram l a vs h chosen refl meant;
         files = λ to fits. record {
           files = its_files k ram l a vs h chosen refl;
           cleared = λ x.
@@ -316,4 +345,4 @@ plain_views base ram os i sound whole h =
     let n = answered k ram os i sound (whole, tt) (whole, (refl, (refl, tt))) h in
     let p : Placement = placement_of (link_plan k n.linked n.assigned.regions n.veneers) in
     subst (HasViews k ram os) (still_image k ram i n.linked n.assigned n.veneers p refl n.answer)
-    ((λ to. plain_view base ram n.linked n.assigned n.veneers n.answer.made n.selection), plain_placed base ram n.linked n.assigned n.veneers n.answer.made n.selection os n.objects)
+    ((λ to. plain_view base ram n.linked n.assigned n.veneers n.answer.made n.selection), plain_placed base ram n.linked n.assigned n.veneers n.answer.made n.selection n.meanings os n.objects)

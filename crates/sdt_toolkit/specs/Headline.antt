@@ -3,7 +3,7 @@
 -- startup code, the view of that plan, in which each object is shown and each statement of what `build` assembled stands; those
 -- of a scatter image and an ARM image file reach the entry within the bound. An ARM image file that can be moved does so at each
 -- address that leaves room, with a view for each. SDT 2.50 Reference Guide; the startup code is this project's.
-use Rattle.std.specs.Prelude.{◌≡◌, ℕ, true, false, Bool, List, length, take, slice_get, Option, Some, Result, Ok}
+use Rattle.std.specs.Prelude.{◌≡◌, ℕ, ◌==◌, true, false, Bool, List, length, take, slice_get, Option, Some, Result, Ok}
 use Rattle.sdt_word.specs.declared.ranges.Range32.{Range32}
 use Rattle.sdt_fault.specs.declared.answer.Answer.{Answer}
 use Rattle.sdt_fault.specs.declared.answer.Answer.TheVariants as answer
@@ -13,12 +13,15 @@ use Rattle.boot_code.specs.Boots.{ByteMap}
 use Rattle.place_model.specs.declared.scatter.Kind.{Kind}
 use Rattle.place_model.specs.Plans.{Plan}
 use Rattle.armasm_core.specs.Assembling.{AssembledFrom}
+use Rattle.armasm_core.specs.Beginning.{SourceBegins}
 use Rattle.armasm_core.specs.Standing.{SourceStands}
 use Rattle.link_model.specs.declared.images.Image.{Image}
 use Rattle.link_model.specs.declared.selection.Linked.{Linked}
 use Rattle.link_model.specs.declared.selection.Named.{Named}
 use Rattle.link_model.specs.Chosen.{AreLinked}
 use Rattle.link_laws.specs.Laws.{AreRanges}
+use Rattle.link_laws.specs.Placing.{bases_of}
+use Rattle.link_laws.specs.Plans.{entry_by, values_by}
 use Rattle.tool_words.specs.declared.command.Command.{Command}
 use Rattle.tool_words.specs.declared.command.Command.TheVariants as command
 use Rattle.tool_words.specs.declared.command.LinkWords.{LinkWords}
@@ -29,7 +32,6 @@ use Rattle.tool_library.specs.declared.linkables.Linkable.TheVariants as input
 use Rattle.sdt_toolkit.specs.Containers.{FilesHold}
 use Rattle.sdt_toolkit.specs.Inputs.{InputsAre, archives_among, is_source_name, objects_among}
 use Rattle.sdt_toolkit.specs.Links.{IsAskedAs, LinksTo, files_read, image_files, inputs_in, outputs, text_in}
-use Rattle.link_laws.specs.Plans.{values_by}
 use Rattle.sdt_toolkit.specs.Plans.{IsPlacedAs, plan_at}
 use Rattle.sdt_toolkit.specs.Reads.{Reads}
 use Rattle.sdt_toolkit.specs.Starting.{FitsAt}
@@ -62,9 +64,10 @@ pub record IsLinkedInput (inputs : List (Named Linkable)) (objects : List (Named
   pub before : own ≡ length (objects_among (take place inputs))
   pub there : slice_get objects own ≡ Some o
 
--- The input of a place is the object of a source: its areas, symbols and relocations are those of what the source's lines say,
--- and its entry that of its line ENTRY. What the lines say stands where the object stands by the plan: with the plan's values of
--- its symbols, and in the ranges of the plan's regions.
+-- The input of a place is the object of a source: its areas, symbols and relocations are those of what the source's lines say.
+-- That stands where the object stands by the plan: with the plan's values of its symbols, and in the ranges of the plan's
+-- regions. Where it is the one object with an entry, the program begins at the source's one line ENTRY, in its state, where the
+-- plan has that line; otherwise the source has none.
 pub record StandsBy (files : Files) (inputs : List (Named Linkable)) (plan : Plan) (l : Linked) (view : ByteMap)
     (place : ℕ) (name text : List ℕ) : Type 0 where
   pub own : ℕ
@@ -73,6 +76,7 @@ pub record StandsBy (files : Files) (inputs : List (Named Linkable)) (plan : Pla
   pub assembled : AssembledFrom (Some files) name text (Ok object.value)
   pub stands : (region : ℕ → Range32) → AreRanges plan own region
       → SourceStands (content files) name text (values_by plan l own) view region
+  pub begins : SourceBegins (own == l.entry.object) (content files) name text (bases_of plan own) (entry_by plan l) l.entry.thumb
 
 -- of each source among the names
 abbrev pub SourcesStand : List (List ℕ) → Files → List (Named Linkable) → Plan → Linked → ByteMap → Type 0

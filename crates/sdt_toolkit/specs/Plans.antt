@@ -1,7 +1,7 @@
 -- One plan for all that a link leaves: the linked objects stand by it, and of it are the view, the files, the values of names
 -- and the entry. Of an ARM image file that can be moved there is a plan at each address that leaves room, with the same regions
 -- there (SDT 2.50 Reference Guide, armlink and scatter loading; ARM Image Format; the startup code is this project's).
-use Rattle.std.specs.Prelude.{◌≡◌, ℕ, ◌+◌, ◌%◌, true, false, List, [], ◌∷◌, length, Option, Some, Ok}
+use Rattle.std.specs.Prelude.{◌≡◌, ℕ, ◌+◌, ◌*◌, ◌%◌, true, false, List, [], ◌∷◌, length, map, Option, Some, Ok}
 use Rattle.sdt_word.specs.declared.ranges.Range32.{Range32}
 use Rattle.aof_object.specs.declared.records.Object.{Object}
 use Rattle.boot_code.specs.declared.rows.ZeroRow.{ZeroRow}
@@ -11,9 +11,10 @@ use Rattle.boot_code.specs.Laws.{bound_of}
 use Rattle.byte_maps.specs.Maps.{map_of}
 use Rattle.place_model.specs.declared.scatter.Kind.{Kind}
 use Rattle.place_model.specs.declared.scatter.Kind.TheVariants as kind
+use Rattle.place_model.specs.Assignment.{description}
 use Rattle.place_model.specs.Plans.{Plan, boot_address, copies_of, parts_of}
 use Rattle.scatter_text.specs.Reading.{scatter_of}
-use Rattle.image_model.specs.AifFiles.{parts_size, zero_size}
+use Rattle.image_model.specs.AifFiles.{offsets_of, parts_size, zero_size}
 use Rattle.image_model.specs.Views.{IsLoadView}
 use Rattle.aif_image.specs.Files.{aif_file}
 use Rattle.link_model.specs.declared.images.Image.{Image}
@@ -26,6 +27,7 @@ use Rattle.link_model.specs.Members.{link_of}
 use Rattle.link_model.specs.Veneers.{veneers_of}
 use Rattle.link_items.specs.LinkedItems.{has_header}
 use Rattle.link_place.specs.Placed.{placement_of}
+use Rattle.link_values.specs.Shifts.{shifts_of}
 use Rattle.link_laws.specs.Joins.{IsMade}
 use Rattle.link_laws.specs.Placing.{IsPlacedLink, link_plan}
 use Rattle.link_laws.specs.Plans.{AreSeenBy, IsSelection, entry_by}
@@ -50,13 +52,22 @@ pub record IsPlainFile (plan : Plan) (i : Image) (view : ByteMap) : Type 0 where
 abbrev pub zero_part : ℕ → Plan → ZeroRow
 zero_part base plan = record { base = base + parts_size plan; size = zero_size plan }
 
--- an ARM image file is the view at its own address, with its zero part cleared; one that can be moved is so elsewhere too, with
--- the words of its list shifted
+-- an ARM image file has as many bytes as its parts, and is the view at its own address, with its zero part cleared
+pub record IsFixedFile (base : ℕ) (plan : Plan) (i : Image) (view : ByteMap) : Type 0 where
+  pub size : length (aif_file i) ≡ parts_size plan
+  pub cleared : (x : ℕ) → zeroed (Some 0) (file_at (aif_file i) base) (zero_part base plan ∷ []) x ≡ view x
+
+-- one that can be moved has the relocator's 15 words behind its parts, its list, and a word that ends it, and becomes the view at
+-- each address, with the words of its list shifted
+pub record IsMovingFile (base : ℕ) (plan : Plan) (i : Image) (view : ByteMap) : Type 0 where
+  pub size : length (aif_file i) ≡ parts_size plan + 60 + 4 * length i.moves + 4
+  pub becomes : ShowsImage (aif_file i) (parts_size plan) (zero_size plan) i.start i.moves base view
+
 abbrev pub AreFiles : Kind → Plan → Image → ByteMap → Type 0
 AreFiles (kind.Scatter s) plan i view = AreScatterFiles plan i view
 AreFiles (kind.Plain base) plan i view = IsPlainFile plan i view
-AreFiles (kind.Aif base true) plan i view = ShowsImage (aif_file i) (parts_size plan) (zero_size plan) i.start i.moves base view
-AreFiles (kind.Aif base false) plan i view = (x : ℕ) → zeroed (Some 0) (file_at (aif_file i) base) (zero_part base plan ∷ []) x ≡ view x
+AreFiles (kind.Aif base true) plan i view = IsMovingFile base plan i view
+AreFiles (kind.Aif base false) plan i view = IsFixedFile base plan i view
 
 -- ---- the image
 
@@ -72,12 +83,20 @@ bound_by (kind.Scatter s) plan moves = bound_of (copies_of plan) (parts_of plan)
 bound_by (kind.Plain base) plan moves = 0
 bound_by (kind.Aif base relocatable) plan moves = aif_bound (length moves) (zero_size plan)
 
--- what the image tells of itself is the plan's: its regions, its start and its bound
+-- the offsets of the words that a movable image shifts: ascending, each as often as its word has shifts
+abbrev pub moves_by : Kind → Plan → Linked → List ℕ
+moves_by (kind.Aif base true) plan l = offsets_of (shifts_of (link_of l) (placement_of plan)) plan
+moves_by other plan l = []
+
+-- what the image tells of itself is the plan's: its regions, its start, its bound and its list; and its load regions have the
+-- names of the description, in its order
 pub record IsTold (k : Kind) (plan : Plan) (l : Linked) (i : Image) : Type 0 where
+  pub names : map (λ load. load.name) i.loads ≡ map (λ load. load.name) (description k)
   pub regions : i.regions ≡ (placement_of plan).regions
   pub start : StartsAt k plan i.start
   pub bound : i.bound ≡ bound_by k plan i.moves
   pub thumb : i.thumb ≡ l.entry.thumb
+  pub moves : i.moves ≡ moves_by k plan l
 
 -- the plan of linked objects where their image is put at an address
 abbrev pub plan_at : Kind → Linked → Assigned → List Veneer → ℕ → Plan

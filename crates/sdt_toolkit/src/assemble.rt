@@ -52,8 +52,8 @@ fn too_large() -> Fault
 
 /// Writes the object of a source. A file of more than `MOST_BYTES` bytes is not read to its end.
 pub fn assemble_file<S: Store>(alloc: Global, store: &mut S, source: &Text, output: Text) -> Answer
-    ensures { AssemblyAnswersOver source.now output (S.files store.old) (S.files store.new) (S.read_faults store.old) (S.read_faults store.new)
-        (S.write_faults store.old) (S.write_faults store.new) result }
+    ensures { AssemblyAnswersOver source.now output (S.files store.old) (S.files store.new)
+        (S.read_faults store.old) (S.read_faults store.new) (S.write_faults store.old) (S.write_faults store.new) result }
 {
     let text = match read_input_up_to(alloc, store, source, MOST_BYTES as u32) {
         Ok(Some(text)) => text,

@@ -30,7 +30,8 @@ fn kit_bytes(alloc: Global, acknowledge: u32) -> Result<Bytes, Fault>
 /// Writes the object of the interrupt kit, whose handler stores to the address `acknowledge`.
 pub fn write_kit<S: Store>(alloc: Global, store: &mut S, output: Text, acknowledge: u32) -> Answer
     requires { acknowledge % 4 ≡ 0 }
-    ensures says { Writes output (kit_file acknowledge) (S.files store.old) (S.files store.new) (Rose (S.write_faults store.old) (S.write_faults store.new)) result }
+    ensures says { Writes output (kit_file acknowledge) (S.files store.old) (S.files store.new)
+        (Rose (S.write_faults store.old) (S.write_faults store.new)) result }
     ensures reads { S.read_faults store.new ≡ S.read_faults store.old }
     ensures writes { S.write_faults store.old ≤ S.write_faults store.new }
 {

@@ -7,6 +7,7 @@ ghost use Rattle.sdt_toolkit.specs.Commands.{Commanded, Ends, is_run, may_print}
 ghost use Rattle.sdt_toolkit.specs.Headline.{Headline};
 ghost use Rattle.tool_words.specs.Commands.{command_of};
 
+use armasm_core::laws::sources_begin;
 use scatter_text::reading_law;
 use sdt_fault::answer::Answer;
 use sdt_outside::{Device, Sink, Store};
@@ -69,5 +70,6 @@ pub fn run_tool<S: Store, K: Sink>(
     ensures sink { may_print (command_of (map string_bytes words.now)) ≡ false → sink.new ≡ sink.old }
 {
     reading_law();
+    sources_begin();
     commands::command(alloc, words, store, sink, devices)
 }

@@ -13,7 +13,8 @@ use tool_answers::write;
 
 fn write_file<S: Store>(alloc: Global, store: &mut S, file: &OutFile) -> Answer
     requires { length file.now.bytes < 2 ^ 32 }
-    ensures says { Writes file.now.name file.now.bytes (S.files store.old) (S.files store.new) (Rose (S.write_faults store.old) (S.write_faults store.new)) result }
+    ensures says { Writes file.now.name file.now.bytes (S.files store.old) (S.files store.new)
+        (Rose (S.write_faults store.old) (S.write_faults store.new)) result }
     ensures reads { S.read_faults store.new ≡ S.read_faults store.old }
     ensures writes { S.write_faults store.old ≤ S.write_faults store.new }
 {
@@ -26,7 +27,8 @@ fn write_file<S: Store>(alloc: Global, store: &mut S, file: &OutFile) -> Answer
 /// Writes files. The first that can't be written ends it: those before it stand, and those behind it are as they were.
 pub fn write_files<S: Store>(alloc: Global, store: &mut S, files: &[OutFile]) -> Answer
     requires { All (λ f. length f.bytes < 2 ^ 32) files.now }
-    ensures says { AllWritten (outputs files.now) (S.files store.old) (S.files store.new) (Rose (S.write_faults store.old) (S.write_faults store.new)) result }
+    ensures says { AllWritten (outputs files.now) (S.files store.old) (S.files store.new)
+        (Rose (S.write_faults store.old) (S.write_faults store.new)) result }
     ensures reads { S.read_faults store.new ≡ S.read_faults store.old }
     ensures writes { S.write_faults store.old ≤ S.write_faults store.new }
 {

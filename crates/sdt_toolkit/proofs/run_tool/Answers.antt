@@ -5,7 +5,7 @@ use Rattle.sdt_toolkit.proofs.HeadlineLemmas.{headline_of}
 use Rattle.sdt_toolkit.proofs.run_tool.Goals as goal
 
 pub returns-clause-headline : goal.returns-clause-headline
-returns-clause-headline g c = headline_of c.reading_law.ensures (map string_bytes c.args.words.now) _ _ _ c.command.result c.command.ensures.commanded
+returns-clause-headline g c = headline_of c.reading_law.ensures c.sources_begin.ensures (map string_bytes c.args.words.now) _ _ _ c.command.result c.command.ensures.commanded
 
 pub returns-clause-commanded : goal.returns-clause-commanded
 returns-clause-commanded g c = c.command.ensures.commanded
