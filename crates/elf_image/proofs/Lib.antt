@@ -1,3 +1,4 @@
 pub mod CheckLaws
 pub mod HeaderLemmas
+pub mod NamedLemmas
 pub mod WrittenLemmas

@@ -2,4 +2,6 @@
 pub mod Checks
 pub mod Examples
 pub mod Files
+pub mod NamedExamples
 pub mod Reading
+pub mod Tables
