@@ -17,7 +17,7 @@ use Rattle.elf_image.proofs.WrittenLemmas.{fields_are, file_length, head_length,
 
 -- ---- bytes behind others, and before others
 
-skip : (front rest : List ℕ) (k : ℕ) → drop (length front + k) (front ++ rest) ≡ drop k rest
+pub skip : (front rest : List ℕ) (k : ℕ) → drop (length front + k) (front ++ rest) ≡ drop k rest
 skip [] rest k = let e : 0 + k ≡ k = omega arith in rw e refl
 skip (x ∷ front) rest k = let e : suc (length front) + k ≡ suc (length front + k) = omega arith in rw e (skip front rest k)
 
@@ -186,7 +186,7 @@ front i t = bytes_of_words (named_header i.start (length i.loads) (tables_at i.l
 abbrev last : Image → Tables → List ℕ
 last i t = padding_of i.loads ++ tables_bytes (tables_at i.loads) t
 
-front_length : (i : Image) (t : Tables) → first_offset (length i.loads) ≡ length (front i t)
+pub front_length : (i : Image) (t : Tables) → first_offset (length i.loads) ≡ length (front i t)
 unfolding named_header
 front_length i t = sym (head_length i)
 

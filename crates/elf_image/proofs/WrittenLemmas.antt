@@ -18,12 +18,12 @@ use Rattle.elf_image.specs.Files.{AreApart, IsElf, LoadLaw, WrittenLaw, bytes_in
 
 -- ---- words in bytes
 
-words_length : (ws : List ℕ) → length (bytes_of_words ws) ≡ 4 * length ws
+pub words_length : (ws : List ℕ) → length (bytes_of_words ws) ≡ 4 * length ws
 words_length [] = refl
 words_length (w ∷ ws) = let e = words_length ws in omega (arith, e)
 
 -- the word of a number is one of the words
-word_there : (ws rest : List ℕ) (k : ℕ) → k < length ws → get_or ws k 0 < 2 ^ 32 → word_in (bytes_of_words ws ++ rest) (4 * k) ≡ get_or ws k 0
+pub word_there : (ws rest : List ℕ) (k : ℕ) → k < length ws → get_or ws k 0 < 2 ^ 32 → word_in (bytes_of_words ws ++ rest) (4 * k) ≡ get_or ws k 0
 word_there [] rest k lt small = absurd (omega arith)
 word_there (w ∷ ws) rest zero lt small = number_of-bytes_of w 4 small
 word_there (w ∷ ws) rest (suc k) lt small =
@@ -31,7 +31,7 @@ word_there (w ∷ ws) rest (suc k) lt small =
     rw at (word_there ws rest k (omega arith) small)
 
 -- and so is one behind others
-word_behind : (front mid rest more : List ℕ) (j : ℕ) → j < length mid → get_or mid j 0 < 2 ^ 32
+pub word_behind : (front mid rest more : List ℕ) (j : ℕ) → j < length mid → get_or mid j 0 < 2 ^ 32
     → word_in (bytes_of_words (front ++ (mid ++ rest)) ++ more) (4 * (length front + j)) ≡ get_or mid j 0
 word_behind front mid rest more j lt small =
     let is : get_or (front ++ (mid ++ rest)) (length front + j) 0 ≡ get_or mid j 0 = get_or-append-add front (mid ++ rest) j 0 ∙ get_or_append_left mid rest 0 j lt in

@@ -4,4 +4,5 @@ pub mod Examples
 pub mod Files
 pub mod NamedExamples
 pub mod Reading
+pub mod Symbols
 pub mod Tables
