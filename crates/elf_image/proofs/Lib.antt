@@ -1,3 +1,5 @@
 pub mod CheckLaws
 pub mod HeaderLemmas
+pub mod NamedLemmas
+pub mod SymbolLemmas
 pub mod WrittenLemmas

@@ -18,12 +18,12 @@ use Rattle.elf_image.specs.Files.{AreApart, IsElf, LoadLaw, WrittenLaw, bytes_in
 
 -- ---- words in bytes
 
-words_length : (ws : List ℕ) → length (bytes_of_words ws) ≡ 4 * length ws
+pub words_length : (ws : List ℕ) → length (bytes_of_words ws) ≡ 4 * length ws
 words_length [] = refl
 words_length (w ∷ ws) = let e = words_length ws in omega (arith, e)
 
 -- the word of a number is one of the words
-word_there : (ws rest : List ℕ) (k : ℕ) → k < length ws → get_or ws k 0 < 2 ^ 32 → word_in (bytes_of_words ws ++ rest) (4 * k) ≡ get_or ws k 0
+pub word_there : (ws rest : List ℕ) (k : ℕ) → k < length ws → get_or ws k 0 < 2 ^ 32 → word_in (bytes_of_words ws ++ rest) (4 * k) ≡ get_or ws k 0
 word_there [] rest k lt small = absurd (omega arith)
 word_there (w ∷ ws) rest zero lt small = number_of-bytes_of w 4 small
 word_there (w ∷ ws) rest (suc k) lt small =
@@ -31,7 +31,7 @@ word_there (w ∷ ws) rest (suc k) lt small =
     rw at (word_there ws rest k (omega arith) small)
 
 -- and so is one behind others
-word_behind : (front mid rest more : List ℕ) (j : ℕ) → j < length mid → get_or mid j 0 < 2 ^ 32
+pub word_behind : (front mid rest more : List ℕ) (j : ℕ) → j < length mid → get_or mid j 0 < 2 ^ 32
     → word_in (bytes_of_words (front ++ (mid ++ rest)) ++ more) (4 * (length front + j)) ≡ get_or mid j 0
 word_behind front mid rest more j lt small =
     let is : get_or (front ++ (mid ++ rest)) (length front + j) 0 ≡ get_or mid j 0 = get_or-append-add front (mid ++ rest) j 0 ∙ get_or_append_left mid rest 0 j lt in
@@ -73,7 +73,7 @@ pushed : {A : Type 0} (xs : List A) (y : A) (ys : List A) → (xs ++ y ∷ []) +
 pushed xs y ys = append_assoc xs (y ∷ []) ys
 
 -- a segment is its five fields
-fields_are : (s t : Segment) → s.offset ≡ t.offset → s.address ≡ t.address → s.file_size ≡ t.file_size → s.memory_size ≡ t.memory_size → s.flags ≡ t.flags → s ≡ t
+pub fields_are : (s t : Segment) → s.offset ≡ t.offset → s.address ≡ t.address → s.file_size ≡ t.file_size → s.memory_size ≡ t.memory_size → s.flags ≡ t.flags → s ≡ t
 fields_are s t o a f m p = let built : Segment = record { offset = s.offset; address = s.address; file_size = s.file_size; memory_size = s.memory_size; flags = s.flags } in
     let e : built ≡ t = rw (o, a, f, m, p) refl in e
 
@@ -86,7 +86,7 @@ module _ (i : Image) where
       let f = length-append (header_words i.start (length i.loads)) (loads_words (first_offset (length i.loads)) i.loads) in
       omega (arith, e, f)
 
-  head_length : length (bytes_of_words (elf_words i.start i.loads)) ≡ first_offset (length i.loads)
+  pub head_length : length (bytes_of_words (elf_words i.start i.loads)) ≡ first_offset (length i.loads)
   head_length =
       let e = words_length (elf_words i.start i.loads) in
       let f = words_are in
@@ -197,9 +197,9 @@ module _ (i : Image) (is : IsElf i) where
 
   -- ---- all of them
 
-  record Headers (before rest : List LoadRegion) : Type 0 where
-    held : AllByRecursion (λ c. Holds c (elf_file i)) (load_checks (length before) (length rest))
-    segments : segments_before (elf_file i) (length before + length rest) ≡ segments_from (first_offset (length i.loads)) (before ++ rest)
+  pub record Headers (before rest : List LoadRegion) : Type 0 where
+    pub held : AllByRecursion (λ c. Holds c (elf_file i)) (load_checks (length before) (length rest))
+    pub segments : segments_before (elf_file i) (length before + length rest) ≡ segments_from (first_offset (length i.loads)) (before ++ rest)
 
   headers : (before rest : List LoadRegion) → i.loads ≡ before ++ rest
       → segments_before (elf_file i) (length before) ≡ segments_from (first_offset (length i.loads)) before
@@ -224,7 +224,7 @@ module _ (i : Image) (is : IsElf i) where
         segments = ap (λ (n : ℕ). segments_before (elf_file i) n) end ∙ (next.segments ∙ ap (λ ls. segments_from (first_offset (length i.loads)) ls) (pushed before l rest));
       }
 
-  whole : Headers [] i.loads
+  pub whole : Headers [] i.loads
   whole = headers [] i.loads refl refl is.apart is.in_space is.bases
 
   all_held : AllByRecursion (λ c. Holds c (elf_file i)) (checks (elf_file i))
@@ -250,15 +250,17 @@ written i is = record {
 abbrev as_segment : ℕ → List ℕ → maps.Segment
 as_segment base bytes = record { base = base; bytes = bytes }
 
-loads_from : (b front : List ℕ) (ls : List LoadRegion) → b ≡ front ++ loads_bytes ls → map (loaded b) (segments_from (length front) ls) ≡ map load_of ls
-loads_from b front [] e = refl
-loads_from b front (l ∷ ls) e =
-    let behind : drop (length front) b ≡ l.bytes ++ loads_bytes ls = ap (λ bs. drop (length front) bs) e ∙ drop-append_seam front (l.bytes ++ loads_bytes ls) in
-    let taken : take (length l.bytes) (drop (length front) b) ≡ l.bytes = ap (λ bs. take (length l.bytes) bs) behind ∙ take-append_seam l.bytes (loads_bytes ls) in
+-- with other bytes behind them
+pub loads_behind : (b front tail : List ℕ) (ls : List LoadRegion) → b ≡ front ++ (loads_bytes ls ++ tail) → map (loaded b) (segments_from (length front) ls) ≡ map load_of ls
+loads_behind b front tail [] e = refl
+loads_behind b front tail (l ∷ ls) e =
+    let split : b ≡ front ++ (l.bytes ++ (loads_bytes ls ++ tail)) = e ∙ ap (λ bs. front ++ bs) (append_assoc l.bytes (loads_bytes ls) tail) in
+    let behind : drop (length front) b ≡ l.bytes ++ (loads_bytes ls ++ tail) = ap (λ bs. drop (length front) bs) split ∙ drop-append_seam front (l.bytes ++ (loads_bytes ls ++ tail)) in
+    let taken : take (length l.bytes) (drop (length front) b) ≡ l.bytes = ap (λ bs. take (length l.bytes) bs) behind ∙ take-append_seam l.bytes (loads_bytes ls ++ tail) in
     let none : length l.bytes - length l.bytes ≡ 0 = omega arith in
     let held : bytes_in b (load_segment (length front) l) ≡ l.bytes = ap (λ n. take (length l.bytes) (drop (length front) b) ++ replicate n 0) none ∙ (append-nil (take (length l.bytes) (drop (length front) b)) ∙ taken) in
     let here : loaded b (load_segment (length front) l) ≡ load_of l = ap (λ bs. as_segment l.base bs) held in
-    let next = loads_from b (front ++ l.bytes) ls (e ∙ sym (append_assoc front l.bytes (loads_bytes ls))) in
+    let next = loads_behind b (front ++ l.bytes) tail ls (split ∙ sym (append_assoc front l.bytes (loads_bytes ls ++ tail))) in
     let longer = length-append front l.bytes in
     ap (λ (s : maps.Segment). s ∷ map (loaded b) (segments_from (length front + length l.bytes) ls)) here
     ∙ ap (λ ss. load_of l ∷ ss) (ap (λ (n : ℕ). map (loaded b) (segments_from n ls)) (sym longer) ∙ next)
@@ -266,4 +268,4 @@ loads_from b front (l ∷ ls) e =
 pub loads : LoadLaw
 loads i =
     let start : first_offset (length i.loads) ≡ length (bytes_of_words (elf_words i.start i.loads)) = sym (head_length i) in
-    ap (λ ss. map_of ss) (ap (λ (n : ℕ). map (loaded (elf_file i)) (segments_from n i.loads)) start ∙ loads_from (elf_file i) (bytes_of_words (elf_words i.start i.loads)) i.loads refl)
+    ap (λ ss. map_of ss) (ap (λ (n : ℕ). map (loaded (elf_file i)) (segments_from n i.loads)) start ∙ loads_behind (elf_file i) (bytes_of_words (elf_words i.start i.loads)) [] i.loads (ap (λ bs. bytes_of_words (elf_words i.start i.loads) ++ bs) (sym (append-nil (loads_bytes i.loads)))))

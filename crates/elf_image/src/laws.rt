@@ -2,7 +2,10 @@
 
 ghost use Rattle.elf_image.specs.Examples.{WorkedExample};
 ghost use Rattle.elf_image.specs.Files.{LoadLaw, WrittenLaw};
+ghost use Rattle.elf_image.specs.NamedExamples.{NamedExample};
 ghost use Rattle.elf_image.specs.Reading.{ElfLaw, FirstFailedLaw, OneRecord};
+ghost use Rattle.elf_image.specs.Symbols.{SymbolsLaw};
+ghost use Rattle.elf_image.specs.Tables.{NamedLaw, NamedLoadLaw};
 
 /// What reading gives is what the bytes say, and where it gives no record they say none.
 pub fn elf_law()
@@ -29,7 +32,27 @@ pub fn load_law()
     ensures { LoadLaw }
 {}
 
+/// With sections and symbols the file reads as the same record.
+pub fn named_law()
+    ensures { NamedLaw }
+{}
+
+/// With sections and symbols the file loads the same.
+pub fn named_load_law()
+    ensures { NamedLoadLaw }
+{}
+
 /// The words and the size of a file that was worked out by hand, and what is told of it where it is cut.
 pub fn worked_example()
     ensures { WorkedExample }
+{}
+
+/// A debugger finds the symbols of the file where they are written.
+pub fn symbols_law()
+    ensures { SymbolsLaw }
+{}
+
+/// The words and the size of a file with sections and symbols that was worked out by hand.
+pub fn named_example()
+    ensures { NamedExample }
 {}

@@ -2,13 +2,20 @@
 #![tactic(auto)]
 
 mod laws;
+mod naming;
 mod reading;
 mod records;
+mod tables;
 mod writing;
 
 pub use crate::laws::{
-    elf_law, first_failed_law, load_law, one_record, worked_example, written_law,
+    elf_law, first_failed_law, load_law, named_example, named_law, named_load_law, one_record,
+    symbols_law, worked_example, written_law,
 };
+pub use crate::naming::write_named_elf;
 pub use crate::reading::read_elf;
 pub use crate::records::{Elf, Segment};
+pub use crate::tables::{
+    Binding, ElfSymbol, Section, SectionKind, SymbolKind, SymbolPlace, Tables,
+};
 pub use crate::writing::write_elf;

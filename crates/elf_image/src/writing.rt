@@ -9,7 +9,7 @@ use sdt_fault::{Bytes, NoMemory};
 use sdt_word::push_word;
 use std::alloc::Global;
 
-fn push_words(out: &mut Vec<u8>, words: &[u32]) -> Result<(), NoMemory>
+pub fn push_words(out: &mut Vec<u8>, words: &[u32]) -> Result<(), NoMemory>
     ensures { OnOk result (out.new.items ≡ out.old.items ++ bytes_of_words words.now) }
 {
     for word in words {
@@ -46,7 +46,7 @@ fn load_words(offset: u32, load: &LoadRegion) -> [u32; 8]
     [1, offset, load.base, load.base, size, size, 7, 4]
 }
 
-fn push_headers(out: &mut Vec<u8>, first: u64, loads: &[LoadRegion]) -> Result<(), NoMemory>
+pub fn push_headers(out: &mut Vec<u8>, first: u64, loads: &[LoadRegion]) -> Result<(), NoMemory>
     requires { first + length (files.loads_bytes loads.now) < 2 ^ 32 }
     ensures { OnOk result (out.new.items ≡ out.old.items ++ files.headers_bytes first loads.now) }
 {
@@ -58,7 +58,7 @@ fn push_headers(out: &mut Vec<u8>, first: u64, loads: &[LoadRegion]) -> Result<(
     Ok(())
 }
 
-fn push_bytes(out: &mut Vec<u8>, loads: &[LoadRegion]) -> Result<(), NoMemory>
+pub fn push_bytes(out: &mut Vec<u8>, loads: &[LoadRegion]) -> Result<(), NoMemory>
     ensures { OnOk result (out.new.items ≡ out.old.items ++ files.loads_bytes loads.now) }
 {
     for load in loads {
