@@ -4,4 +4,5 @@ mod LineLaws
 mod Steps
 mod Pieces
 mod MapLaws
+mod RangeLemmas
 pub mod Rows

@@ -14,7 +14,8 @@ use Rattle.bin_image.specs.declared.reading.Stage.{Stage}
 use Rattle.bin_image.specs.declared.reading.Stage.TheVariants.{Head, Loads, Regions, Entry, Bound, End, Done}
 use Rattle.bin_image.specs.Fields.{◌>>=◌, lacks}
 use Rattle.bin_image.specs.Maps.{header, load_line, region_line, start_line, entry_line, bound_line, end_line, ended, map_text, IsLoad, IsRegion, IsApart, AreApart, IsValid, Begins}
-use Rattle.bin_image.specs.Reading.{load_in, region_in, start_in, entry_in, bound_in, meets, State, after_head, add_load, after_load, add_region, after_region, after_start, after_entry, after_bound, after_end, next, empty_map}
+use Rattle.bin_image.specs.Reading.{load_in, region_in, start_in, entry_in, bound_in, State, after_head, add_load, after_load, add_region, after_region, after_start, after_entry, after_bound, after_end, next, empty_map}
+use Rattle.bin_image.specs.Ranges.{meets}
 use Rattle.bin_image.proofs.LineLaws.{when, equal, load_read, load_is, load_lacks, region_read, region_is, region_lacks, start_read, start_is, start_lacks, entry_read, entry_is, entry_lacks, bound_read, bound_is, bound_lacks}
 use Rattle.base_lemmas.proofs.BaseLemmas.{neither as or_false, same}
 

@@ -16,6 +16,7 @@ use Rattle.bin_image.specs.declared.reading.Stage.TheVariants.{Head, Loads, Regi
 use Rattle.bin_image.specs.declared.reading.Reader.{Reader}
 use Rattle.bin_image.specs.Fields.{◌>>=◌, cut, is_name, address_of, decimal_of}
 use Rattle.bin_image.specs.Maps.{header, end_line, ReadsMap, IsValid, map_text, IsFirstWrong}
+use Rattle.bin_image.specs.Ranges.{meets}
 
 -- ---- lines
 
@@ -67,11 +68,6 @@ entry_in line =
 
 abbrev pub bound_in : List ℕ → Option ℕ
 bound_in line = cut 32 line >>= λ word. if bytes_eq word.0 (codes "bound") then decimal_of word.1 else None
-
--- two load ranges share an address
-abbrev pub meets : MapLoad → MapLoad → Bool
-meets k l =
-    nat_lt 0 k.size && nat_lt 0 l.size && nat_lt k.base (l.base + l.size) && nat_lt l.base (k.base + k.size)
 
 -- ---- lines in order
 
@@ -152,7 +148,7 @@ abbrev pub shown : Reader → State
 shown r = (
   r.stage,
   record {
-    loads = r.loads.items;
+    loads = r.loads.lines.items;
     regions = r.regions.items;
     start = r.start;
     entry = r.entry;

@@ -6,6 +6,7 @@ mod fields;
 mod files;
 mod laws;
 mod lines;
+mod loads;
 mod reading;
 mod records;
 mod writing;

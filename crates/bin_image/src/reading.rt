@@ -1,7 +1,6 @@
 //! Reading: the lines in their order.
 
 ghost use Rattle.std.specs.Prelude.{◌≡◌, ◌^◌, ◌<◌, [], IfOk, IfErr, length, Ok, option_map};
-ghost use Rattle.std.specs.List.{list_any};
 ghost use Rattle.sdt_fault.specs.declared.answer.Fault.TheVariants.{Refused};
 ghost use Rattle.sdt_fault.specs.declared.kinds.FileKind.TheVariants as kind;
 ghost use Rattle.sdt_fault.specs.declared.refusal.Refusal.TheVariants.{BadImage};
@@ -12,6 +11,7 @@ ghost use Rattle.bin_image.specs.Reading.{Gives, IsFaultOf, map_of, shown};
 
 use crate::fields::{cut, is};
 use crate::lines::{bound_in, entry_in, load_in, region_in, start_in};
+use crate::loads::Loads;
 use crate::records::{MapFile, MapLoad, MapRegion};
 use sdt_fault::answer::Fault;
 use sdt_fault::kinds::FileKind;
@@ -39,7 +39,7 @@ pub enum Stage {
 #[derive(Debug, Drop)]
 pub struct Reader {
     stage: Stage,
-    loads: Vec<MapLoad>,
+    loads: Loads,
     regions: Vec<MapRegion>,
     start: u32,
     entry: u32,
@@ -53,7 +53,7 @@ impl Reader {
     {
         Reader {
             stage: Stage::Head,
-            loads: Vec::new(alloc),
+            loads: Loads::new(alloc),
             regions: Vec::new(alloc),
             start: 0,
             entry: 0,
@@ -77,13 +77,14 @@ impl Reader {
     fn add_load(self, load: MapLoad) -> Result<Option<Reader>, NoMemory>
         ensures { IfOk result (λ after. option_map shown after ≡ lines.add_load (shown self).1 load) }
     {
-        if meets_any(self.loads.as_slice(), &load) {
+        let Some(loads) = self.loads.with(load)? else {
             return Ok(None);
-        }
-        let mut read = self;
-        read.loads.push(load)?;
-        read.stage = Stage::Loads;
-        Ok(Some(read))
+        };
+        Ok(Some(Reader {
+            stage: Stage::Loads,
+            loads,
+            ..self
+        }))
     }
 
     fn after_load(self, alloc: Global, line: &[u8]) -> Result<Option<Reader>, NoMemory>
@@ -181,7 +182,7 @@ impl Reader {
         ensures { result ≡ (shown self).1 }
     {
         MapFile {
-            loads: List::from_vec(self.loads),
+            loads: List::from_vec(self.loads.into_lines()),
             regions: List::from_vec(self.regions),
             start: self.start,
             entry: self.entry,
@@ -189,22 +190,6 @@ impl Reader {
             bound: self.bound,
         }
     }
-}
-
-// Whether the load ranges share an address.
-fn meets(first: &MapLoad, second: &MapLoad) -> bool
-    ensures { result ≡ lines.meets first.now second.now }
-{
-    first.size > 0
-        && second.size > 0
-        && u64::from(first.base) < u64::from(second.base) + u64::from(second.size)
-        && u64::from(second.base) < u64::from(first.base) + u64::from(first.size)
-}
-
-fn meets_any(loads: &[MapLoad], load: &MapLoad) -> bool
-    ensures { result ≡ list_any (λ k. lines.meets k load.now) loads.now }
-{
-    loads.iter().any(|earlier| meets(earlier, load))
 }
 
 fn is_done(stage: Stage) -> bool
@@ -260,8 +245,8 @@ fn map(alloc: Global, b: &[u8]) -> Result<MapFile, Fault>
 
 /// The map that the bytes spell. Gives `BadImage` of kind `Map`, with an empty file name, exactly where they
 /// spell none, with the offset of the first byte of the first wrong line; what stands behind the last line feed
-/// is a wrong line, and a missing line is told at the file's length. Each load range is compared with all
-/// earlier ones; the rest takes time that is linear in the bytes.
+/// is a wrong line, and a missing line is told at the file's length. Takes time that is linear in the bytes, but for the
+/// logarithm of an ordered index of the load ranges.
 pub fn read_map(alloc: Global, b: &[u8]) -> Result<MapFile, Fault>
     requires { length b.now < 2 ^ 32 }
     // What is read is what the bytes say.

@@ -93,7 +93,16 @@ pub fn read_input_up_to<S: Store>(
     }
 }
 
-/// What files hold, in order. The first that can't be read ends it.
+/// How many bytes are left for others behind a file's.
+fn left_behind(left: usize, bytes: &Bytes) -> Result<usize, NoMemory> {
+    left.checked_sub(bytes.as_slice().len()).ok_or(NoMemory)
+}
+
+/// The most bytes of inputs that a command keeps at once.
+const MOST_BYTES: usize = 1 << 30;
+
+/// What files hold, in order. The first that can't be read ends it. A file that is named often is read as often; more than
+/// 2^30 bytes in all count as want of memory.
 pub fn read_inputs<S: Store>(
     alloc: Global,
     store: &mut S,
@@ -108,9 +117,13 @@ pub fn read_inputs<S: Store>(
     ensures write_faults { S.write_faults store.new ≡ S.write_faults store.old }
 {
     let mut contents = Vec::new(alloc);
+    let mut left = MOST_BYTES;
     for name in names {
         match read_input(alloc, store, name) {
-            Ok(bytes) => contents.push(bytes)?,
+            Ok(bytes) => {
+                left = left_behind(left, &bytes)?;
+                contents.push(bytes)?
+            }
             Err(end) => return Err(end),
         }
     }
