@@ -1,9 +1,10 @@
 -- Worked rows: lines, a whole text, and sums.
-use Rattle.std.specs.Prelude.{◌≡◌, codes, length}
+use Rattle.std.specs.Prelude.{◌≡◌, codes, length, ◌∷◌, []}
 use Rattle.std.specs.Fmt.{digits}
 use Rattle.std.proofs.Common.{refl}
 use Rattle.big_model.specs.Sources.{step_line, data_line, big_text, big_sum}
 use Rattle.big_model.specs.Statements.{big_statements}
+use Rattle.big_model.specs.Words.{code_words}
 
 step_999 : step_line 999 ≡ codes "f999 ADD r4,r4,#231"
 unfolding digits
@@ -27,3 +28,6 @@ sum_of_1000 = refl
 statements_of_two : length (big_statements (codes "t.s") 2) ≡ 11
 unfolding digits
 statements_of_two = refl
+
+code_of_two : code_words 2 ≡ 0xE3A04000 ∷ 0xE2844000 ∷ 0xE2844001 ∷ 0xE1A00004 ∷ 0xEF000011 ∷ []
+code_of_two = refl

@@ -37,28 +37,16 @@ attributes c read_only = record {
   has_bad_word = false;
 }
 
--- AREA with a name and contents, ENTRY and END
-abbrev pub area : List ℕ → Contents → Bool → What
-area name c read_only = what.Directive (line.Area name (attributes c read_only))
-
-abbrev pub code_area : What
-code_area = area (codes "big") contents.Code true
-
-abbrev pub data_area : What
-data_area = area (codes "bigrw") contents.Data false
-
-abbrev pub entry : What
-entry = what.Directive line.Entry
-
-abbrev pub end : What
-end = what.Directive line.End
+-- AREA with a name and contents
+abbrev pub area_what : List ℕ → Contents → Bool → What
+area_what name c read_only = what.Directive (line.Area name (attributes c read_only))
 
 -- MOV r4,#0; ADD r4,r4,#v; MOV r0,r4; SWI 0x11; DCD k
 abbrev pub clear : What
 clear = what.Arm (arm.DataImmediate condition.Al operation.Mov false (register_is.Number 4) (register_is.Number 0) (constant 0))
 
-abbrev pub add : ℕ → What
-add v = what.Arm (arm.DataImmediate condition.Al operation.Add false (register_is.Number 4) (register_is.Number 4) (constant v))
+abbrev pub step_what : ℕ → What
+step_what v = what.Arm (arm.DataImmediate condition.Al operation.Add false (register_is.Number 4) (register_is.Number 4) (constant v))
 
 abbrev pub give : What
 give = what.Arm (arm.DataShifted condition.Al operation.Mov false (register_is.Number 0) (register_is.Number 0) (register_is.Number 4) shift.Unshifted)
@@ -66,27 +54,29 @@ give = what.Arm (arm.DataShifted condition.Al operation.Mov false (register_is.N
 abbrev pub leave : What
 leave = what.Arm (arm.SoftwareInterrupt condition.Al (constant 17))
 
-abbrev pub datum : ℕ → What
-datum k = what.Directive (line.Dcd (constant k ∷ []))
+abbrev pub datum_what : ℕ → What
+datum_what k = what.Directive (line.Dcd (constant k ∷ []))
 
 -- the first n steps, and the first n words of data, from a line on
-abbrev pub steps : List ℕ → ℕ → ℕ → List Statement
-steps source at zero = []
-steps source at (suc k) = stated source (at + k) (Some (label_of k)) (add (k % 256)) ∷ steps source at k
+abbrev pub step_statements : List ℕ → ℕ → ℕ → List Statement
+step_statements source at zero = []
+step_statements source at (suc k) = stated source (at + k) (Some (label_of k)) (step_what (k % 256)) ∷ step_statements source at k
 
-abbrev pub words : List ℕ → ℕ → ℕ → List Statement
-words source at zero = []
-words source at (suc k) = stated source (at + k) None (datum k) ∷ words source at k
+abbrev pub data_statements : List ℕ → ℕ → ℕ → List Statement
+data_statements source at zero = []
+data_statements source at (suc k) = stated source (at + k) None (datum_what k) ∷ data_statements source at k
 
 -- up to MOV r4,#0, up to SWI 0x11, and up to the last word of data
 abbrev pub begun : List ℕ → List Statement
-begun source = stated source 3 None clear ∷ stated source 2 None entry ∷ stated source 1 None code_area ∷ []
+begun source =
+    stated source 3 None clear ∷ stated source 2 None (what.Directive line.Entry) ∷ stated source 1 None (area_what (codes "big") contents.Code true) ∷ []
 
 abbrev pub code_part : List ℕ → ℕ → List Statement
-code_part source n = stated source (n + 5) None leave ∷ stated source (n + 4) None give ∷ (steps source 4 n ++ begun source)
+code_part source n = stated source (n + 5) None leave ∷ stated source (n + 4) None give ∷ (step_statements source 4 n ++ begun source)
 
 abbrev pub data_part : List ℕ → ℕ → List Statement
-data_part source n = words source (n + 7) n ++ (stated source (n + 6) None data_area ∷ code_part source n)
+data_part source n =
+    data_statements source (n + 7) n ++ (stated source (n + 6) None (area_what (codes "bigrw") contents.Data false) ∷ code_part source n)
 
 abbrev pub big_statements : List ℕ → ℕ → List Statement
-big_statements source n = stated source (n + n + 7) None end ∷ data_part source n
+big_statements source n = stated source (n + n + 7) None (what.Directive line.End) ∷ data_part source n
