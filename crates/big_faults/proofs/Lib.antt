@@ -1,0 +1,3 @@
+mod BigLemmas
+mod ShapeLemmas
+mod StatementLemmas
