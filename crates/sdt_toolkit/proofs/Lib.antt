@@ -15,6 +15,7 @@ mod ReadLemmas
 mod RunBytes
 mod RunCommands
 mod RunFiles
+mod RunHidden
 mod RunLinked
 mod RunLinks
 mod RunLoads
@@ -23,6 +24,7 @@ mod RunNeeds
 mod RunOnce
 mod RunOpened
 mod RunRanges
+mod RunSilenced
 mod RunStartup
 mod RunSteps
 mod HeadlineLemmas

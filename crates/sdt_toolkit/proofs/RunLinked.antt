@@ -46,7 +46,7 @@ stays : (files : Files) (fs : List OutFile) (name bytes : List ℕ) → content 
 stays files [] name bytes h differ = h
 stays files (f ∷ fs) name bytes h differ = stays (insert files f.name f.bytes) fs name bytes (other_content files f.name f.bytes name differ.0 ∙ h) differ.1
 
-stand : (files : Files) (fs : List OutFile) → AreDistinct (names_of fs) → HasFiles (written files (outputs fs)) fs
+pub stand : (files : Files) (fs : List OutFile) → AreDistinct (names_of fs) → HasFiles (written files (outputs fs)) fs
 stand files [] differ = tt
 stand files (f ∷ fs) differ = (
   stays (insert files f.name f.bytes) fs f.name f.bytes (own_content files f.name f.bytes) differ.0,

@@ -1,6 +1,7 @@
 //! Laws of the definitions, each proved as the contract of an empty function.
 
 ghost use Rattle.sdt_toolkit.specs.Builds.{BuildsAreLinks, SpelledAreObjectFiles};
+ghost use Rattle.sdt_toolkit.specs.Interrupts.{InterruptsAreHidden};
 ghost use Rattle.sdt_toolkit.specs.Links.{OneLinkAsked};
 ghost use Rattle.sdt_toolkit.specs.Plans.{ImagesArePlaced};
 ghost use Rattle.sdt_toolkit.specs.Runs.{CommandsStart, FilesAreRead, LinkedRunsStart, OneRun, RunsStart};
@@ -10,7 +11,7 @@ use armasm_core::laws::one_assembly;
 use armlink_core::laws::image_names;
 use bin_image::{map_law, spelling_law};
 use link_model::linked_law;
-use run_laws::{bus_run_is_one, made_steps_are_one};
+use run_laws::{bus_run_is_one, made_steps_are_one, started_exits_alike};
 use scatter_text::reading_law;
 
 /// Files ask for one thing.
@@ -74,6 +75,15 @@ pub fn linked_runs_start()
     ensures { LinkedRunsStart }
 {
     commands_start();
+}
+
+/// Where the interrupt kit is in force in the image and the program keeps the rules, a run by the map that devices interrupt and
+/// that ends by SWI 0x11 is answered as the run without interrupts, with the same text.
+pub fn interrupts_are_hidden()
+    ensures { InterruptsAreHidden }
+{
+    files_are_read();
+    started_exits_alike();
 }
 
 /// Words, files of bytes, the text before and devices of whole words decide a run. Its answer is one, unless a fault or want of

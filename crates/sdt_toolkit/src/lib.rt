@@ -5,6 +5,7 @@ ghost use Rattle.std.specs.Prelude.{◌≡◌, map, string_bytes, false};
 ghost use Rattle.arm7_bus.specs.Seats.{seats_by};
 ghost use Rattle.sdt_toolkit.specs.Commands.{Commanded, Ends, is_run, may_print};
 ghost use Rattle.sdt_toolkit.specs.Headline.{Headline};
+ghost use Rattle.sdt_toolkit.specs.Interrupts.{HidesInterrupts};
 ghost use Rattle.tool_words.specs.Commands.{command_of};
 
 use armasm_core::laws::sources_begin;
@@ -51,6 +52,20 @@ pub fn run_tool<S: Store, K: Sink>(
     }) (seats_by base size state touched devices.old.items) (seats_by base size state touched devices.new.items) result }
     // The files of a link or a build that is done, put into memory, show what was linked and reach its entry.
     ensures headline { Headline (command_of (map string_bytes words.now)) (S.files store.old) (S.files store.new) result }
+    // A run by the map of an image in which the interrupt kit is in force, and whose program keeps the rules, is done as the
+    // run without interrupts is, with the same text.
+    ensures interrupts { HidesInterrupts (command_of (map string_bytes words.now)) (record {
+      before = S.files store.old;
+      after = S.files store.new;
+      printed = K.bytes sink.old;
+      prints = K.bytes sink.new;
+      reads = S.read_faults store.old;
+      reads_now = S.read_faults store.new;
+      writes = S.write_faults store.old;
+      writes_now = S.write_faults store.new;
+      faults = K.faults sink.old;
+      faults_now = K.faults sink.new;
+    }) (seats_by base size state touched devices.old.items) result }
     // Whatever was asked for: a refusal names the first defect and, as a read fault does, leaves everything as it was, and each
     // fault was counted.
     ensures ends { Ends (command_of (map string_bytes words.now)) (record {
@@ -71,5 +86,6 @@ pub fn run_tool<S: Store, K: Sink>(
 {
     reading_law();
     sources_begin();
+    laws::interrupts_are_hidden();
     commands::command(alloc, words, store, sink, devices)
 }
