@@ -14,7 +14,7 @@ use Rattle.link_assign.specs.Assigning.{assignment_of}
 use Rattle.link_veneer.specs.Planning.{planned_veneers}
 use Rattle.link_place.specs.Placed.{placed}
 use Rattle.link_apply.specs.Applied.{applied}
-use Rattle.armlink_core.specs.declared.making.Made.{Made}
+use Rattle.armlink_core.specs.declared.making.PlacedImage.{PlacedImage}
 use Rattle.armlink_core.specs.Linking.{made_at, made_with, made_of}
 use Rattle.armlink_core.specs.Sizes.{region_size}
 use Rattle.armlink_core.proofs.WithinLemmas.{is_small}
@@ -24,21 +24,21 @@ came : {A B : Type 0} (step : Result A Refusal) (f : A → Result B Refusal) (y 
 came (Ok x) f y h = (x, refl, h)
 came (Err e) f y h = absurd (cc)
 
-abbrev with_bytes : Linked → Assigned → List Veneer → Placement → List (List ℕ) → Result Made Refusal
+abbrev with_bytes : Linked → Assigned → List Veneer → Placement → List (List ℕ) → Result PlacedImage Refusal
 with_bytes l a vs p bytes = Ok (record { linked = l; assigned = a; veneers = vs; placement = p; bytes = bytes })
 
-abbrev at_places : Linked → Assigned → List Veneer → Placement → Result Made Refusal
+abbrev at_places : Linked → Assigned → List Veneer → Placement → Result PlacedImage Refusal
 at_places l a vs p = made_at l a vs p
 
-abbrev with_veneers : Kind → Option (List Range32) → Linked → Assigned → List Veneer → Result Made Refusal
+abbrev with_veneers : Kind → Option (List Range32) → Linked → Assigned → List Veneer → Result PlacedImage Refusal
 with_veneers k ram l a vs = placed k ram (contents_of l.objects a.regions vs) >>= at_places l a vs
 
-same_made : (l : Linked) (a : Assigned) (vs : List Veneer) (p : Placement) (bytes : List (List ℕ)) (m : Made) → with_bytes l a vs p bytes ≡ Ok m → p ≡ m.placement
+same_made : (l : Linked) (a : Assigned) (vs : List Veneer) (p : Placement) (bytes : List (List ℕ)) (m : PlacedImage) → with_bytes l a vs p bytes ≡ Ok m → p ≡ m.placement
 same_made l a vs p bytes m h =
-    let made : Made = record { linked = l; assigned = a; veneers = vs; placement = p; bytes = bytes } in
-    let e : made ≡ m = cc in ap (λ (n : Made). n.placement) e
+    let made : PlacedImage = record { linked = l; assigned = a; veneers = vs; placement = p; bytes = bytes } in
+    let e : made ≡ m = cc in ap (λ (n : PlacedImage). n.placement) e
 
-pub made_small : (k : Kind) (ram : Option (List Range32)) (l : Linked) (m : Made) → made_of k ram l ≡ Ok m → sum_by region_size m.placement.regions ≤ 2 ^ 26
+pub made_small : (k : Kind) (ram : Option (List Range32)) (l : Linked) (m : PlacedImage) → made_of k ram l ≡ Ok m → sum_by region_size m.placement.regions ≤ 2 ^ 26
 made_small k ram l m h =
     let (a, ea, ha) = came (assignment_of k l.objects) (made_with k ram l) m h in
     let (vs, ev, hv) = came (planned_veneers l a (has_header k)) (with_veneers k ram l a) m ha in

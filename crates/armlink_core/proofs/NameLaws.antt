@@ -56,7 +56,7 @@ use Rattle.link_apply.specs.Applied.{applied}
 use Rattle.link_apply.specs.Flaws.{apply_refusal, flaw_of, refusal_of, refusals_at, refusals_in, told}
 use Rattle.link_apply.specs.RegionBytes.{regions_bytes}
 use Rattle.link_apply.specs.Placed.{called}
-use Rattle.armlink_core.specs.declared.making.Made.{Made}
+use Rattle.armlink_core.specs.declared.making.PlacedImage.{PlacedImage}
 use Rattle.armlink_core.specs.Linking.{made_at, made_of, made_with, symbols_of}
 use Rattle.armlink_core.specs.Images.{call_of, described, image_made, image_of, image_with, linking}
 use Rattle.armlink_core.specs.Moves.{can_move, moves_in}
@@ -347,10 +347,10 @@ moves_alike k ts ds e p moves h = by (can_move k) h where
 
 -- ---- what is made
 
-abbrev made_by : Linked → Assigned → List Veneer → Placement → List (List ℕ) → Made
+abbrev made_by : Linked → Assigned → List Veneer → Placement → List (List ℕ) → PlacedImage
 made_by l a vs p bytes = record { linked = l; assigned = a; veneers = vs; placement = p; bytes = bytes }
 
-record IsMade (k : Kind) (ram : Option (List Range32)) (ts : List Twice) (ds : List Definition) (e : LinkedEntry) (m : Made) : Type 0 where
+record IsMade (k : Kind) (ram : Option (List Range32)) (ts : List Twice) (ds : List Definition) (e : LinkedEntry) (m : PlacedImage) : Type 0 where
   assigned : Assigned
   veneers : List Veneer
   placement : Placement
@@ -358,7 +358,7 @@ record IsMade (k : Kind) (ram : Option (List Range32)) (ts : List Twice) (ds : L
   is : made_by (linked_by first ts ds e) assigned veneers placement bytes ≡ m
   other : made_of k ram (linked_by second ts ds e) ≡ Ok (made_by (linked_by second ts ds e) assigned veneers placement bytes)
 
-made_alike : (k : Kind) (ram : Option (List Range32)) (ts : List Twice) (ds : List Definition) (e : LinkedEntry) (m : Made)
+made_alike : (k : Kind) (ram : Option (List Range32)) (ts : List Twice) (ds : List Definition) (e : LinkedEntry) (m : PlacedImage)
     → made_of k ram (linked_by first ts ds e) ≡ Ok m → IsMade k ram ts ds e m
 made_alike k ram ts ds e m h =
     let one = linked_by first ts ds e in let other = linked_by second ts ds e in
@@ -372,7 +372,7 @@ made_alike k ram ts ds e m h =
       veneers = vs;
       placement = p;
       bytes = bytes;
-      is = let same : ◌≡◌ {A = Result Made Refusal} (Ok (made_by one a vs p bytes)) (Ok m) = hb in cc;
+      is = let same : ◌≡◌ {A = Result PlacedImage Refusal} (Ok (made_by one a vs p bytes)) (Ok m) = hb in cc;
       other =
           goes_on (assignment_of k (seconds ts)) (made_with k ram other) a (Ok result) (assigned_alike (offers_of k) (length (described_regions k)) ts a ea)
           (goes_on (planned_veneers other a (has_header k)) (λ ws. placed k ram (contents_of (seconds ts) a.regions ws) >>= made_at other a ws) vs (Ok result) (sym (veneers_alike ts ds e a (has_header k)) ∙ ev)
@@ -412,7 +412,7 @@ image_alike k ram ts ds e i h =
     let p = made.placement in
     let one = made_by (linked_by first ts ds e) made.assigned made.veneers p made.bytes in
     let other = made_by (linked_by second ts ds e) made.assigned made.veneers p made.bytes in
-    let whole : image_made k one ≡ Ok i = subst (λ (n : Made). image_made k n ≡ Ok i) (sym made.is) hm in
+    let whole : image_made k one ≡ Ok i = subst (λ (n : PlacedImage). image_made k n ≡ Ok i) (sym made.is) hm in
     let (moves, moving, hv) = came (moves_in k (linked_by first ts ds e) p) (λ moves. Ok (image_of k one moves)) i whole in
     goes_on (made_of k ram (linked_by second ts ds e)) (image_made k) other (Ok i) made.other
     (goes_on (moves_in k (linked_by second ts ds e) p) (λ ms. Ok (image_of k other ms)) moves (Ok i) (moves_alike k ts ds e p moves moving)

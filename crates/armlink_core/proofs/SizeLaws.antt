@@ -28,7 +28,7 @@ use Rattle.link_veneer.specs.Planning.{planned_veneers}
 use Rattle.link_place.specs.Placed.{placed, placed_region, placed_regions, placement_of, told}
 use Rattle.link_apply.specs.Applied.{applied}
 use Rattle.scatter_text.specs.Reading.{scatter_of}
-use Rattle.armlink_core.specs.declared.making.Made.{Made}
+use Rattle.armlink_core.specs.declared.making.PlacedImage.{PlacedImage}
 use Rattle.armlink_core.specs.Linking.{made_at, made_of, made_with, symbols_of}
 use Rattle.armlink_core.specs.Images.{described, form_of, image_made, image_of}
 use Rattle.armlink_core.specs.Moves.{moves_in}
@@ -93,14 +93,14 @@ placed_small k ram c p h =
 
 -- ---- an image
 
-pub made_small : (k : Kind) (ram : Option (List Range32)) (l : Linked) (m : Made) → made_of k ram l ≡ Ok m → AllByRecursion IsSmall m.placement.regions
+pub made_small : (k : Kind) (ram : Option (List Range32)) (l : Linked) (m : PlacedImage) → made_of k ram l ≡ Ok m → AllByRecursion IsSmall m.placement.regions
 made_small k ram l m h =
     let a = steps_ok (assignment_of k l.objects) (made_with k ram l) m h in
     let vs = steps_ok (planned_veneers l a.0 (has_header k)) (λ vs. placed k ram (contents_of l.objects a.0.regions vs) >>= made_at l a.0 vs) m a.2 in
     let p = steps_ok (placed k ram (contents_of l.objects a.0.regions vs.0)) (made_at l a.0 vs.0) m vs.2 in
     let bytes = steps_ok (applied l p.0) (λ bytes. Ok (record { linked = l; assigned = a.0; veneers = vs.0; placement = p.0; bytes = bytes })) m p.2 in
-    let one : Made = record { linked = l; assigned = a.0; veneers = vs.0; placement = p.0; bytes = bytes.0 } in
-    subst (λ (x : Made). AllByRecursion IsSmall x.placement.regions) (ok_same one m bytes.2) (placed_small k ram (contents_of l.objects a.0.regions vs.0) p.0 p.1)
+    let one : PlacedImage = record { linked = l; assigned = a.0; veneers = vs.0; placement = p.0; bytes = bytes.0 } in
+    subst (λ (x : PlacedImage). AllByRecursion IsSmall x.placement.regions) (ok_same one m bytes.2) (placed_small k ram (contents_of l.objects a.0.regions vs.0) p.0 p.1)
 
 pub linked_sizes : LinkedSizes
 linked_sizes k ram os i h =

@@ -30,7 +30,7 @@ use Rattle.link_select.specs.Selection.{selection_of}
 use Rattle.link_values.specs.Placed.{base_in}
 use Rattle.link_apply.specs.Placed.{called}
 use Rattle.link_apply.specs.RegionBytes.{copy_rows, zero_rows}
-use Rattle.armlink_core.specs.declared.making.Made.{Made}
+use Rattle.armlink_core.specs.declared.making.PlacedImage.{PlacedImage}
 use Rattle.armlink_core.specs.Linking.{made_of, symbols_of}
 use Rattle.armlink_core.specs.Moves.{moves_in}
 use Rattle.armlink_core.specs.Sizes.{size_at}
@@ -74,7 +74,7 @@ bound_in (kind.Scatter s) p moves = bound_of (copy_rows p) (zero_rows p)
 bound_in (kind.Plain base) p moves = 0
 bound_in (kind.Aif base relocatable) p moves = aif_bound (length moves) (size_at p.regions 2)
 
-abbrev pub image_of : Kind → Made → List ℕ → Image
+abbrev pub image_of : Kind → PlacedImage → List ℕ → Image
 image_of k m moves = record {
   kind = form_of k;
   loads = loads_from 0 m.placement.regions m.bytes (description k);
@@ -89,7 +89,7 @@ image_of k m moves = record {
 
 -- ---- a link
 
-abbrev pub image_made : Kind → Made → Result Image Refusal
+abbrev pub image_made : Kind → PlacedImage → Result Image Refusal
 image_made k m = moves_in k m.linked m.placement >>= λ moves. Ok (image_of k m moves)
 
 -- of what is selected

@@ -17,7 +17,7 @@ use Rattle.link_assign.specs.Assigning.{assignment_of}
 use Rattle.link_veneer.specs.Planning.{planned_veneers}
 use Rattle.link_place.specs.Placed.{placed}
 use Rattle.link_apply.specs.Applied.{applied}
-use Rattle.armlink_core.specs.declared.making.Made.{Made}
+use Rattle.armlink_core.specs.declared.making.PlacedImage.{PlacedImage}
 
 -- the region symbols that an image of a form has
 abbrev pub symbols_of : Kind → List (List ℕ)
@@ -25,12 +25,12 @@ symbols_of (kind.Scatter s) = names_of_scatter (map (λ r. r.name) (described_re
 symbols_of (kind.Plain base) = names_of_plain
 symbols_of (kind.Aif base relocatable) = names_of_plain
 
-abbrev pub made_at : Linked → Assigned → List Veneer → Placement → Result Made Refusal
+abbrev pub made_at : Linked → Assigned → List Veneer → Placement → Result PlacedImage Refusal
 made_at l a vs p = applied l p >>= λ bytes. Ok (record { linked = l; assigned = a; veneers = vs; placement = p; bytes = bytes })
 
-abbrev pub made_with : Kind → Option (List Range32) → Linked → Assigned → Result Made Refusal
+abbrev pub made_with : Kind → Option (List Range32) → Linked → Assigned → Result PlacedImage Refusal
 made_with k ram l a =
     planned_veneers l a (has_header k) >>= λ vs. placed k ram (contents_of l.objects a.regions vs) >>= λ p. made_at l a vs p
 
-abbrev pub made_of : Kind → Option (List Range32) → Linked → Result Made Refusal
+abbrev pub made_of : Kind → Option (List Range32) → Linked → Result PlacedImage Refusal
 made_of k ram l = assignment_of k l.objects >>= λ a. made_with k ram l a

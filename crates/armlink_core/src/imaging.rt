@@ -10,7 +10,7 @@ ghost use Rattle.armlink_core.specs.Moves.{can_move, moves_in};
 ghost use Rattle.armlink_core.specs.Sizes.{region_size, IsSmall};
 
 use crate::loads::load_regions;
-use crate::making::{Made, make};
+use crate::making::{PlacedImage, make};
 use crate::starting::{bound_in, call_of, entry_of, start_of};
 use link_model::{Image, ImageKind, Linked};
 use link_shifts::movements;
@@ -32,12 +32,17 @@ fn form_of(kind: &Kind) -> ImageKind
     }
 }
 
-fn image_of(alloc: Global, kind: &Kind, made: Made, moves: List<u32>) -> Result<Image, NoMemory>
+fn image_of(
+    alloc: Global,
+    kind: &Kind,
+    made: PlacedImage,
+    moves: List<u32>,
+) -> Result<Image, NoMemory>
     requires whole { sum_by region_size made.placement.regions ≤ 2 ^ 26 }
     requires each { AllByRecursion (λ r. r.length + r.zero ≤ 2 ^ 26) made.placement.regions }
     ensures { IfOk result (λ i. i ≡ image_of kind.now made moves) }
 {
-    let Made {
+    let PlacedImage {
         linked,
         placement,
         bytes,
@@ -66,7 +71,7 @@ fn can_move(kind: &Kind) -> bool
 }
 
 /// The offsets of what is shifted where an image of a form is moved.
-fn moves_in(alloc: Global, kind: &Kind, made: &Made) -> Result<List<u32>, Fault>
+fn moves_in(alloc: Global, kind: &Kind, made: &PlacedImage) -> Result<List<u32>, Fault>
     ensures { Gives result (moves_in kind.now made.now.linked made.now.placement) }
 {
     if !can_move(kind) {

@@ -23,7 +23,7 @@ use std::alloc::Global;
 
 /// What a link of selected objects is.
 #[derive(Debug, Drop)]
-pub struct Made {
+pub struct PlacedImage {
     pub linked: Linked,
     pub assigned: Assigned,
     pub veneers: List<Veneer>,
@@ -47,13 +47,13 @@ fn make_at(
     assigned: Assigned,
     veneers: List<Veneer>,
     placement: Placement,
-) -> Result<Made, Fault>
+) -> Result<PlacedImage, Fault>
     requires objects { AllByRecursion (λ o. IsValid o.value) linked.objects }
     requires within { IsWithin placement }
     ensures { Gives result (made_at linked assigned veneers placement) }
 {
     let bytes = apply(alloc, &linked, &placement)?;
-    Ok(Made {
+    Ok(PlacedImage {
         linked,
         assigned,
         veneers,
@@ -68,7 +68,7 @@ fn make_with(
     assigned: Assigned,
     kind: &Kind,
     ram: Option<&[Range32]>,
-) -> Result<Made, Fault>
+) -> Result<PlacedImage, Fault>
     requires objects { AllByRecursion (λ o. IsValid o.value) linked.objects }
     requires small { IsSmall kind.now }
     ensures { Gives result (made_with kind.now (option_copied ram.entry) linked assigned) }
@@ -84,7 +84,7 @@ pub fn make(
     linked: Linked,
     kind: &Kind,
     ram: Option<&[Range32]>,
-) -> Result<Made, Fault>
+) -> Result<PlacedImage, Fault>
     requires objects { AllByRecursion (λ o. IsValid o.value) linked.objects }
     requires small { IsSmall kind.now }
     ensures { Gives result (made_of kind.now (option_copied ram.entry) linked) }

@@ -8,12 +8,14 @@ ghost use Rattle.boot_code.specs.Laws.{bound_of};
 ghost use Rattle.boot_code.specs.Startup.{copied_words, zeroed_words};
 ghost use Rattle.link_apply.specs.Placed.{called, home_of, leads_to};
 ghost use Rattle.link_apply.specs.RegionBytes.{is_copied};
+ghost use Rattle.link_model.specs.RegionValues.{reduced_by};
 ghost use Rattle.link_values.specs.Placed.{is_area};
 ghost use Rattle.armlink_core.specs.Images.{bound_in, call_of, entry_of, start_of};
 ghost use Rattle.armlink_core.specs.Sizes.{copies_in, region_size, size_at, zeros_in};
 
 use boot_code::steps_bound;
 use link_model::{Linked, LinkedEntry, PlacedArea, PlacedVeneer, Placement, Region};
+use link_values::reduced;
 use place_model::Kind;
 
 /// Where the image of a form starts.
@@ -26,13 +28,13 @@ pub fn start_of(kind: &Kind, placement: &Placement) -> u32
     }
 }
 
-/// The address of the area of these numbers, or 0 where none has them.
-fn base_of(areas: &[PlacedArea], object: u32, area: u32) -> u64
-    ensures { result ≡ unwrap_or (option_map (λ a. a.address) (find (is_area object area) areas.now)) 0 }
+/// The address of the area of these numbers, in a scatter image modulo 2^32, or 0 where none has them.
+fn base_of(boot: Option<u32>, areas: &[PlacedArea], object: u32, area: u32) -> u64
+    ensures { result ≡ unwrap_or (option_map (λ a. reduced_by boot a.address) (find (is_area object area) areas.now)) 0 }
 {
     for placed in areas {
         if placed.area.object == object && placed.area.area == area {
-            return placed.address;
+            return reduced(boot, placed.address);
         }
     }
     0
@@ -48,7 +50,7 @@ pub fn entry_of(linked: &Linked, placement: &Placement) -> u32
         offset,
         ..
     } = linked.entry;
-    let base = base_of(placement.areas.as_slice(), object, area);
+    let base = base_of(placement.boot, placement.areas.as_slice(), object, area);
     ((base % (1 << 32) + u64::from(offset)) % (1 << 32)) as u32
 }
 

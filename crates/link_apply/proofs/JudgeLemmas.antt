@@ -11,7 +11,7 @@ use Rattle.link_model.specs.declared.placing.Placement.{Placement}
 use Rattle.link_model.specs.Veneers.{IsIn}
 use Rattle.link_apply.specs.declared.flaws.Flaw.TheVariants.{Malformed}
 use Rattle.link_apply.specs.declared.judging.Sums.{Sums}
-use Rattle.link_apply.specs.declared.starts.Start.{Start}
+use Rattle.link_apply.specs.declared.starts.FieldDirectives.{FieldDirectives}
 use Rattle.link_apply.specs.Flaws.{overlaps, is_of_itself, is_based, is_outside, has_bad_field, is_only, unless, value_flaw, flaw_of}
 use Rattle.link_apply.specs.Judged.{flaw_by, number_with, IsWay}
 use Rattle.link_apply.specs.PatchedBytes.{number_by, patched_number}
@@ -37,17 +37,17 @@ none_overlaps area a r e =
     let two = or_parts (is_of_itself area r) (is_based r || overlapping) one.1 in
     (or_parts (is_based r) overlapping two.1).1
 
-pub judged : (p : Placement) (values : Values) (region base area : ℕ) (a : Area) (r : Reloc) (s : Start) (sums : Sums) (way : Way) → IsIn a.relocs r
+pub judged : (p : Placement) (values : Values) (region base area : ℕ) (a : Area) (r : Reloc) (s : FieldDirectives) (sums : Sums) (way : Way) → IsIn a.relocs r
     → starts values a.relocs (field_of r).place ≡ Some s → has_bad_field area a r ≡ false
     → (s.is_mixed ≡ false → kind_of r ≡ s.kind → Tells values base a.relocs (field_of r) s sums) → IsWay values base area a r way
-    → flaw_by p region (base + (field_of r).place) (number_in a.bytes (field_of r)) sums.more sums.less (is_relative r && s.is_alone) way (kind_of r)
+    → flaw_by p region (base + (field_of r).place) (number_in a.bytes (field_of r)) sums.added sums.subtracted (is_relative r && s.is_alone) way (kind_of r)
     ≡ flaw_of p values region base area a r
 judged p values region base area a r s sums way own there sound tells goes =
     let unmixed = unmixed_there values a.relocs r s there (none_overlaps area a r sound) in
     let kind = kind_there values a.relocs r own.0 s own.1 there unmixed in
     let told = tells unmixed kind in
-    let more = sym told.more in
-    let less = sym told.less in
+    let more = sym told.added in
+    let less = sym told.subtracted in
     let alone = alone_is values a.relocs (field_of r) s there unmixed kind in
     (λ i. flaw_by p region (base + (field_of r).place) (number_in a.bytes (field_of r)) (more i) (less i) (is_relative r && alone i) way (kind_of r))
     ∙ valued p values region base a r way (kind_of r) (directives a.relocs (field_of r)) (λ t e. goes t e sound)
@@ -65,20 +65,20 @@ renumbered p values region base a r way Word rs e = refl
 renumbered p values region base a r way (Branch t) rs e =
     ap (λ w. number_with p region (base + (field_of r).place) (number_in a.bytes (field_of r)) (added values rs) (taken base rs) w (Branch t)) (e t refl)
 
-pub numbered : (p : Placement) (values : Values) (region base area : ℕ) (a : Area) (r : Reloc) (s : Start) (sums : Sums) (way : Way) → IsIn a.relocs r
+pub numbered : (p : Placement) (values : Values) (region base area : ℕ) (a : Area) (r : Reloc) (s : FieldDirectives) (sums : Sums) (way : Way) → IsIn a.relocs r
     → starts values a.relocs (field_of r).place ≡ Some s → has_bad_field area a r ≡ false
     → (s.is_mixed ≡ false → kind_of r ≡ s.kind → Tells values base a.relocs (field_of r) s sums) → IsWay values base area a r way
-    → number_with p region (base + (field_of r).place) (number_in a.bytes (field_of r)) sums.more sums.less way (kind_of r)
+    → number_with p region (base + (field_of r).place) (number_in a.bytes (field_of r)) sums.added sums.subtracted way (kind_of r)
     ≡ patched_number p values region base a (field_of r)
 numbered p values region base area a r s sums way own there sound tells goes =
     let unmixed = unmixed_there values a.relocs r s there (none_overlaps area a r sound) in
     let told = tells unmixed (kind_there values a.relocs r own.0 s own.1 there unmixed) in
-    let more = sym told.more in
-    let less = sym told.less in
+    let more = sym told.added in
+    let less = sym told.subtracted in
     (λ i. number_with p region (base + (field_of r).place) (number_in a.bytes (field_of r)) (more i) (less i) way (kind_of r))
     ∙ renumbered p values region base a r way (kind_of r) (directives a.relocs (field_of r)) (λ t e. goes t e sound)
 
-pub told_of : (values : Values) (base area : ℕ) (a : Area) (r : Reloc) (s : Start) (sums : Sums) → IsIn a.relocs r → starts values a.relocs (field_of r).place ≡ Some s
+pub told_of : (values : Values) (base area : ℕ) (a : Area) (r : Reloc) (s : FieldDirectives) (sums : Sums) → IsIn a.relocs r → starts values a.relocs (field_of r).place ≡ Some s
     → has_bad_field area a r ≡ false → (s.is_mixed ≡ false → kind_of r ≡ s.kind → Tells values base a.relocs (field_of r) s sums)
     → Tells values base a.relocs (field_of r) s sums
 told_of values base area a r s sums own there sound tells =

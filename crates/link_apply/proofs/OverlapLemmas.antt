@@ -5,7 +5,7 @@ use Rattle.std.specs.List.{list_any}
 use Rattle.std.proofs.lemmas.Bool.{or_cases, or_left, or_right, and_parts, and_from, and_left, and_right, not-true, not-false, not_from_false, or_parts, ltb-true, ltb-false, lt-ltb, le-ltb, eqb-true, eq-eqb, ne_eqb, cases_order, cases_lt, both_ways}
 use Rattle.aof_object.specs.declared.records.Reloc.{Reloc}
 use Rattle.patch_model.specs.Fields.{Kind, Byte, Half, Word, Branch, Values, field_of, kind_of, is_same_kind, size_of}
-use Rattle.link_apply.specs.declared.starts.Start.{Start}
+use Rattle.link_apply.specs.declared.starts.FieldDirectives.{FieldDirectives}
 use Rattle.link_apply.specs.Flaws.{overlaps}
 use Rattle.link_apply.specs.Starts.{started, starts, goes_on, reaches, begins, is_crowded}
 
@@ -40,20 +40,20 @@ same_eq k l e = absurd (cc)
 
 -- ---- what a start says of each relocation there
 
-record Says (s : Start) (q : Reloc) : Type 0 where
+record Says (s : FieldDirectives) (q : Reloc) : Type 0 where
   size : size_of (kind_of q) ≤ s.widest
   kind : s.is_mixed ≡ false → kind_of q ≡ s.kind
 
 record StartOf (values : Values) (rs : List Reloc) (q : Reloc) : Type 0 where
-  start : Start
+  start : FieldDirectives
   there : starts values rs (field_of q).place ≡ Some start
   says : Says start q
 
-first_says : (values : Values) (r : Reloc) (o : Option Start) → Says (started values r o) r
+first_says : (values : Values) (r : Reloc) (o : Option FieldDirectives) → Says (started values r o) r
 first_says values r None = record { size = omega arith; kind = λ e. refl }
 first_says values r (Some t) = record { size = omega arith; kind = λ e. refl }
 
-later_says : (values : Values) (r : Reloc) (t : Start) (q : Reloc) → Says t q → Says (started values r (Some t)) q
+later_says : (values : Values) (r : Reloc) (t : FieldDirectives) (q : Reloc) → Says t q → Says (started values r (Some t)) q
 later_says values r t q says =
     let size = says.size in
     record {
@@ -87,7 +87,7 @@ start_of values (r ∷ rs) (suc k) q e = by_test ((field_of r).place == (field_o
     by_test true t h = record {
       start = started values r (Some h.start);
       there = ap (λ (b : Bool). cond b (Some (started values r (starts values rs (field_of q).place))) (starts values rs (field_of q).place)) t
-          ∙ ap (λ (o : Option Start). Some (started values r o)) h.there;
+          ∙ ap (λ (o : Option FieldDirectives). Some (started values r o)) h.there;
       says = later_says values r h.start q h.says;
     }
 
@@ -106,33 +106,33 @@ behind_first values r rs p test h = record { number = suc h.number; reloc = h.re
 abbrev is_wide : ℕ → Reloc → Bool
 is_wide n r = nat_lt n (size_of (kind_of r))
 
-widest : (values : Values) (rs : List Reloc) (p n : ℕ) (s : Start) → starts values rs p ≡ Some s → n < s.widest → Relocates values rs p (is_wide n)
+widest : (values : Values) (rs : List Reloc) (p n : ℕ) (s : FieldDirectives) → starts values rs p ≡ Some s → n < s.widest → Relocates values rs p (is_wide n)
 widest values [] p n s e h = absurd (cc)
 widest values (r ∷ rs) p n s e h = by_test ((field_of r).place == p) refl e (starts values rs p) refl (widest values rs p n)
   where
     here : (field_of r).place ≡ p → n < size_of (kind_of r) → Relocates values (r ∷ rs) p (λ q. nat_lt n (size_of (kind_of q)))
     here at lt = record { number = 0; reloc = r; there = refl; place = at; passes = lt-ltb n (size_of (kind_of r)) lt }
 
-    by_start : (o : Option Start) → (field_of r).place ≡ p → started values r o ≡ s → ((t : Start) → o ≡ Some t → n < t.widest → Relocates values rs p (λ q. nat_lt n (size_of (kind_of q))))
+    by_start : (o : Option FieldDirectives) → (field_of r).place ≡ p → started values r o ≡ s → ((t : FieldDirectives) → o ≡ Some t → n < t.widest → Relocates values rs p (λ q. nat_lt n (size_of (kind_of q))))
         → Relocates values (r ∷ rs) p (λ q. nat_lt n (size_of (kind_of q)))
-    by_start None at e rest = let w : size_of (kind_of r) ≡ s.widest = ap (λ (x : Start). x.widest) e in here at (omega arith)
+    by_start None at e rest = let w : size_of (kind_of r) ≡ s.widest = ap (λ (x : FieldDirectives). x.widest) e in here at (omega arith)
     by_start (Some t) at e rest =
-        let w : max t.widest (size_of (kind_of r)) ≡ s.widest = ap (λ (x : Start). x.widest) e in
+        let w : max t.widest (size_of (kind_of r)) ≡ s.widest = ap (λ (x : FieldDirectives). x.widest) e in
         by_size (cases_lt n (size_of (kind_of r)))
       where
         by_size : (n < size_of (kind_of r)) ⊎ (size_of (kind_of r) ≤ n) → Relocates values (r ∷ rs) p (λ q. nat_lt n (size_of (kind_of q)))
         by_size (inl lt) = here at lt
         by_size (inr ge) =
-            let w : max t.widest (size_of (kind_of r)) ≡ s.widest = ap (λ (x : Start). x.widest) e in
+            let w : max t.widest (size_of (kind_of r)) ≡ s.widest = ap (λ (x : FieldDirectives). x.widest) e in
             behind_first values r rs p (λ q. nat_lt n (size_of (kind_of q))) (rest t refl (omega arith))
 
-    by_test : (b : Bool) → ((field_of r).place == p) ≡ b → cond b (Some (started values r (starts values rs p))) (starts values rs p) ≡ Some s → (o : Option Start) → starts values rs p ≡ o
-        → ((t : Start) → starts values rs p ≡ Some t → n < t.widest → Relocates values rs p (λ q. nat_lt n (size_of (kind_of q))))
+    by_test : (b : Bool) → ((field_of r).place == p) ≡ b → cond b (Some (started values r (starts values rs p))) (starts values rs p) ≡ Some s → (o : Option FieldDirectives) → starts values rs p ≡ o
+        → ((t : FieldDirectives) → starts values rs p ≡ Some t → n < t.widest → Relocates values rs p (λ q. nat_lt n (size_of (kind_of q))))
         → Relocates values (r ∷ rs) p (λ q. nat_lt n (size_of (kind_of q)))
     by_test false t e o at rest = behind_first values r rs p (λ q. nat_lt n (size_of (kind_of q))) (rest s e h)
     by_test true t e o at rest = let same : started values r (starts values rs p) ≡ s = cc in by_start (starts values rs p) (eqb-true (field_of r).place p t) same rest
 
-positive : (values : Values) (rs : List Reloc) (p : ℕ) (s : Start) → starts values rs p ≡ Some s → 0 < s.widest
+positive : (values : Values) (rs : List Reloc) (p : ℕ) (s : FieldDirectives) → starts values rs p ≡ Some s → 0 < s.widest
 positive values [] p s e = absurd (cc)
 positive values (r ∷ rs) p s e = by_test ((field_of r).place == p) e (positive values rs p s)
   where
@@ -142,14 +142,14 @@ positive values (r ∷ rs) p s e = by_test ((field_of r).place == p) e (positive
         let same : started values r (starts values rs p) ≡ s = cc in
         let size = (first_says values r (starts values rs p)).size in
         let pos = size_pos (kind_of r) in
-        let w : (started values r (starts values rs p)).widest ≡ s.widest = ap (λ (x : Start). x.widest) same in
+        let w : (started values r (starts values rs p)).widest ≡ s.widest = ap (λ (x : FieldDirectives). x.widest) same in
         omega arith
 
 -- where kinds differ, one is another than this one
 abbrev Unlike : Values → List Reloc → ℕ → Kind → Type 0
 Unlike values rs p kind = Relocates values rs p (λ q. not (is_same_kind (kind_of q) kind))
 
-unlike : (values : Values) (rs : List Reloc) (p : ℕ) (kind : Kind) (s : Start) → starts values rs p ≡ Some s
+unlike : (values : Values) (rs : List Reloc) (p : ℕ) (kind : Kind) (s : FieldDirectives) → starts values rs p ≡ Some s
     → (s.is_mixed ≡ true) ⊎ (is_same_kind s.kind kind ≡ false) → Unlike values rs p kind
 unlike values [] p kind s e h = absurd (cc)
 unlike values (r ∷ rs) p kind s e h = by_test ((field_of r).place == p) refl e (unlike values rs p kind)
@@ -160,19 +160,19 @@ unlike values (r ∷ rs) p kind s e h = by_test ((field_of r).place == p) refl e
     here : (field_of r).place ≡ p → is_same_kind (kind_of r) kind ≡ false → Relocates values (r ∷ rs) p (λ q. not (is_same_kind (kind_of q) kind))
     here at e = record { number = 0; reloc = r; there = refl; place = at; passes = not_from_false (is_same_kind (kind_of r) kind) e }
 
-    kinds : (o : Option Start) → started values r o ≡ s → s.kind ≡ kind_of r
-    kinds None e = let k : kind_of r ≡ s.kind = ap (λ (x : Start). x.kind) e in sym k
-    kinds (Some t) e = let k : kind_of r ≡ s.kind = ap (λ (x : Start). x.kind) e in sym k
+    kinds : (o : Option FieldDirectives) → started values r o ≡ s → s.kind ≡ kind_of r
+    kinds None e = let k : kind_of r ≡ s.kind = ap (λ (x : FieldDirectives). x.kind) e in sym k
+    kinds (Some t) e = let k : kind_of r ≡ s.kind = ap (λ (x : FieldDirectives). x.kind) e in sym k
 
-    by_start : (o : Option Start) → (field_of r).place ≡ p → started values r o ≡ s → (s.is_mixed ≡ true) ⊎ (is_same_kind s.kind kind ≡ false)
+    by_start : (o : Option FieldDirectives) → (field_of r).place ≡ p → started values r o ≡ s → (s.is_mixed ≡ true) ⊎ (is_same_kind s.kind kind ≡ false)
         → (b : Bool) → is_same_kind (kind_of r) kind ≡ b
-        → ((t : Start) → o ≡ Some t → (t.is_mixed ≡ true) ⊎ (is_same_kind t.kind kind ≡ false) → Relocates values rs p (λ q. not (is_same_kind (kind_of q) kind)))
+        → ((t : FieldDirectives) → o ≡ Some t → (t.is_mixed ≡ true) ⊎ (is_same_kind t.kind kind ≡ false) → Relocates values rs p (λ q. not (is_same_kind (kind_of q) kind)))
         → Relocates values (r ∷ rs) p (λ q. not (is_same_kind (kind_of q) kind))
     by_start o at e h false t rest = here at t
     by_start o at e (inr other) true t rest = let k = ap (λ (x : Kind). is_same_kind x kind) (kinds o e) in absurd (cc)
-    by_start None at e (inl mixed) true t rest = let m : false ≡ s.is_mixed = ap (λ (x : Start). x.is_mixed) e in absurd (cc)
+    by_start None at e (inl mixed) true t rest = let m : false ≡ s.is_mixed = ap (λ (x : FieldDirectives). x.is_mixed) e in absurd (cc)
     by_start (Some u) at e (inl mixed) true t rest =
-        let m : (u.is_mixed || not (is_same_kind u.kind (kind_of r))) ≡ s.is_mixed = ap (λ (x : Start). x.is_mixed) e in
+        let m : (u.is_mixed || not (is_same_kind u.kind (kind_of r))) ≡ s.is_mixed = ap (λ (x : FieldDirectives). x.is_mixed) e in
         by_parts (or_cases u.is_mixed (not (is_same_kind u.kind (kind_of r))) (m ∙ mixed))
       where
         by_parts : (u.is_mixed ≡ true) ⊎ (not (is_same_kind u.kind (kind_of r)) ≡ true) → Relocates values (r ∷ rs) p (λ q. not (is_same_kind (kind_of q) kind))
@@ -182,7 +182,7 @@ unlike values (r ∷ rs) p kind s e h = by_test ((field_of r).place == p) refl e
             later (rest u refl (inr (ap (λ (k : Kind). is_same_kind u.kind k) (sym same) ∙ not-true (is_same_kind u.kind (kind_of r)) h)))
 
     by_test : (b : Bool) → ((field_of r).place == p) ≡ b → cond b (Some (started values r (starts values rs p))) (starts values rs p) ≡ Some s
-        → ((t : Start) → starts values rs p ≡ Some t → (t.is_mixed ≡ true) ⊎ (is_same_kind t.kind kind ≡ false) → Relocates values rs p (λ q. not (is_same_kind (kind_of q) kind)))
+        → ((t : FieldDirectives) → starts values rs p ≡ Some t → (t.is_mixed ≡ true) ⊎ (is_same_kind t.kind kind ≡ false) → Relocates values rs p (λ q. not (is_same_kind (kind_of q) kind)))
         → Relocates values (r ∷ rs) p (λ q. not (is_same_kind (kind_of q) kind))
     by_test false t e rest = later (rest s e h)
     by_test true t e rest =
@@ -228,7 +228,7 @@ Any relocs r = list_any (λ q. overlaps (field_of q) (field_of r)) relocs ≡ tr
 from_behind : (values : Values) (relocs : List Reloc) (r : Reloc) (d : ℕ) → 0 < d → reaches (λ p. starts values relocs p) (field_of r).place d ≡ true → Any relocs r
 from_behind values relocs r d pos e = by_test (nat_lt (field_of r).place d) refl e
   where
-    by_start : (o : Option Start) → starts values relocs ((field_of r).place - d) ≡ o → d ≤ (field_of r).place → goes_on d o ≡ true
+    by_start : (o : Option FieldDirectives) → starts values relocs ((field_of r).place - d) ≡ o → d ≤ (field_of r).place → goes_on d o ≡ true
         → list_any (λ q. overlaps (field_of q) (field_of r)) relocs ≡ true
     by_start None at le e = absurd (cc)
     by_start (Some t) at le e =
@@ -246,7 +246,7 @@ from_behind values relocs r d pos e = by_test (nat_lt (field_of r).place d) refl
 from_after : (values : Values) (relocs : List Reloc) (r : Reloc) (d : ℕ) → 0 < d → begins (λ p. starts values relocs p) (field_of r).place (size_of (kind_of r)) d ≡ true → Any relocs r
 from_after values relocs r d pos e = by_parts (and_parts (nat_lt d (size_of (kind_of r))) (is_some (starts values relocs ((field_of r).place + d))) e)
   where
-    by_start : (o : Option Start) → starts values relocs ((field_of r).place + d) ≡ o → d < size_of (kind_of r) → is_some o ≡ true
+    by_start : (o : Option FieldDirectives) → starts values relocs ((field_of r).place + d) ≡ o → d < size_of (kind_of r) → is_some o ≡ true
         → list_any (λ q. overlaps (field_of q) (field_of r)) relocs ≡ true
     by_start None at lt e = absurd (cc)
     by_start (Some t) at lt e =
@@ -259,7 +259,7 @@ from_after values relocs r d pos e = by_parts (and_parts (nat_lt d (size_of (kin
         → list_any (λ q. overlaps (field_of q) (field_of r)) relocs ≡ true
     by_parts (lt, some) = by_start (starts values relocs ((field_of r).place + d)) refl (ltb-true d (size_of (kind_of r)) lt) some
 
-from_mixed : (values : Values) (relocs : List Reloc) (r : Reloc) (s : Start) → starts values relocs (field_of r).place ≡ Some s → s.is_mixed ≡ true → Any relocs r
+from_mixed : (values : Values) (relocs : List Reloc) (r : Reloc) (s : FieldDirectives) → starts values relocs (field_of r).place ≡ Some s → s.is_mixed ≡ true → Any relocs r
 from_mixed values relocs r s there mixed =
     let w = unlike values relocs (field_of r).place (kind_of r) s there (inl mixed) in
     let place = w.place in
@@ -283,7 +283,7 @@ any_of P false false false false true f g h pa pb pc pd pe pf pg = pe refl
 any_of P false false false false false true g h pa pb pc pd pe pf pg = pf refl
 any_of P false false false false false false g h pa pb pc pd pe pf pg = pg h
 
-crowded_overlaps : (values : Values) (relocs : List Reloc) (r : Reloc) (s : Start) → starts values relocs (field_of r).place ≡ Some s
+crowded_overlaps : (values : Values) (relocs : List Reloc) (r : Reloc) (s : FieldDirectives) → starts values relocs (field_of r).place ≡ Some s
     → is_crowded (λ p. starts values relocs p) (field_of r).place (size_of (kind_of r)) s.is_mixed ≡ true → Any relocs r
 crowded_overlaps values relocs r s there e =
     any_of (list_any (λ q. overlaps (field_of q) (field_of r)) relocs ≡ true) s.is_mixed
@@ -293,7 +293,7 @@ crowded_overlaps values relocs r s there e =
     (from_behind values relocs r 1 (omega arith)) (from_behind values relocs r 2 (omega arith)) (from_behind values relocs r 3 (omega arith))
     (from_after values relocs r 1 (omega arith)) (from_after values relocs r 2 (omega arith)) (from_after values relocs r 3 (omega arith))
 
-behind_is : (start : ℕ → Option Start) (place size d : ℕ) (mixed : Bool) → 0 < d → d < 4 → reaches start place d ≡ true → is_crowded start place size mixed ≡ true
+behind_is : (start : ℕ → Option FieldDirectives) (place size d : ℕ) (mixed : Bool) → 0 < d → d < 4 → reaches start place d ≡ true → is_crowded start place size mixed ≡ true
 behind_is start place size zero true pos lt e = refl
 behind_is start place size (suc d) true pos lt e = refl
 behind_is start place size zero false pos lt e = absurd (omega arith)
@@ -302,7 +302,7 @@ behind_is start place size (suc (suc zero)) false pos lt e = or_right (reaches s
 behind_is start place size (suc (suc (suc zero))) false pos lt e = or_right (reaches start place 1) _ (or_right (reaches start place 2) _ (or_left (reaches start place 3) _ e))
 behind_is start place size (suc (suc (suc (suc d)))) false pos lt e = absurd (omega arith)
 
-after_is : (start : ℕ → Option Start) (place size d : ℕ) (mixed : Bool) → 0 < d → d < 4 → begins start place size d ≡ true → is_crowded start place size mixed ≡ true
+after_is : (start : ℕ → Option FieldDirectives) (place size d : ℕ) (mixed : Bool) → 0 < d → d < 4 → begins start place size d ≡ true → is_crowded start place size mixed ≡ true
 after_is start place size zero true pos lt e = refl
 after_is start place size (suc d) true pos lt e = refl
 after_is start place size zero false pos lt e = absurd (omega arith)
@@ -314,7 +314,7 @@ after_is start place size (suc (suc (suc zero))) false pos lt e =
     or_right (reaches start place 1) _ (or_right (reaches start place 2) _ (or_right (reaches start place 3) _ (or_right (begins start place size 1) _ (or_right (begins start place size 2) _ e))))
 after_is start place size (suc (suc (suc (suc d)))) false pos lt e = absurd (omega arith)
 
-overlap_crowds : (values : Values) (relocs : List Reloc) (r q : Reloc) (s : Start) → starts values relocs (field_of r).place ≡ Some s → Says s r → StartOf values relocs q
+overlap_crowds : (values : Values) (relocs : List Reloc) (r q : Reloc) (s : FieldDirectives) → starts values relocs (field_of r).place ≡ Some s → Says s r → StartOf values relocs q
     → overlaps (field_of q) (field_of r) ≡ true → is_crowded (λ p. starts values relocs p) (field_of r).place (size_of (kind_of r)) s.is_mixed ≡ true
 overlap_crowds values relocs r q s there says h e =
     let parts = and_parts (not ((field_of q).place == (field_of r).place && is_same_kind (kind_of q) (kind_of r)))
@@ -323,7 +323,7 @@ overlap_crowds values relocs r q s there says h e =
     by_order (ltb-true (field_of q).place ((field_of r).place + size_of (kind_of r)) spans.0) (ltb-true (field_of r).place ((field_of q).place + size_of (kind_of q)) spans.1)
     (not-true ((field_of q).place == (field_of r).place && is_same_kind (kind_of q) (kind_of r)) parts.0) (cases_order (field_of q).place (field_of r).place)
   where
-    start : ℕ → Option Start
+    start : ℕ → Option FieldDirectives
     start p = starts values relocs p
 
     by_mixed : (b : Bool) → s.is_mixed ≡ b → (field_of q).place ≡ (field_of r).place → ((field_of q).place == (field_of r).place && is_same_kind (kind_of q) (kind_of r)) ≡ false
@@ -334,7 +334,7 @@ overlap_crowds values relocs r q s there says h e =
         let one : starts values relocs (field_of q).place ≡ Some s = subst Sa (sym at) there in
         let two = h.there in
         let same : h.start ≡ s = cc in
-        let Su : Start → Type 0 = λ x. Says x q in
+        let Su : FieldDirectives → Type 0 = λ x. Says x q in
         let kind_q = (subst Su same h.says).kind m in
         let kind_r = says.kind m in
         let kinds = ap (λ (k : Kind). is_same_kind k (kind_of r)) (kind_q ∙ sym kind_r) ∙ same_refl (kind_of r) in
@@ -362,19 +362,19 @@ overlap_crowds values relocs r q s there says h e =
     by_order below above other (inr (inr gt)) =
         let size = size_le (kind_of r) in
         let back : (field_of q).place ≡ (field_of r).place + ((field_of q).place - (field_of r).place) = omega arith in
-        let some : is_some (starts values relocs (field_of q).place) ≡ true = ap (λ (o : Option Start). is_some o) h.there in
+        let some : is_some (starts values relocs (field_of q).place) ≡ true = ap (λ (o : Option FieldDirectives). is_some o) h.there in
         let On : ℕ → Type 0 = λ n. is_some (starts values relocs n) ≡ true in
         after_is (λ p. starts values relocs p) (field_of r).place (size_of (kind_of r)) ((field_of q).place - (field_of r).place) s.is_mixed (omega arith) (omega arith)
         (and_from (nat_lt ((field_of q).place - (field_of r).place) (size_of (kind_of r))) (is_some (starts values relocs ((field_of r).place + ((field_of q).place - (field_of r).place))))
         (lt-ltb ((field_of q).place - (field_of r).place) (size_of (kind_of r)) (omega arith)) (subst On back some))
 
-pub crowded_is : (values : Values) (relocs : List Reloc) (r : Reloc) (k : ℕ) (s : Start) → slice_get relocs k ≡ Some r → starts values relocs (field_of r).place ≡ Some s
+pub crowded_is : (values : Values) (relocs : List Reloc) (r : Reloc) (k : ℕ) (s : FieldDirectives) → slice_get relocs k ≡ Some r → starts values relocs (field_of r).place ≡ Some s
     → is_crowded (λ p. starts values relocs p) (field_of r).place (size_of (kind_of r)) s.is_mixed ≡ list_any (λ q. overlaps (field_of q) (field_of r)) relocs
 crowded_is values relocs r k s at there =
     let own = start_of values relocs k r at in
     let two = own.there in
     let same : own.start ≡ s = cc in
-    let Su : Start → Type 0 = λ x. Says x r in
+    let Su : FieldDirectives → Type 0 = λ x. Says x r in
     let says = subst Su same own.says in
     same_true (is_crowded (λ p. starts values relocs p) (field_of r).place (size_of (kind_of r)) s.is_mixed) (list_any (λ q. overlaps (field_of q) (field_of r)) relocs)
     (crowded_overlaps values relocs r s there)
@@ -383,7 +383,7 @@ crowded_is values relocs r k s at there =
 
 -- ---- a place whose relocations agree
 
-pub unmixed_there : (values : Values) (relocs : List Reloc) (r : Reloc) (s : Start) → starts values relocs (field_of r).place ≡ Some s
+pub unmixed_there : (values : Values) (relocs : List Reloc) (r : Reloc) (s : FieldDirectives) → starts values relocs (field_of r).place ≡ Some s
     → list_any (λ q. overlaps (field_of q) (field_of r)) relocs ≡ false → s.is_mixed ≡ false
 unmixed_there values relocs r s there none = by_mixed s.is_mixed refl
   where
@@ -391,10 +391,10 @@ unmixed_there values relocs r s there none = by_mixed s.is_mixed refl
     by_mixed false e = e
     by_mixed true e = let any = from_mixed values relocs r s there e in absurd (cc)
 
-pub kind_there : (values : Values) (relocs : List Reloc) (r : Reloc) (k : ℕ) (s : Start) → slice_get relocs k ≡ Some r → starts values relocs (field_of r).place ≡ Some s
+pub kind_there : (values : Values) (relocs : List Reloc) (r : Reloc) (k : ℕ) (s : FieldDirectives) → slice_get relocs k ≡ Some r → starts values relocs (field_of r).place ≡ Some s
     → s.is_mixed ≡ false → kind_of r ≡ s.kind
 kind_there values relocs r k s at there unmixed =
     let h = start_of values relocs k r at in
     let found = h.there in
     let same : h.start ≡ s = cc in
-    h.says.kind (ap (λ (x : Start). x.is_mixed) same ∙ unmixed) ∙ ap (λ (x : Start). x.kind) same
+    h.says.kind (ap (λ (x : FieldDirectives). x.is_mixed) same ∙ unmixed) ∙ ap (λ (x : FieldDirectives). x.kind) same

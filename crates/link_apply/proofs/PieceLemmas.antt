@@ -14,7 +14,7 @@ use Rattle.link_model.specs.declared.placing.Region.{Region}
 use Rattle.link_model.specs.Members.{Link}
 use Rattle.link_model.specs.RegionValues.{area_of}
 use Rattle.link_values.specs.Placed.{values_in}
-use Rattle.link_apply.specs.declared.laying.Growing.{Growing}
+use Rattle.link_apply.specs.declared.laying.RegionBuild.{RegionBuild}
 use Rattle.link_apply.specs.declared.laying.RegionPiece.{RegionPiece}
 use Rattle.boot_code.specs.Startup.{zeros}
 use Rattle.link_apply.specs.PatchedBytes.{patched_bytes}
@@ -117,18 +117,18 @@ all_laid l p = from_first l p p.regions refl
 -- ---- growing regions
 
 -- a piece goes to the region of its number
-abbrev pub Puts : Growing → Growing → Piece → Type 0
+abbrev pub Puts : RegionBuild → RegionBuild → Piece → Type 0
 Puts before after piece =
     (after.length ≡ before.length) × ((rest : List Piece) → after.bytes.items ++ laid after.at rest ≡ before.bytes.items ++ laid before.at (piece ∷ rest))
 
-grown_apart : (x : RegionPiece) (rest : ℕ → List Piece) (i : ℕ) (gs : List Growing) → x.region < i → grown_from rest i gs ≡ grown_from (with_piece x rest) i gs
+grown_apart : (x : RegionPiece) (rest : ℕ → List Piece) (i : ℕ) (gs : List RegionBuild) → x.region < i → grown_from rest i gs ≡ grown_from (with_piece x rest) i gs
 grown_apart x rest i [] h = refl
 grown_apart x rest i (g ∷ gs) h =
     let apart : (x.region == i) ≡ false = ne_eqb x.region i (λ same. omega arith) in
     let same : rest i ≡ with_piece x rest i = sym (rw apart refl) in
     (λ j. filled_up g.length (g.bytes.items ++ laid g.at (same j)) ∷ grown_apart x rest (suc i) gs (omega arith) j)
 
-pub grown_put : (x : RegionPiece) (rest : ℕ → List Piece) (i n : ℕ) (gs : List Growing) (g h : Growing) → x.region ≡ i + n → slice_get gs n ≡ Some g → Puts g h (piece_of x)
+pub grown_put : (x : RegionPiece) (rest : ℕ → List Piece) (i n : ℕ) (gs : List RegionBuild) (g h : RegionBuild) → x.region ≡ i + n → slice_get gs n ≡ Some g → Puts g h (piece_of x)
     → grown_from rest i (set gs n h) ≡ grown_from (with_piece x rest) i gs
 grown_put x rest i n [] g h e there puts = absurd (cc)
 grown_put x rest i zero (f ∷ gs) g h e there puts =
@@ -142,19 +142,19 @@ grown_put x rest i (suc n) (f ∷ gs) g h e there puts =
     let same : rest i ≡ with_piece x rest i = sym (rw apart refl) in
     (λ j. filled_up f.length (f.bytes.items ++ laid f.at (same j)) ∷ grown_put x rest (suc i) n gs g h (omega arith) there puts j)
 
-pub grown_same : (x : RegionPiece) (rest : ℕ → List Piece) (i : ℕ) (gs : List Growing) → i + length gs ≤ x.region → grown_from rest i gs ≡ grown_from (with_piece x rest) i gs
+pub grown_same : (x : RegionPiece) (rest : ℕ → List Piece) (i : ℕ) (gs : List RegionBuild) → i + length gs ≤ x.region → grown_from rest i gs ≡ grown_from (with_piece x rest) i gs
 grown_same x rest i [] h = refl
 grown_same x rest i (g ∷ gs) h =
     let apart : (x.region == i) ≡ false = ne_eqb x.region i (λ same. omega arith) in
     let same : rest i ≡ with_piece x rest i = sym (rw apart refl) in
     (λ j. filled_up g.length (g.bytes.items ++ laid g.at (same j)) ∷ grown_same x rest (suc i) gs (omega arith) j)
 
-pub grown_bytes : (i : ℕ) (gs : List Growing) → grown_from (λ k. []) i gs ≡ map (λ g. filled_up g.length g.bytes.items) gs
+pub grown_bytes : (i : ℕ) (gs : List RegionBuild) → grown_from (λ k. []) i gs ≡ map (λ g. filled_up g.length g.bytes.items) gs
 grown_bytes i [] = refl
 grown_bytes i (g ∷ gs) = (λ j. filled_up g.length (append-nil g.bytes.items j) ∷ grown_bytes (suc i) gs j)
 
-pub started_more : (i : ℕ) (gs : List Growing) (rs : List Region) → ((rest : ℕ → List Piece) → grown_from rest i gs ≡ laid_from rest i rs)
-    → (g : Growing) (r : Region) → g.bytes.items ≡ [] → g.at ≡ r.base → g.length ≡ r.length → (rest : ℕ → List Piece) → grown_from rest i (gs ++ g ∷ []) ≡ laid_from rest i (rs ++ r ∷ [])
+pub started_more : (i : ℕ) (gs : List RegionBuild) (rs : List Region) → ((rest : ℕ → List Piece) → grown_from rest i gs ≡ laid_from rest i rs)
+    → (g : RegionBuild) (r : Region) → g.bytes.items ≡ [] → g.at ≡ r.base → g.length ≡ r.length → (rest : ℕ → List Piece) → grown_from rest i (gs ++ g ∷ []) ≡ laid_from rest i (rs ++ r ∷ [])
 started_more i [] [] known g r empty at size rest = (λ j. filled_up (size j) (empty j ++ laid (at j) (rest i)) ∷ [])
 started_more i [] (x ∷ xs) known g r empty at size rest = absurd (let e = known rest in cc)
 started_more i (f ∷ fs) [] known g r empty at size rest = absurd (let e = known rest in cc)

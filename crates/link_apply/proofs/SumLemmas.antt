@@ -8,14 +8,14 @@ use Rattle.aof_object.specs.declared.records.Reloc.{Reloc}
 use Rattle.patch_model.specs.Fields.{Kind, Field, Values, field_of, kind_of, is_same_kind, is_field, directives, is_relative, value_named, mark_of, added, taken, size_of}
 use Rattle.patch_model.specs.Patched.{first_symbol}
 use Rattle.link_model.specs.Veneers.{shares_field}
-use Rattle.link_apply.specs.declared.starts.Start.{Start}
+use Rattle.link_apply.specs.declared.starts.FieldDirectives.{FieldDirectives}
 use Rattle.link_apply.specs.Starts.{symbol_by, started, starts}
 use Rattle.link_apply.proofs.OverlapLemmas.{same_refl, same_eq}
 
 -- the directives of a field, by the start of its place
-pub record Directs (values : Values) (base : ℕ) (rs : List Reloc) (f : Field) (s : Start) : Type 0 where
-  pub more : added values (directives rs f) ≡ s.more
-  pub less : taken base (directives rs f) ≡ base * s.relative
+pub record Directs (values : Values) (base : ℕ) (rs : List Reloc) (f : Field) (s : FieldDirectives) : Type 0 where
+  pub added : added values (directives rs f) ≡ s.added
+  pub subtracted : taken base (directives rs f) ≡ base * s.relative
   pub symbol : first_symbol (directives rs f) ≡ s.symbol
 
 elsewhere : (values : Values) (rs : List Reloc) (f : Field) → starts values rs f.place ≡ None → directives rs f ≡ []
@@ -28,7 +28,7 @@ elsewhere values (r ∷ rs) f e = by_test ((field_of r).place == f.place) refl e
     by_test false t e rest =
         ap (λ (b : Bool). cond b (r ∷ directives rs f) (directives rs f)) (and_left ((field_of r).place == f.place) (is_same_kind (kind_of r) f.kind) t) ∙ rest e
 
-pub tells : (values : Values) (base : ℕ) (rs : List Reloc) (f : Field) (s : Start) → starts values rs f.place ≡ Some s → s.is_mixed ≡ false → f.kind ≡ s.kind
+pub tells : (values : Values) (base : ℕ) (rs : List Reloc) (f : Field) (s : FieldDirectives) → starts values rs f.place ≡ Some s → s.is_mixed ≡ false → f.kind ≡ s.kind
     → Directs values base rs f s
 tells values base [] f s e unmixed kind = absurd (cc)
 tells values base (r ∷ rs) f s e unmixed kind = by_test ((field_of r).place == f.place) refl e (starts values rs f.place) refl (tells values base rs f)
@@ -39,53 +39,53 @@ tells values base (r ∷ rs) f s e unmixed kind = by_test ((field_of r).place ==
     keeps : is_field f r ≡ true → directives (r ∷ rs) f ≡ r ∷ directives rs f
     keeps h = ap (λ (b : Bool). cond b (r ∷ directives rs f) (directives rs f)) h
 
-    by_start : (o : Option Start) → starts values rs f.place ≡ o → started values r o ≡ s → is_field f r ≡ true → f.kind ≡ kind_of r
-        → ((t : Start) → starts values rs f.place ≡ Some t → t.is_mixed ≡ false → f.kind ≡ t.kind → Directs values base rs f t)
+    by_start : (o : Option FieldDirectives) → starts values rs f.place ≡ o → started values r o ≡ s → is_field f r ≡ true → f.kind ≡ kind_of r
+        → ((t : FieldDirectives) → starts values rs f.place ≡ Some t → t.is_mixed ≡ false → f.kind ≡ t.kind → Directs values base rs f t)
         → Directs values base (r ∷ rs) f s
     by_start None at e own kind rest =
         let here : directives (r ∷ rs) f ≡ r ∷ [] = keeps own ∙ ap (λ l. r ∷ l) (elsewhere values rs f at) in
-        let more : value_named values r + mark_of values r ≡ s.more = ap (λ (x : Start). x.more) e in
-        let relative : flag (is_relative r) ≡ s.relative = ap (λ (x : Start). x.relative) e in
-        let a : value_named values r + mark_of values r + 0 ≡ s.more = omega arith in
+        let more : value_named values r + mark_of values r ≡ s.added = ap (λ (x : FieldDirectives). x.added) e in
+        let relative : flag (is_relative r) ≡ s.relative = ap (λ (x : FieldDirectives). x.relative) e in
+        let a : value_named values r + mark_of values r + 0 ≡ s.added = omega arith in
         let b : base * flag (is_relative r) + 0 ≡ base * s.relative = ap (λ n. base * n + 0) relative ∙ bare (base * s.relative) in
         record {
-          more = ap (λ l. added values l) here ∙ a;
-          less = ap (λ l. taken base l) here ∙ b;
-          symbol = ap (λ l. first_symbol l) here ∙ ap (λ (x : Start). x.symbol) e;
+          added = ap (λ l. added values l) here ∙ a;
+          subtracted = ap (λ l. taken base l) here ∙ b;
+          symbol = ap (λ l. first_symbol l) here ∙ ap (λ (x : FieldDirectives). x.symbol) e;
         }
       where
         bare : (n : ℕ) → n + 0 ≡ n
         bare n = omega arith
     by_start (Some t) at e own kind rest =
-        let m : (t.is_mixed || not (is_same_kind t.kind (kind_of r))) ≡ s.is_mixed = ap (λ (x : Start). x.is_mixed) e in
+        let m : (t.is_mixed || not (is_same_kind t.kind (kind_of r))) ≡ s.is_mixed = ap (λ (x : FieldDirectives). x.is_mixed) e in
         let parts = or_parts t.is_mixed (not (is_same_kind t.kind (kind_of r))) (m ∙ unmixed) in
         let same = same_eq t.kind (kind_of r) (not-false (is_same_kind t.kind (kind_of r)) parts.1) in
         let h = rest t at parts.0 (kind ∙ sym same) in
         let here = keeps own in
-        let more : value_named values r + mark_of values r + t.more ≡ s.more = ap (λ (x : Start). x.more) e in
-        let relative : flag (is_relative r) + t.relative ≡ s.relative = ap (λ (x : Start). x.relative) e in
+        let more : value_named values r + mark_of values r + t.added ≡ s.added = ap (λ (x : FieldDirectives). x.added) e in
+        let relative : flag (is_relative r) + t.relative ≡ s.relative = ap (λ (x : FieldDirectives). x.relative) e in
         let less : base * flag (is_relative r) + base * t.relative ≡ base * s.relative = spread (flag (is_relative r)) t.relative ∙ ap (λ n. base * n) relative in
         record {
-          more = ap (λ l. added values l) here ∙ ap (λ n. value_named values r + mark_of values r + n) h.more ∙ more;
-          less = ap (λ l. taken base l) here ∙ ap (λ n. base * flag (is_relative r) + n) h.less ∙ less;
-          symbol = ap (λ l. first_symbol l) here ∙ ap (λ o. symbol_by r o) h.symbol ∙ ap (λ (x : Start). x.symbol) e;
+          added = ap (λ l. added values l) here ∙ ap (λ n. value_named values r + mark_of values r + n) h.added ∙ more;
+          subtracted = ap (λ l. taken base l) here ∙ ap (λ n. base * flag (is_relative r) + n) h.subtracted ∙ less;
+          symbol = ap (λ l. first_symbol l) here ∙ ap (λ o. symbol_by r o) h.symbol ∙ ap (λ (x : FieldDirectives). x.symbol) e;
         }
       where
         spread : (m n : ℕ) → base * m + base * n ≡ base * (m + n)
         spread m n = omega arith
 
-    kinds : (o : Option Start) → started values r o ≡ s → s.kind ≡ kind_of r
-    kinds None e = let k : kind_of r ≡ s.kind = ap (λ (x : Start). x.kind) e in sym k
-    kinds (Some t) e = let k : kind_of r ≡ s.kind = ap (λ (x : Start). x.kind) e in sym k
+    kinds : (o : Option FieldDirectives) → started values r o ≡ s → s.kind ≡ kind_of r
+    kinds None e = let k : kind_of r ≡ s.kind = ap (λ (x : FieldDirectives). x.kind) e in sym k
+    kinds (Some t) e = let k : kind_of r ≡ s.kind = ap (λ (x : FieldDirectives). x.kind) e in sym k
 
     by_test : (b : Bool) → ((field_of r).place == f.place) ≡ b → cond b (Some (started values r (starts values rs f.place))) (starts values rs f.place) ≡ Some s
-        → (o : Option Start) → starts values rs f.place ≡ o
-        → ((t : Start) → starts values rs f.place ≡ Some t → t.is_mixed ≡ false → f.kind ≡ t.kind → Directs values base rs f t)
+        → (o : Option FieldDirectives) → starts values rs f.place ≡ o
+        → ((t : FieldDirectives) → starts values rs f.place ≡ Some t → t.is_mixed ≡ false → f.kind ≡ t.kind → Directs values base rs f t)
         → Directs values base (r ∷ rs) f s
     by_test false t e o at rest =
         let out = drops (and_left ((field_of r).place == f.place) (is_same_kind (kind_of r) f.kind) t) in
         let h = rest s e unmixed kind in
-        record { more = ap (λ l. added values l) out ∙ h.more; less = ap (λ l. taken base l) out ∙ h.less; symbol = ap (λ l. first_symbol l) out ∙ h.symbol }
+        record { added = ap (λ l. added values l) out ∙ h.added; subtracted = ap (λ l. taken base l) out ∙ h.subtracted; symbol = ap (λ l. first_symbol l) out ∙ h.symbol }
     by_test true t e o at rest =
         let same : started values r (starts values rs f.place) ≡ s = cc in
         let k = kind ∙ kinds (starts values rs f.place) same in
@@ -111,7 +111,7 @@ none_counted values (r ∷ rs) f e = by_test ((field_of r).place == f.place) ref
     by_test true t e rest = absurd (cc)
     by_test false t e rest = omega (arith, counted f r rs false (and_left ((field_of r).place == f.place) (size_of (kind_of r) == size_of f.kind) t), rest e)
 
-counts : (values : Values) (rs : List Reloc) (f : Field) (s : Start) → starts values rs f.place ≡ Some s → s.is_mixed ≡ false → f.kind ≡ s.kind
+counts : (values : Values) (rs : List Reloc) (f : Field) (s : FieldDirectives) → starts values rs f.place ≡ Some s → s.is_mixed ≡ false → f.kind ≡ s.kind
     → Counts s.is_alone (count_by (shares_field f) rs)
 unfolding Counts
 counts values [] f s e unmixed kind = absurd (cc)
@@ -121,28 +121,28 @@ counts values (r ∷ rs) f s e unmixed kind = by_test ((field_of r).place == f.p
     some true n h = omega arith
     some false n h = omega arith
 
-    by_start : (o : Option Start) → starts values rs f.place ≡ o → started values r o ≡ s → shares_field f r ≡ true → f.kind ≡ kind_of r
-        → ((t : Start) → starts values rs f.place ≡ Some t → t.is_mixed ≡ false → f.kind ≡ t.kind → Counts t.is_alone (count_by (shares_field f) rs))
+    by_start : (o : Option FieldDirectives) → starts values rs f.place ≡ o → started values r o ≡ s → shares_field f r ≡ true → f.kind ≡ kind_of r
+        → ((t : FieldDirectives) → starts values rs f.place ≡ Some t → t.is_mixed ≡ false → f.kind ≡ t.kind → Counts t.is_alone (count_by (shares_field f) rs))
         → Counts s.is_alone (count_by (shares_field f) (r ∷ rs))
     by_start None at e own kind rest =
-        let alone : true ≡ s.is_alone = ap (λ (x : Start). x.is_alone) e in
+        let alone : true ≡ s.is_alone = ap (λ (x : FieldDirectives). x.is_alone) e in
         let n : count_by (shares_field f) (r ∷ rs) ≡ 1 = omega (arith, counted f r rs true own, none_counted values rs f at) in
         subst (λ b. Counts b (count_by (shares_field f) (r ∷ rs))) alone n
     by_start (Some t) at e own kind rest =
-        let m : (t.is_mixed || not (is_same_kind t.kind (kind_of r))) ≡ s.is_mixed = ap (λ (x : Start). x.is_mixed) e in
+        let m : (t.is_mixed || not (is_same_kind t.kind (kind_of r))) ≡ s.is_mixed = ap (λ (x : FieldDirectives). x.is_mixed) e in
         let parts = or_parts t.is_mixed (not (is_same_kind t.kind (kind_of r))) (m ∙ unmixed) in
         let same = same_eq t.kind (kind_of r) (not-false (is_same_kind t.kind (kind_of r)) parts.1) in
         let h = some t.is_alone (count_by (shares_field f) rs) (rest t at parts.0 (kind ∙ sym same)) in
-        let alone : false ≡ s.is_alone = ap (λ (x : Start). x.is_alone) e in
+        let alone : false ≡ s.is_alone = ap (λ (x : FieldDirectives). x.is_alone) e in
         let n : 2 ≤ count_by (shares_field f) (r ∷ rs) = omega (arith, counted f r rs true own, h) in
         subst (λ b. Counts b (count_by (shares_field f) (r ∷ rs))) alone n
 
-    kinds : (o : Option Start) → started values r o ≡ s → s.kind ≡ kind_of r
-    kinds None e = let k : kind_of r ≡ s.kind = ap (λ (x : Start). x.kind) e in sym k
-    kinds (Some t) e = let k : kind_of r ≡ s.kind = ap (λ (x : Start). x.kind) e in sym k
+    kinds : (o : Option FieldDirectives) → started values r o ≡ s → s.kind ≡ kind_of r
+    kinds None e = let k : kind_of r ≡ s.kind = ap (λ (x : FieldDirectives). x.kind) e in sym k
+    kinds (Some t) e = let k : kind_of r ≡ s.kind = ap (λ (x : FieldDirectives). x.kind) e in sym k
 
     by_test : (b : Bool) → ((field_of r).place == f.place) ≡ b → cond b (Some (started values r (starts values rs f.place))) (starts values rs f.place) ≡ Some s
-        → ((t : Start) → starts values rs f.place ≡ Some t → t.is_mixed ≡ false → f.kind ≡ t.kind → Counts t.is_alone (count_by (shares_field f) rs))
+        → ((t : FieldDirectives) → starts values rs f.place ≡ Some t → t.is_mixed ≡ false → f.kind ≡ t.kind → Counts t.is_alone (count_by (shares_field f) rs))
         → Counts s.is_alone (count_by (shares_field f) (r ∷ rs))
     by_test false t e rest =
         let n : count_by (shares_field f) (r ∷ rs) ≡ count_by (shares_field f) rs = omega (arith, counted f r rs false (and_left ((field_of r).place == f.place) (size_of (kind_of r) == size_of f.kind) t)) in
@@ -153,7 +153,7 @@ counts values (r ∷ rs) f s e unmixed kind = by_test ((field_of r).place == f.p
         let sizes : (size_of (kind_of r) == size_of f.kind) ≡ true = eq-eqb (size_of (kind_of r)) (size_of f.kind) (ap size_of (sym k)) in
         by_start (starts values rs f.place) refl same (and_from ((field_of r).place == f.place) (size_of (kind_of r) == size_of f.kind) t sizes) k rest
 
-pub alone_is : (values : Values) (rs : List Reloc) (f : Field) (s : Start) → starts values rs f.place ≡ Some s → s.is_mixed ≡ false → f.kind ≡ s.kind
+pub alone_is : (values : Values) (rs : List Reloc) (f : Field) (s : FieldDirectives) → starts values rs f.place ≡ Some s → s.is_mixed ≡ false → f.kind ≡ s.kind
     → s.is_alone ≡ (count_by (shares_field f) rs == 1)
 unfolding Counts
 alone_is values rs f s e unmixed kind = by_alone s.is_alone (count_by (shares_field f) rs) (counts values rs f s e unmixed kind)

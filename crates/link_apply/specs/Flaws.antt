@@ -66,8 +66,8 @@ is_odd thumb displacement = not (displacement % unit thumb == 0)
 
 -- by what the branch at an address holds and what is added and taken; `veneer` is the address of the one it goes by
 abbrev pub has_bad_way : Bool → ℕ → ℕ → ℕ → ℕ → ℕ → Way → ℕ → Bool
-has_bad_way thumb at old more less veneer Directly target = is_odd thumb (total (span thumb old) more less)
-has_bad_way thumb at old more less veneer (ByVeneer home state) target =
+has_bad_way thumb at old added subtracted veneer Directly target = is_odd thumb (total (span thumb old) added subtracted)
+has_bad_way thumb at old added subtracted veneer (ByVeneer home state) target =
     is_odd state target || is_odd thumb (total veneer (middle thumb) (at + ahead thumb))
 
 -- the distance from one number to another is no span
@@ -80,8 +80,8 @@ is_far_behind true veneer target = false
 is_far_behind false veneer target = is_far false (veneer + 4 + ahead false) (target + middle false)
 
 abbrev pub is_far_way : Bool → ℕ → ℕ → ℕ → ℕ → ℕ → Way → ℕ → Bool
-is_far_way thumb at old more less veneer Directly target = is_far thumb less (span thumb old + more)
-is_far_way thumb at old more less veneer (ByVeneer home state) target =
+is_far_way thumb at old added subtracted veneer Directly target = is_far thumb subtracted (span thumb old + added)
+is_far_way thumb at old added subtracted veneer (ByVeneer home state) target =
     is_far thumb (at + ahead thumb) (veneer + middle thumb) || is_far_behind state veneer target
 
 -- ---- the flaw of a relocation
@@ -106,9 +106,9 @@ goal_of p Directly = 0
 goal_of p (ByVeneer home state) = target_in p home
 
 abbrev pub way_flaw : Bool → ℕ → ℕ → ℕ → ℕ → ℕ → Way → ℕ → Option Flaw
-way_flaw thumb at old more less veneer way target =
-    unless Malformed (has_bad_way thumb at old more less veneer way target)
-    (unless OutOfReach (is_far_way thumb at old more less veneer way target) None)
+way_flaw thumb at old added subtracted veneer way target =
+    unless Malformed (has_bad_way thumb at old added subtracted veneer way target)
+    (unless OutOfReach (is_far_way thumb at old added subtracted veneer way target) None)
 
 abbrev pub branch_flaw : Placement → Values → ℕ → ℕ → Bool → List ℕ → Field → List Reloc → Way → Option Flaw
 branch_flaw p values region base thumb bytes f rs way =

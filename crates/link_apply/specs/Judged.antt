@@ -14,12 +14,12 @@ use Rattle.link_apply.specs.Starts.{Starts, AreStarts}
 -- a field of a kind at an address, with what it holds, what is added and what is taken away; `only` where one relative
 -- relocation has it
 abbrev pub flaw_by : Placement → ℕ → ℕ → ℕ → ℕ → ℕ → Bool → Way → Kind → Option Flaw
-flaw_by p region at old more less only way Byte = narrow_flaw 8 (total old more less)
-flaw_by p region at old more less only way Half = narrow_flaw 16 (total old more less)
-flaw_by p region at old more less only way Word = None
-flaw_by p region at old more less only way (Branch thumb) =
+flaw_by p region at old added subtracted only way Byte = narrow_flaw 8 (total old added subtracted)
+flaw_by p region at old added subtracted only way Half = narrow_flaw 16 (total old added subtracted)
+flaw_by p region at old added subtracted only way Word = None
+flaw_by p region at old added subtracted only way (Branch thumb) =
     unless Malformed (not (only && is_branch thumb old))
-    (unless Malformed (lacks_veneer p region way) (way_flaw thumb at old more less (veneer_of p region way) way (goal_of p way)))
+    (unless Malformed (lacks_veneer p region way) (way_flaw thumb at old added subtracted (veneer_of p region way) way (goal_of p way)))
 
 -- an index of what relocations do, by some values
 abbrev pub IsIndex : List Reloc → Starts → Type 0
@@ -32,5 +32,5 @@ IsWay values base area a r way =
 
 -- what such a field is to hold
 abbrev pub number_with : Placement → ℕ → ℕ → ℕ → ℕ → ℕ → Way → Kind → ℕ
-number_with p region at old more less way (Branch thumb) = turned thumb at old more less (veneer_of p region way) way
-number_with p region at old more less way kind = total old more less % 2 ^ (8 * size_of kind)
+number_with p region at old added subtracted way (Branch thumb) = turned thumb at old added subtracted (veneer_of p region way) way
+number_with p region at old added subtracted way kind = total old added subtracted % 2 ^ (8 * size_of kind)

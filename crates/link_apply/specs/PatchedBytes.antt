@@ -21,8 +21,8 @@ with_span true word to =
     bits word 11 5 * 2 ^ 11 + (to / 2 + 2 ^ 21) % 2 ^ 22 / 2 ^ 11 + (bits word 27 5 * 2 ^ 11 + (to / 2 + 2 ^ 21) % 2 ^ 11) * 2 ^ 16
 
 abbrev pub turned : Bool → ℕ → ℕ → ℕ → ℕ → ℕ → Way → ℕ
-turned thumb at old more less veneer Directly = with_span thumb old (span thumb old + more - less)
-turned thumb at old more less veneer (ByVeneer home state) = with_span thumb old (veneer + middle thumb - (at + ahead thumb))
+turned thumb at old added subtracted veneer Directly = with_span thumb old (span thumb old + added - subtracted)
+turned thumb at old added subtracted veneer (ByVeneer home state) = with_span thumb old (veneer + middle thumb - (at + ahead thumb))
 
 -- what a field of an area in a region at a base holds
 abbrev pub number_by : Placement → Values → ℕ → ℕ → List ℕ → Field → Kind → List Reloc → ℕ

@@ -10,7 +10,7 @@ use Rattle.link_model.specs.declared.placing.Region.{Region}
 use Rattle.link_model.specs.Members.{Link}
 use Rattle.link_model.specs.RegionValues.{area_of}
 use Rattle.link_values.specs.Placed.{values_in}
-use Rattle.link_apply.specs.declared.laying.Growing.{Growing}
+use Rattle.link_apply.specs.declared.laying.RegionBuild.{RegionBuild}
 use Rattle.link_apply.specs.declared.laying.RegionPiece.{RegionPiece}
 use Rattle.link_apply.specs.declared.sites.PlacedLink.{PlacedLink}
 use Rattle.link_apply.specs.declared.sites.Site.{Site}
@@ -37,7 +37,7 @@ laid_from pieces i [] = []
 laid_from pieces i (r ∷ regions) = filled_up r.length (laid r.base (pieces i)) ∷ laid_from pieces (suc i) regions
 
 -- what growing regions are with these pieces behind what they have
-abbrev pub grown_from : (ℕ → List Piece) → ℕ → List Growing → List (List ℕ)
+abbrev pub grown_from : (ℕ → List Piece) → ℕ → List RegionBuild → List (List ℕ)
 grown_from pieces i [] = []
 grown_from pieces i (g ∷ growing) = filled_up g.length (g.bytes.items ++ laid g.at (pieces i)) ∷ grown_from pieces (suc i) growing
 

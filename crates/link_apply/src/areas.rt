@@ -19,7 +19,7 @@ use crate::judging::is_outside_of;
 use crate::patching::new_number;
 use crate::relocations::{Detour, flaw_of_relocation};
 use crate::sites::{PlacedLink, Site};
-use crate::starts::Start;
+use crate::starts::FieldDirectives;
 use crate::telling::refusal_of;
 use crate::writing::put_numbers;
 use aof_object::{Object, Reloc};
@@ -30,7 +30,7 @@ use sdt_fault::{Bytes, List};
 use std::alloc::Global;
 
 /// What an area's relocations do where the field of one begins.
-fn start_at(starts: &IndexMap<u64, Start>, reloc: Reloc) -> Option<Start>
+fn start_at(starts: &IndexMap<u64, FieldDirectives>, reloc: Reloc) -> Option<FieldDirectives>
     ensures { result ≡ get nat_eq starts.now (field_of reloc).place }
 {
     starts.get(&u64::from(reloc.field().place)).copied()
@@ -40,7 +40,7 @@ fn start_at(starts: &IndexMap<u64, Start>, reloc: Reloc) -> Option<Start>
 fn judged_by(
     known: &PlacedLink<'_>,
     site: &Site<'_>,
-    start: Start,
+    start: FieldDirectives,
     reloc: Reloc,
     detour: Detour,
 ) -> Result<u32, Flaw>

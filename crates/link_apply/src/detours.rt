@@ -17,7 +17,7 @@ ghost use Rattle.link_apply.specs.Targets.{way_by, IsWayOf};
 use crate::patching::target_at;
 use crate::relocations::Detour;
 use crate::sites::{PlacedLink, Site};
-use crate::starts::Start;
+use crate::starts::FieldDirectives;
 use aof_object::Reloc;
 use indexmap::IndexMap;
 use link_model::{AreaName, PlacedVeneer, Veneer};
@@ -111,7 +111,12 @@ fn detour_to(known: &PlacedLink<'_>, region: u32, target: Option<BranchTarget>) 
 }
 
 /// How the branch of a relocation of an area goes. `start` is what the area's relocations do where it begins.
-pub fn detour_at(known: &PlacedLink<'_>, site: &Site<'_>, start: Start, reloc: Reloc) -> Detour
+pub fn detour_at(
+    known: &PlacedLink<'_>,
+    site: &Site<'_>,
+    start: FieldDirectives,
+    reloc: Reloc,
+) -> Detour
     requires known { Knows known.now }
     requires site { IsSite known.now site.now }
     requires inside { is_outside site.now.area.now.bytes (field_of reloc) ≡ false }

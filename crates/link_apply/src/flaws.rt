@@ -63,16 +63,16 @@ fn is_too_far(thumb: bool, from: u64, to: u64) -> bool
 }
 
 /// Of a branch that leads to what it names itself.
-pub fn flaw_of_direct(thumb: bool, word: u32, more: u64, less: u64) -> Option<Flaw>
-    requires more { more < 2 ^ 63 }
-    requires less { less < 2 ^ 63 }
-    ensures { result ≡ way_flaw thumb 0 word more less 0 (way_by None) 0 }
+pub fn flaw_of_direct(thumb: bool, word: u32, added: u64, subtracted: u64) -> Option<Flaw>
+    requires added { added < 2 ^ 63 }
+    requires subtracted { subtracted < 2 ^ 63 }
+    ensures { result ≡ way_flaw thumb 0 word added subtracted 0 (way_by None) 0 }
 {
     let from = span(thumb, word);
-    if is_unaligned(thumb, total(from, more, less)) {
+    if is_unaligned(thumb, total(from, added, subtracted)) {
         return Some(Flaw::Malformed);
     }
-    if is_too_far(thumb, less, from + more) {
+    if is_too_far(thumb, subtracted, from + added) {
         return Some(Flaw::OutOfReach);
     }
     None

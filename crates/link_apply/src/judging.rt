@@ -10,7 +10,7 @@ ghost use Rattle.link_apply.specs.Flaws.{has_bad_field, is_based, is_of_itself, 
 ghost use Rattle.link_apply.specs.Starts.{starts, AreStarts};
 
 use crate::overlaps::is_overlapping;
-use crate::starts::Start;
+use crate::starts::FieldDirectives;
 use aof_object::{Area, Reloc, RelocationTarget};
 use indexmap::IndexMap;
 
@@ -46,8 +46,8 @@ fn is_based_alone(reloc: Reloc) -> bool
 /// Whether the field of a relocation of an area of a number is a bad one. `start` is what the area's relocations do
 /// where it begins.
 pub fn is_bad_field(
-    starts: &IndexMap<u64, Start>,
-    start: Start,
+    starts: &IndexMap<u64, FieldDirectives>,
+    start: FieldDirectives,
     number: u32,
     area: &Area,
     reloc: Reloc,
@@ -72,8 +72,8 @@ pub fn is_bad_field(
 /// What the relocations of a field add, and what they take away.
 #[derive(Clone, Copy)]
 pub struct Sums {
-    pub more: u64,
-    pub less: u64,
+    pub added: u64,
+    pub subtracted: u64,
 }
 
 fn taken_by(base: u64, relative: u64) -> u64
@@ -86,17 +86,17 @@ fn taken_by(base: u64, relative: u64) -> u64
 }
 
 /// Of a field in an area at a base, by what the area's relocations do where it begins.
-pub fn sums_of(start: Start, base: u64) -> Sums
+pub fn sums_of(start: FieldDirectives, base: u64) -> Sums
     requires base { base < 2 ^ 33 }
     requires small { start.relative < 2 ^ 30 }
     ensures tells { (values : Values) (relocs : List Relocation) (f : Field)
         → starts values relocs f.place ≡ Some start → start.is_mixed ≡ false
         → f.kind ≡ start.kind → Tells values base relocs f start result }
-    ensures more { result.more ≡ start.more }
-    ensures less { result.less < 2 ^ 63 }
+    ensures added { result.added ≡ start.added }
+    ensures subtracted { result.subtracted < 2 ^ 63 }
 {
     Sums {
-        more: start.more,
-        less: taken_by(base, start.relative),
+        added: start.added,
+        subtracted: taken_by(base, start.relative),
     }
 }

@@ -19,7 +19,7 @@ pub struct RegionPiece {
 
 /// The first bytes of a region, up to an address, and how many it has in the end.
 #[derive(Drop)]
-pub struct Growing {
+pub struct RegionBuild {
     pub bytes: Vec<u8>,
     pub at: u64,
     pub length: u64,
@@ -36,7 +36,7 @@ pub fn push_zeros(bytes: &mut Vec<u8>, count: u64) -> Result<(), NoMemory>
 }
 
 /// Appends a piece, with zeros before it.
-fn put_bytes(growing: &mut Growing, address: u64, bytes: &[u8]) -> Result<(), NoMemory>
+fn put_bytes(growing: &mut RegionBuild, address: u64, bytes: &[u8]) -> Result<(), NoMemory>
     requires { address ≤ 2 ^ 32 }
     ensures length { growing.new.length ≡ growing.old.length }
     ensures bytes { OnOk result ((rest : Items Piece) → growing.new.bytes.items ++ laid growing.new.at rest
@@ -50,7 +50,7 @@ fn put_bytes(growing: &mut Growing, address: u64, bytes: &[u8]) -> Result<(), No
 
 /// Appends a piece to its region, if there is one of its number. An address beyond the end of memory, which no
 /// placement has, counts as want of memory.
-fn put_piece(growing: &mut Vec<Growing>, piece: &RegionPiece) -> Result<(), NoMemory>
+fn put_piece(growing: &mut Vec<RegionBuild>, piece: &RegionPiece) -> Result<(), NoMemory>
     ensures { OnOk result ((rest : ℕ → Items Piece) → grown_from rest 0 growing.new.items
         ≡ grown_from (with_piece piece.now rest) 0 growing.old.items) }
 {
@@ -65,13 +65,13 @@ fn put_piece(growing: &mut Vec<Growing>, piece: &RegionPiece) -> Result<(), NoMe
 }
 
 /// Regions without bytes.
-fn all_started(alloc: Global, regions: &[Region]) -> Result<Vec<Growing>, NoMemory>
+fn all_started(alloc: Global, regions: &[Region]) -> Result<Vec<RegionBuild>, NoMemory>
     ensures { IfOk result (λ growing. (rest : ℕ → Items Piece)
         → grown_from rest 0 growing.items ≡ laid_from rest 0 regions.now) }
 {
     let mut growing = Vec::new(alloc);
     'regions: for region in regions {
-        growing.push(Growing {
+        growing.push(RegionBuild {
             bytes: Vec::new(alloc),
             at: region.base,
             length: region.length,
@@ -80,7 +80,7 @@ fn all_started(alloc: Global, regions: &[Region]) -> Result<Vec<Growing>, NoMemo
     Ok(growing)
 }
 
-fn put_all(growing: &mut Vec<Growing>, pieces: &[RegionPiece]) -> Result<(), NoMemory>
+fn put_all(growing: &mut Vec<RegionBuild>, pieces: &[RegionPiece]) -> Result<(), NoMemory>
     ensures { OnOk result (grown_from (λ region. []) 0 growing.new.items
         ≡ grown_from (pieces_in pieces.now) 0 growing.old.items) }
 {
@@ -102,7 +102,7 @@ fn fill(mut bytes: Vec<u8>, length: u64) -> Result<Vec<u8>, NoMemory>
     Ok(bytes)
 }
 
-fn all_finished(alloc: Global, growing: Vec<Growing>) -> Result<List<Bytes>, NoMemory>
+fn all_finished(alloc: Global, growing: Vec<RegionBuild>) -> Result<List<Bytes>, NoMemory>
     ensures { IfOk result (λ all. all ≡ map (λ g. filled_up g.length g.bytes.items) growing.items) }
 {
     let mut all = Vec::new(alloc);

@@ -5,11 +5,11 @@ ghost use Rattle.patch_model.specs.Patched.{ahead as ahead_of, is_branch as read
 ghost use Rattle.link_apply.specs.PatchedBytes.{with_span as spanning};
 
 /// The word of a number and what is added to it and taken from it.
-pub fn total(old: u64, more: u64, less: u64) -> u64
-    ensures value { result ≡ total_of old more less }
+pub fn total(old: u64, added: u64, subtracted: u64) -> u64
+    ensures value { result ≡ total_of old added subtracted }
     ensures bound { result < 2 ^ 32 }
 {
-    (old % 0x1_0000_0000 + more % 0x1_0000_0000 + (0x1_0000_0000 - less % 0x1_0000_0000))
+    (old % 0x1_0000_0000 + added % 0x1_0000_0000 + (0x1_0000_0000 - subtracted % 0x1_0000_0000))
         % 0x1_0000_0000
 }
 

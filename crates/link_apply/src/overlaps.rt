@@ -9,12 +9,12 @@ ghost use Rattle.patch_model.specs.Fields.{field_of, Values};
 ghost use Rattle.link_apply.specs.Flaws.{overlaps};
 ghost use Rattle.link_apply.specs.Starts.{begins, is_crowded, reaches, AreStarts};
 
-use crate::starts::Start;
+use crate::starts::FieldDirectives;
 use aof_object::Reloc;
 use indexmap::IndexMap;
 
 /// Whether a field that begins some bytes before a place has it.
-fn reaches_place(starts: &IndexMap<u64, Start>, place: u64, behind: u64) -> bool
+fn reaches_place(starts: &IndexMap<u64, FieldDirectives>, place: u64, behind: u64) -> bool
     ensures { result ≡ reaches (λ p. get nat_eq starts.now p) place behind }
 {
     if place < behind {
@@ -27,7 +27,7 @@ fn reaches_place(starts: &IndexMap<u64, Start>, place: u64, behind: u64) -> bool
 }
 
 /// Whether a field begins some bytes behind the start of one of a size.
-fn begins_in(starts: &IndexMap<u64, Start>, place: u64, size: u64, after: u64) -> bool
+fn begins_in(starts: &IndexMap<u64, FieldDirectives>, place: u64, size: u64, after: u64) -> bool
     requires place { place < 2 ^ 32 }
     requires after { after < 2 ^ 32 }
     ensures { result ≡ begins (λ p. get nat_eq starts.now p) place size after }
@@ -38,7 +38,12 @@ fn begins_in(starts: &IndexMap<u64, Start>, place: u64, size: u64, after: u64) -
     starts.get(&(place + after)).is_some()
 }
 
-fn is_crowded_at(starts: &IndexMap<u64, Start>, place: u64, size: u64, mixed: bool) -> bool
+fn is_crowded_at(
+    starts: &IndexMap<u64, FieldDirectives>,
+    place: u64,
+    size: u64,
+    mixed: bool,
+) -> bool
     requires { place < 2 ^ 32 }
     ensures { result ≡ is_crowded (λ p. get nat_eq starts.now p) place size mixed }
 {
@@ -64,7 +69,11 @@ fn is_crowded_at(starts: &IndexMap<u64, Start>, place: u64, size: u64, mixed: bo
 }
 
 /// Whether the field of one of these relocations overlaps that of another. `start` is what they do where it begins.
-pub fn is_overlapping(starts: &IndexMap<u64, Start>, start: Start, reloc: Reloc) -> bool
+pub fn is_overlapping(
+    starts: &IndexMap<u64, FieldDirectives>,
+    start: FieldDirectives,
+    reloc: Reloc,
+) -> bool
     requires there { get nat_eq starts.now (field_of reloc).place ≡ Some start }
     ensures { (values : Values) (relocs : List Relocation) → IsIn relocs reloc
         → AreStarts values relocs starts.now

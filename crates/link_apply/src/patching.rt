@@ -13,16 +13,16 @@ ghost use Rattle.link_apply.specs.Targets.{values_by, way_by, IsWayOf};
 use crate::judging::{Sums, sums_of};
 use crate::numbers::total;
 use crate::relocations::{Detour, number_of};
-use crate::starts::Start;
+use crate::starts::FieldDirectives;
 use crate::ways::{target_by, turned_word};
 use aof_object::{Area, FieldKind, Reloc};
 
 /// The branch of a word at an address with the displacement that it is to have.
 fn branch_with(thumb: bool, at: u64, word: u32, sums: Sums, detour: Detour) -> u32
     requires at { at < 2 ^ 34 }
-    requires more { sums.more < 2 ^ 63 }
+    requires added { sums.added < 2 ^ 63 }
     ensures { (p : Placement) (region : ℕ) → IsWayOf p region detour.target detour.veneer detour.goal
-        → result ≡ turned thumb at word sums.more sums.less
+        → result ≡ turned thumb at word sums.added sums.subtracted
         (veneer_of p region (way_by detour.target)) (way_by detour.target) }
 {
     let Some(target) = detour.target else {
@@ -37,15 +37,15 @@ fn branch_with(thumb: bool, at: u64, word: u32, sums: Sums, detour: Detour) -> u
 /// What a field of a kind at an address is to hold.
 fn number_by(kind: FieldKind, at: u64, word: u32, sums: Sums, detour: Detour) -> u32
     requires at { at < 2 ^ 34 }
-    requires more { sums.more < 2 ^ 63 }
+    requires added { sums.added < 2 ^ 63 }
     ensures value { (p : Placement) (region : ℕ) → IsWayOf p region detour.target detour.veneer detour.goal
-        → result ≡ number_with p region at word sums.more sums.less (way_by detour.target) kind }
+        → result ≡ number_with p region at word sums.added sums.subtracted (way_by detour.target) kind }
     ensures bound { result < 256 ^ kind_size kind }
 {
     match kind {
-        FieldKind::Byte => (total(word as u64, sums.more, sums.less) % 0x100) as u32,
-        FieldKind::Half => (total(word as u64, sums.more, sums.less) % 0x1_0000) as u32,
-        FieldKind::Word => total(word as u64, sums.more, sums.less) as u32,
+        FieldKind::Byte => (total(word as u64, sums.added, sums.subtracted) % 0x100) as u32,
+        FieldKind::Half => (total(word as u64, sums.added, sums.subtracted) % 0x1_0000) as u32,
+        FieldKind::Word => total(word as u64, sums.added, sums.subtracted) as u32,
         FieldKind::Branch(false) => branch_with(false, at, word, sums, detour),
         FieldKind::Branch(true) => branch_with(true, at, word, sums, detour),
     }
@@ -53,10 +53,16 @@ fn number_by(kind: FieldKind, at: u64, word: u32, sums: Sums, detour: Detour) ->
 
 /// What the field of a relocation of an area at a base is to hold. `start` is what the area's relocations do where it
 /// begins.
-pub fn new_number(start: Start, base: u64, area: &Area, reloc: Reloc, detour: Detour) -> u32
+pub fn new_number(
+    start: FieldDirectives,
+    base: u64,
+    area: &Area,
+    reloc: Reloc,
+    detour: Detour,
+) -> u32
     requires inside { is_outside area.now.bytes (field_of reloc) ≡ false }
     requires base { base < 2 ^ 33 }
-    requires more { start.more < 2 ^ 63 }
+    requires added { start.added < 2 ^ 63 }
     requires relative { start.relative < 2 ^ 30 }
     ensures value { (p : Placement) (region : ℕ) (values : Values) (number : ℕ)
         → IsIn area.now.relocs reloc → starts values area.now.relocs (field_of reloc).place ≡ Some start
@@ -84,7 +90,7 @@ fn is_thumb(kind: FieldKind) -> bool
 /// The target of the branch of a relocation of an area at a base, where it goes by a veneer.
 pub fn target_at(
     symbols: &[SymbolValue],
-    start: Start,
+    start: FieldDirectives,
     base: u64,
     area: &Area,
     reloc: Reloc,

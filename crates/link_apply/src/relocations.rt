@@ -14,7 +14,7 @@ use crate::fields::number_at;
 use crate::flaws::{Flaw, flaw_of_byte, flaw_of_half};
 use crate::judging::{Sums, is_bad_field, sums_of};
 use crate::numbers::{is_branch_word, total};
-use crate::starts::Start;
+use crate::starts::FieldDirectives;
 use crate::ways::flaw_of_way;
 use aof_object::{Area, FieldKind, Reloc};
 use indexmap::IndexMap;
@@ -39,11 +39,11 @@ fn flaw_of_branch(
     detour: Detour,
 ) -> Option<Flaw>
     requires at { at < 2 ^ 34 }
-    requires more { sums.more < 2 ^ 63 }
-    requires less { sums.less < 2 ^ 63 }
+    requires added { sums.added < 2 ^ 63 }
+    requires subtracted { sums.subtracted < 2 ^ 63 }
     requires goal { detour.goal < 2 ^ 33 }
     ensures { (p : Placement) (region : ℕ) → IsWayOf p region detour.target detour.veneer detour.goal
-        → result ≡ flaw_by p region at word sums.more sums.less only (way_by detour.target) (Branch thumb) }
+        → result ≡ flaw_by p region at word sums.added sums.subtracted only (way_by detour.target) (Branch thumb) }
 {
     if !only {
         return Some(Flaw::Malformed);
@@ -72,15 +72,15 @@ fn flaw_of_field(
     detour: Detour,
 ) -> Option<Flaw>
     requires at { at < 2 ^ 34 }
-    requires more { sums.more < 2 ^ 63 }
-    requires less { sums.less < 2 ^ 63 }
+    requires added { sums.added < 2 ^ 63 }
+    requires subtracted { sums.subtracted < 2 ^ 63 }
     requires goal { detour.goal < 2 ^ 33 }
     ensures { (p : Placement) (region : ℕ) → IsWayOf p region detour.target detour.veneer detour.goal
-        → result ≡ flaw_by p region at word sums.more sums.less only (way_by detour.target) kind }
+        → result ≡ flaw_by p region at word sums.added sums.subtracted only (way_by detour.target) kind }
 {
     match kind {
-        FieldKind::Byte => flaw_of_byte(total(word as u64, sums.more, sums.less)),
-        FieldKind::Half => flaw_of_half(total(word as u64, sums.more, sums.less)),
+        FieldKind::Byte => flaw_of_byte(total(word as u64, sums.added, sums.subtracted)),
+        FieldKind::Half => flaw_of_half(total(word as u64, sums.added, sums.subtracted)),
         FieldKind::Word => None,
         FieldKind::Branch(false) => flaw_of_branch(false, at, word, sums, only, detour),
         FieldKind::Branch(true) => flaw_of_branch(true, at, word, sums, only, detour),
@@ -88,7 +88,7 @@ fn flaw_of_field(
 }
 
 /// Whether a relocation, by what the relocations of its place do, is relative and alone.
-fn is_only_at(start: Start, reloc: Reloc) -> bool
+fn is_only_at(start: FieldDirectives, reloc: Reloc) -> bool
     ensures { result ≡ (is_relative reloc && start.is_alone) }
 {
     reloc.is_relative() && start.is_alone
@@ -106,8 +106,8 @@ pub fn number_of(bytes: &[u8], reloc: Reloc) -> u32
 /// Of a relocation of an area of a number at a base. `start` is what the area's relocations do where its field
 /// begins.
 pub fn flaw_of_relocation(
-    starts: &IndexMap<u64, Start>,
-    start: Start,
+    starts: &IndexMap<u64, FieldDirectives>,
+    start: FieldDirectives,
     number: u32,
     base: u64,
     area: &Area,
@@ -118,7 +118,7 @@ pub fn flaw_of_relocation(
     requires there { get nat_eq starts.now (field_of reloc).place ≡ Some start }
     requires own { IsIn area.now.relocs reloc }
     requires base { base < 2 ^ 33 }
-    requires more { start.more < 2 ^ 63 }
+    requires added { start.added < 2 ^ 63 }
     requires relative { start.relative < 2 ^ 30 }
     requires goal { detour.goal < 2 ^ 33 }
     ensures { (p : Placement) (region : ℕ) (values : Values)

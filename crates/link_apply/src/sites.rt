@@ -6,7 +6,7 @@ ghost use Rattle.link_apply.specs.Sites.{AreAllBelow, IsSite, Knows};
 ghost use Rattle.link_apply.specs.Starts.{AreBelow};
 ghost use Rattle.link_apply.specs.Targets.{meant_at};
 
-use crate::starts::{Start, starts_of};
+use crate::starts::{FieldDirectives, starts_of};
 use aof_object::Area;
 use indexmap::IndexMap;
 use link_model::{Linked, PlacedArea, Placement, Veneer};
@@ -31,7 +31,7 @@ pub struct Site<'a> {
     pub placed: PlacedArea,
     pub area: &'a Area,
     pub symbols: &'a [SymbolValue],
-    pub starts: IndexMap<u64, Start>,
+    pub starts: IndexMap<u64, FieldDirectives>,
 }
 
 /// The values of an object's symbols.

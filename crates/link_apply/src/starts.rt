@@ -15,7 +15,7 @@ use std::alloc::Global;
 
 /// What the relocations of one place do.
 #[derive(Clone, Copy)]
-pub struct Start {
+pub struct FieldDirectives {
     /// That of the first.
     pub kind: FieldKind,
     /// Whether their kinds differ.
@@ -25,7 +25,7 @@ pub struct Start {
     /// Whether there is one alone.
     pub is_alone: bool,
     /// What they add.
-    pub more: u64,
+    pub added: u64,
     /// How many take the area's base away.
     pub relative: u64,
     /// The first symbol.
@@ -92,7 +92,7 @@ fn symbol_of(reloc: Reloc, next: Option<u32>) -> Option<u32>
 }
 
 /// Whether the kinds of relocations at a place, with one before them, differ.
-fn is_mixed_with(start: Start, kind: FieldKind) -> bool
+fn is_mixed_with(start: FieldDirectives, kind: FieldKind) -> bool
     ensures { result ≡ (start.is_mixed || not (is_same_kind start.kind kind)) }
 {
     if start.is_mixed {
@@ -107,32 +107,32 @@ fn started(
     object: u32,
     symbols: &[SymbolValue],
     reloc: Reloc,
-    rest: Option<Start>,
-) -> Start
+    rest: Option<FieldDirectives>,
+) -> FieldDirectives
     requires bases { AreLow bases.now }
     requires symbols { AreBelow symbols.now }
     requires rest { IfSome rest IsSmall }
     ensures { result ≡ start_with (values_by (base_of bases.now object) symbols.now) reloc rest }
 {
     let kind = reloc.kind();
-    let more = number_of(bases, object, symbols, reloc) + label_mark(symbols, reloc);
+    let added = number_of(bases, object, symbols, reloc) + label_mark(symbols, reloc);
     let relative = u64::from(reloc.is_relative());
     match rest {
-        None => Start {
+        None => FieldDirectives {
             kind,
             is_mixed: false,
             widest: kind.size(),
             is_alone: true,
-            more,
+            added,
             relative,
             symbol: symbol_of(reloc, None),
         },
-        Some(start) => Start {
+        Some(start) => FieldDirectives {
             kind,
             is_mixed: is_mixed_with(start, kind),
             widest: start.widest.max(kind.size()),
             is_alone: false,
-            more: more + start.more,
+            added: added + start.added,
             relative: relative + start.relative,
             symbol: symbol_of(reloc, start.symbol),
         },
@@ -140,7 +140,7 @@ fn started(
 }
 
 fn note(
-    starts: &mut IndexMap<u64, Start>,
+    starts: &mut IndexMap<u64, FieldDirectives>,
     bases: &AreaBases,
     object: u32,
     symbols: &[SymbolValue],
@@ -168,7 +168,7 @@ pub fn starts_of(
     object: u32,
     symbols: &[SymbolValue],
     relocs: &[Reloc],
-) -> Result<IndexMap<u64, Start>, NoMemory>
+) -> Result<IndexMap<u64, FieldDirectives>, NoMemory>
     requires bases { AreLow bases.now }
     requires symbols { AreBelow symbols.now }
     requires few { length relocs.now < 2 ^ 28 }

@@ -14,13 +14,13 @@ use link_values::{AreaOffset, BranchTarget, SymbolValue};
 pub fn target_of(
     thumb: bool,
     reach: u64,
-    more: u64,
-    less: u64,
+    added: u64,
+    subtracted: u64,
     symbol: SymbolValue,
 ) -> Option<BranchTarget>
     requires reach { reach < 2 ^ 32 }
-    requires sums { less + symbol.number < 2 ^ 64 }
-    ensures { way_by result ≡ way_home thumb reach more less (meant symbol)
+    requires sums { subtracted + symbol.number < 2 ^ 64 }
+    ensures { way_by result ≡ way_home thumb reach added subtracted (meant symbol)
         (option_map home symbol.home) }
 {
     let Some(home) = symbol.home else {
@@ -29,7 +29,11 @@ pub fn target_of(
     if symbol.thumb == thumb {
         return None;
     }
-    let offset = total(home.offset as u64 + reach, more, less + symbol.number) as u32;
+    let offset = total(
+        home.offset as u64 + reach,
+        added,
+        subtracted + symbol.number,
+    ) as u32;
     let place = AreaOffset {
         object: home.object,
         area: home.area,

@@ -26,16 +26,16 @@ pub fn flaw_of_way(
     goal: u64,
 ) -> Option<Flaw>
     requires at { at < 2 ^ 34 }
-    requires more { sums.more < 2 ^ 63 }
-    requires less { sums.less < 2 ^ 63 }
+    requires added { sums.added < 2 ^ 63 }
+    requires subtracted { sums.subtracted < 2 ^ 63 }
     requires goal { goal < 2 ^ 33 }
     ensures { (p : Placement) (region : ℕ) → IsWayOf p region target veneer goal
         → result ≡ unless Malformed (lacks_veneer p region (way_by target))
-        (way_flaw thumb at word sums.more sums.less (veneer_of p region (way_by target))
+        (way_flaw thumb at word sums.added sums.subtracted (veneer_of p region (way_by target))
         (way_by target) (goal_of p (way_by target))) }
 {
     let Some(target) = target else {
-        return flaw_of_direct(thumb, word, sums.more, sums.less);
+        return flaw_of_direct(thumb, word, sums.added, sums.subtracted);
     };
     let Some(veneer) = veneer else {
         return Some(Flaw::Malformed);
@@ -53,14 +53,14 @@ pub fn turned_word(
     veneer: u32,
 ) -> u32
     requires at { at < 2 ^ 34 }
-    requires more { sums.more < 2 ^ 63 }
-    ensures { result ≡ turned thumb at word sums.more sums.less veneer (way_by target) }
+    requires added { sums.added < 2 ^ 63 }
+    ensures { result ≡ turned thumb at word sums.added sums.subtracted veneer (way_by target) }
 {
     if target.is_none() {
         return with_span(
             thumb,
             word,
-            (span(thumb, word) + sums.more).saturating_sub(sums.less),
+            (span(thumb, word) + sums.added).saturating_sub(sums.subtracted),
         );
     }
     let to = (veneer as u64 + middle(thumb)).saturating_sub(at + ahead(thumb));
@@ -79,13 +79,13 @@ pub fn target_by(
 ) -> Option<BranchTarget>
     requires symbols { AreBelow symbols.now }
     requires at { at < 2 ^ 34 }
-    requires less { sums.less < 2 ^ 63 }
+    requires subtracted { sums.subtracted < 2 ^ 63 }
     ensures { way_by result ≡ way_to thumb
         (total_of (at + ahead_of thumb + span_of thumb word) 0 (middle_of thumb))
-        sums.more sums.less (values_by (λ k. 0) symbols.now) symbol }
+        sums.added sums.subtracted (values_by (λ k. 0) symbols.now) symbol }
 {
     let number = symbol?;
     let found = symbols.get(number as usize)?;
     let reach = total(at + ahead(thumb) + span(thumb, word), 0, middle(thumb));
-    target_of(thumb, reach, sums.more, sums.less, *found)
+    target_of(thumb, reach, sums.added, sums.subtracted, *found)
 }

@@ -43,7 +43,7 @@ use Rattle.link_laws.proofs.ListLemmas.{found_all, in_filter, in_filter_map, in_
 use Rattle.link_laws.proofs.MadeAddressLemmas.{has_places, veneers_there}
 use Rattle.link_laws.proofs.MadeAppliedLemmas.{IsNamed, is_named, IsBranchOf, is_needing}
 use Rattle.link_laws.proofs.MadeVeneerLemmas.{veneer_to, AreOnce, things_apart, is_first}
-use Rattle.link_laws.proofs.PlacedLemmas.{IsFound, shaped, aligned, found as found_area, is_item, thing_of, somewhere, IsSomewhere, objects_are_placed}
+use Rattle.link_laws.proofs.PlacedLemmas.{IsFound, shaped, aligned, found as found_area, full_base, is_item, thing_of, somewhere, IsSomewhere, objects_are_placed}
 use Rattle.link_laws.proofs.RegionLemmas.{IsWithin, stood_within, stood_in_place}
 
 -- ---- lists
@@ -271,7 +271,9 @@ module _ (base : ℕ) (rel : Bool) (ram : Option (List Range32)) (l : Linked) (a
       let (x, named) = found_all InImage (λ s. is_area l.entry.object l.entry.area s.thing) (stood_in f.owner) f.spot (all_at (λ r. AllByRecursion InImage (stood_in r)) rs f.place f.owner all_behind f.at) f.there in
       let is : f.spot.thing ≡ AnArea (item_of l.entry.object entered.object.«module» l.entry.area entry_at.area_is) = entry_thing f.place f.owner f.at f.spot f.there in
       let size : size_of f.spot.thing ≡ entry_at.area_is.size = ap size_of is in
-      let at : entry_base ≡ f.spot.address = f.base in
+      let inside = entry_at.inside in
+      let at : entry_base ≡ f.spot.address =
+      full_base k ram l a.regions vs h l.entry.object entered.object entered.at l.entry.area entry_at.area_is entry_at.there (omega (arith, inside)) in
       let below = x.0 in
       (low_by at x.1 is, omega (arith, size, at, below))
     where

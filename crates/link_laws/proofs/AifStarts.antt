@@ -219,7 +219,7 @@ module _ (base : ℕ) (ram : Option (List Range32)) (l : Linked) (a : Assigned) 
   base_at : (f : ℕ) → bases_of (aif_plan f true contents) l.entry.object l.entry.area ≡ x + f
   base_at f =
       sym ((has_places (aif_plan f true contents)).bases l.entry.object l.entry.area)
-      ∙ ap (λ (z : Placement). base_in z l.entry.object l.entry.area) (aif_placement f contents) ∙ base_moves f p0 l.entry.object l.entry.area known
+      ∙ ap (λ (z : Placement). base_in z l.entry.object l.entry.area) (aif_placement f contents) ∙ base_moves f p0 (whole_image base ram l a vs p h).boot l.entry.object l.entry.area known
 
   at_own : entry_at l p ≡ x + base + l.entry.offset
   at_own =

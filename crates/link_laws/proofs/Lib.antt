@@ -1,6 +1,7 @@
 pub mod ListLemmas
 pub mod ItemLemmas
 pub mod RegionLemmas
+pub mod ReducedLemmas
 pub mod PlacedLemmas
 pub mod SizedLemmas
 pub mod ShownLemmas

@@ -8,7 +8,7 @@ use Rattle.std.proofs.lemmas.List.Folds.{find-append}
 use Rattle.base_lemmas.proofs.BaseLemmas.{both_true, neither}
 use Rattle.patch_model.specs.Fields.{Home}
 use Rattle.place_model.specs.declared.scatter.Kind.{Kind}
-use Rattle.place_model.specs.Plans.{Contents, origin_of, Planned, Plan, regions_of, table_words, plan_of, stood_in, address_of}
+use Rattle.place_model.specs.Plans.{Contents, origin_of, Planned, Plan, regions_of, table_words, plan_of, stood_in, address_of, boot_address}
 use Rattle.place_model.specs.Plans as plan
 use Rattle.place_model.specs.Things.{Thing, Header, AnArea, AVeneer, Startup, Stood}
 use Rattle.link_model.specs.declared.placing.PlacedArea.{PlacedArea}
@@ -25,6 +25,7 @@ use Rattle.link_apply.specs.Placed.{leads_to, veneers_at}
 use Rattle.link_apply.specs.RegionBytes.{is_copied}
 use Rattle.link_laws.specs.Placing.{bases_of, has_area, is_veneer}
 use Rattle.link_laws.specs.Joins.{PlacesOf}
+use Rattle.link_model.specs.RegionValues.{reduced_by}
 
 -- ---- the first that passes, in lists one behind the other
 
@@ -136,9 +137,11 @@ area_found object area (x ∷ rs) r s h there = go (list_any (named object area)
 same_base : (q : Plan) (object area : ℕ) → base_in (placement_of q) object area ≡ bases_of q object area
 same_base q object area =
     ap (λ o. unwrap_or o 0)
+    (sym (mapped_twice (reduced_by (boot_address q)) (λ (a : PlacedArea). a.address) (find (is_area object area) (placement_of q).areas))
+    ∙ ap (option_map (reduced_by (boot_address q)))
     (found_flat (λ (a : PlacedArea). a.address) (λ (s : Stood). s.address) (is_area object area) (λ s. plan.is_area object area s.thing) areas_of stood_in
     (λ r. ap (option_map (λ (a : PlacedArea). a.address)) (area_in_region object area r) ∙ mapped_twice (λ (a : PlacedArea). a.address) (λ z. placed_as object area r.number z.address) (find (named object area) (stood_in r)))
-    (regions_of q))
+    (regions_of q)))
 
 -- ---- rows
 

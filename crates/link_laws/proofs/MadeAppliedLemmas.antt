@@ -19,7 +19,7 @@ use Rattle.patch_model.specs.Patched.{Way, Directly, ByVeneer, way_of, is_branch
 use Rattle.patch_model.specs.Reaches.{HasVeneer}
 use Rattle.patch_model.proofs.BranchLemmas.{branch_tested}
 use Rattle.place_model.specs.declared.scatter.Kind.{Kind}
-use Rattle.place_model.specs.Plans.{Planned, Plan, regions_of, table_words, zero_base_of}
+use Rattle.place_model.specs.Plans.{Planned, Plan, regions_of, table_words, zero_base_of, boot_address}
 use Rattle.place_model.specs.Things.{Thing, Header, AnArea, AVeneer, Startup, Stood, stood}
 use Rattle.place_model.proofs.ListLemmas.{all_at, all_indexed, none_given}
 use Rattle.place_model.proofs.SpanLemmas.{map_none}
@@ -33,12 +33,12 @@ use Rattle.link_model.specs.declared.selection.LinkedEntry.{LinkedEntry}
 use Rattle.link_model.specs.declared.selection.Named.{Named}
 use Rattle.link_model.specs.Members.{Link, link_of, objects_in}
 use Rattle.link_model.specs.RegionValues.{area_of, region_number}
-use Rattle.link_model.specs.Values.{Bases, values_of}
+use Rattle.link_model.specs.Values.{values_of}
 use Rattle.link_model.specs.Veneers.{is_alone, has_branch, veneer_by, values_apart, needed_as, needed_by, needed_by_header, IsIn, BranchNeeds, IsNeeded}
 use Rattle.link_model.proofs.NeedLemmas.{veneers_law}
 use Rattle.link_model.proofs.WayLemmas.{ways_law}
 use Rattle.link_items.specs.LinkedItems.{has_header, contents_of}
-use Rattle.link_values.specs.Placed.{is_area, base_in}
+use Rattle.link_values.specs.Placed.{is_area, base_in, reduced_values}
 use Rattle.link_values.specs.Placed as placed
 use Rattle.link_apply.specs.Flaws.{flaw_of, refusal_of, told, refusals_in, refusals_at}
 use Rattle.link_apply.specs.Laws.{AreBytes, AreSound}
@@ -51,7 +51,8 @@ use Rattle.link_laws.specs.Placing.{bases_of, link_plan, IsPlacedLink, values_in
 use Rattle.link_laws.specs.Joins.{IsMade, PlacesOf, MadeHasPlaces, given_in, MadeIsApplied}
 use Rattle.link_laws.proofs.PlacedLemmas.{IsFound, shaped, aligned, found as found_area, objects_are_placed}
 use Rattle.link_laws.proofs.MadePlacedLemmas.{is_placement, are_needed, made_is_placed}
-use Rattle.link_laws.proofs.AppliedAt.{is_found as placed_there, applied_at}
+use Rattle.link_laws.proofs.AppliedAt.{is_found as placed_there, base_there, applied_at}
+use Rattle.link_laws.proofs.ReducedLemmas.{way_reduced}
 use Rattle.link_laws.proofs.MadeAddressLemmas.{placed_as, veneers_there, has_places}
 use Rattle.link_laws.proofs.MadeRegionLemmas.{found_there}
 use Rattle.link_laws.proofs.MadeVeneerLemmas.{veneer_to, AreOnce, IsPlanned, things_planned, things_apart, all_stood, is_first}
@@ -168,7 +169,7 @@ module _ (k : Kind) (ram : Option (List Range32)) (l : Linked) (a : Assigned) (v
   same_bases = λ i object area. places.bases object area i
 
   same_values : (own : ℕ) → placed.values_in (link_of l) p own ≡ values_in plan l numbers own
-  same_values own = ap (λ (b : Bases). values_of (link_of l) (region_number (objects_in l.objects) p) b own) same_bases
+  same_values own = λ i. reduced_values (places.boot i) (values_of (link_of l) numbers (same_bases i) own)
 
   same_target : (target : Home) → target_in p target ≡ (bases_of plan target.object target.area + target.offset) % 2 ^ 32
   same_target target = ap (λ (n : ℕ). (n + target.offset) % 2 ^ 32) (places.bases target.object target.area)
@@ -180,7 +181,7 @@ module _ (k : Kind) (ram : Option (List Range32)) (l : Linked) (a : Assigned) (v
     place = found_area k ram l a.regions vs is_placed own o here area x there
 
     abbrev base : ℕ
-    base = bases_of plan own area
+    base = place.spot.address
 
     abbrev values : Values
     values = values_in plan l numbers own
@@ -255,13 +256,18 @@ module _ (k : Kind) (ram : Option (List Range32)) (l : Linked) (a : Assigned) (v
         let values : Values = values_in plan l numbers b.name.object in
         let sound = sound_area b.name.object named.object named.at b.name.area b.area named.there in
         let number = found_there k ram l a.regions vs is_placed b.name.object named.object named.at b.name.area b.area named.there r.number b.areas b.region b.assigned in
-        let here : AreSound p values r.number base b.name.area b.area = subst (λ (m : ℕ). AreSound p values m base b.name.area b.area) number sound in
         let is : IsBranchOf b.area b.reloc = is_needing (link_of l) r.number b.name b.area b.reloc (veneer_to r.number target state) b.needs in
         let (room, branch) = both_true (nat_le ((field_of b.reloc).place + size_of (field_of b.reloc).kind) (length b.area.bytes)) (is_branch is.thumb (number_in b.area.bytes (field_of b.reloc))) is.branch in
         let fits : (field_of b.reloc).place + size_of (kind_of b.reloc) ≤ length b.area.bytes = leb-true ((field_of b.reloc).place + size_of (kind_of b.reloc)) (length b.area.bytes) room in
         let within : (field_of b.reloc).place + 4 ≤ length b.area.bytes = subst (λ (z : FieldKind). (field_of b.reloc).place + size_of z ≤ length b.area.bytes) is.kind fits in
+        let address : base ≡ (found_area k ram l a.regions vs is_placed b.name.object named.object named.at b.name.area b.area named.there).spot.address =
+        base_there k ram l a.regions vs is_placed b.name.object named.object named.at b.name.area b.area named.there (omega (arith, within)) in
+        let here : AreSound p values r.number base b.name.area b.area =
+        subst (λ (x : ℕ). AreSound p values r.number x b.name.area b.area) (sym address)
+        (subst (λ (m : ℕ). AreSound p values m (found_area k ram l a.regions vs is_placed b.name.object named.object named.at b.name.area b.area named.there).spot.address b.name.area b.area) number sound) in
         let law = ways_law (link_of l) numbers (bases_of plan) r.number b.name b.area b.reloc is.thumb b.relocates is.kind is.alone within (branch_tested is.thumb (number_in b.area.bytes (field_of b.reloc)) branch) in
-        let way = way_is r.number (way_of base values b.area.bytes (field_of b.reloc) is.thumb (directives b.area.relocs (field_of b.reloc))) r.number target state (sym law ∙ b.needs) in
+        let kept = way_reduced (boot_address plan) base (values_of (link_of l) numbers (bases_of plan) b.name.object) b.area is.thumb b.reloc b.relocates is.kind is.alone in
+        let way = way_is r.number (way_of base values b.area.bytes (field_of b.reloc) is.thumb (directives b.area.relocs (field_of b.reloc))) r.number target state (sym (law ∙ ap (veneer_by r.number) kept) ∙ b.needs) in
         veneer_law p values r.number base b.name.area b.area target state v (record {
           reloc = b.reloc;
           thumb = is.thumb;

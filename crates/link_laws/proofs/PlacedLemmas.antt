@@ -1,5 +1,5 @@
 -- Objects whose plan is accepted are placed.
-use Rattle.std.proofs.Common.{◌≡◌, ◌⊎◌, inl, inr, ℕ, ◌+◌, ◌%◌, ◌^◌, ◌≤◌, Bool, true, false, not, ◌==◌, if◌then◌else◌, List, [], refl, sym, ap, subst, ◌∙◌, arith, eq-eqb, eqb-true, Option, Some, None}
+use Rattle.std.proofs.Common.{◌≡◌, ◌⊎◌, inl, inr, ℕ, ◌+◌, ◌%◌, ◌^◌, ◌<◌, ◌≤◌, Bool, true, false, not, ◌==◌, if◌then◌else◌, List, [], refl, sym, ap, subst, ◌∙◌, arith, eq-eqb, eqb-true, Option, Some, None}
 use Rattle.std.specs.Prelude.{slice_get, unwrap_or}
 use Rattle.std.specs.List.{find, list_any, position_or_len, AllByRecursion}
 use Rattle.std.proofs.lemmas.List.Folds.{find_at}
@@ -17,7 +17,7 @@ use Rattle.patch_model.specs.Laws.{StandsAt}
 use Rattle.place_model.specs.declared.scatter.Kind.{Kind}
 use Rattle.place_model.specs.Items.{Item, is_zero_initialised}
 use Rattle.place_model.specs.Laws.{IsWholeRegion, IsWholeItem}
-use Rattle.place_model.specs.Plans.{Contents, areas_in, Planned, zero_base_of, execution_size, end_of, Plan, regions_of, plan_of, table_words, stood_in, is_area}
+use Rattle.place_model.specs.Plans.{Contents, areas_in, Planned, zero_base_of, execution_size, end_of, Plan, regions_of, plan_of, table_words, stood_in, is_area, boot_address}
 use Rattle.place_model.specs.Things.{Thing, Header, AnArea, AVeneer, Startup, size_of, Stood, stood}
 use Rattle.place_model.proofs.GapLemmas.{IsWhole, whole_area, whole_header, whole_veneer, whole_startup}
 use Rattle.place_model.proofs.ListLemmas.{all_at, all_of_get}
@@ -29,12 +29,15 @@ use Rattle.link_model.specs.declared.selection.Linked.{Linked}
 use Rattle.link_model.specs.declared.selection.Named.{Named}
 use Rattle.link_model.specs.Meaning.{Meaning, Defined, OfRegion, Weak, meaning_of, symbol_of}
 use Rattle.link_model.specs.Members.{objects_in, link_of}
+use Rattle.link_model.specs.RegionValues.{reduced_by}
 use Rattle.link_model.specs.Values.{Bases, home_area, meant_at, meant_of, meant_by, meaning_at}
 use Rattle.link_model.specs.Veneers.{IsIn}
 use Rattle.link_items.specs.LinkedItems.{item_of, items_in, item_at, name_of, contents_of}
+use Rattle.link_values.specs.Placed.{reduced_meant}
 use Rattle.stand_model.specs.Placed.{IsMeantIn, IsMeantBy, IsMeant}
 use Rattle.link_laws.specs.Placing.{bases_of, region_with, link_plan, IsPlacedLink}
 use Rattle.link_laws.specs.Laws.{ObjectsArePlaced}
+use Rattle.link_laws.proofs.ReducedLemmas.{reduced_aligned, reduced_le, reduced_same, reduced_small, reduced_stands}
 use Rattle.link_laws.proofs.ListLemmas.{in_front, in_back, any_in, found_all, first_of}
 use Rattle.link_laws.proofs.ItemLemmas.{item_there, taken, IsOwn, items_own, own_whole}
 use Rattle.link_laws.proofs.RegionLemmas.{IsShaped, all_shaped, numbered, things_all, header_all, startup_all, zeros_all, area_in, IsWithin, stood_within, stood_whole, stood_in_place}
@@ -56,6 +59,9 @@ homes_stand os base_at (Some (Defined object k)) = by_symbol (symbol_of os objec
     by_symbol None = tt
     by_symbol (Some s) = by_area s (home_area s)
 
+homes_reduced : (os : List Object) (base_at : Bases) (boot : Option ℕ) (m : Option Meaning) → StandsAt base_at (reduced_meant boot (meant_by os base_at m)) (meant_by os base_at m).home
+homes_reduced os base_at boot m = reduced_stands base_at boot (meant_by os base_at m) (meant_by os base_at m).home (homes_stand os base_at m)
+
 -- a definition is itself
 defined_here : (l : Linked) (numbers : List ℕ → Option ℕ) (base_at : Bases) (own k : ℕ) (o : Named Object) (y : Symbol) → slice_get l.objects own ≡ Some o
     → slice_get o.value.symbols k ≡ Some y → bit y.attributes 0 == 1 ≡ true
@@ -66,19 +72,20 @@ defined_here l numbers base_at own k o y at there defines =
     let means : meaning_of l.definitions numbers own k y ≡ Some (Defined own k) = rw defines refl in
     ap (meant_by (objects_in l.objects) base_at) (ap (option_and_then (meaning_of l.definitions numbers own k)) symbol ∙ means) ∙ ap (meant_of base_at own) symbol
 
-is_meant : (own : ℕ) (base_at : Bases) (y : Symbol) (m : Meant) → (bit y.attributes 0 == 1 ≡ true → m ≡ meant_at base_at own y (home_area y)) → IsMeant own (base_at own) y m
-is_meant own base_at y m defined = go (bit y.attributes 0 == 1) (bit y.attributes 2 == 0) refl refl
+is_meant : (own : ℕ) (boot : Option ℕ) (base_at : Bases) (y : Symbol) (m : Meant) → (bit y.attributes 0 == 1 ≡ true → m ≡ reduced_meant boot (meant_at base_at own y (home_area y)))
+    → IsMeant own (base_at own) y m
+is_meant own boot base_at y m defined = go (bit y.attributes 0 == 1) (bit y.attributes 2 == 0) refl refl
   where
-    in_area : is_placed y.attributes ≡ true → m ≡ meant_at base_at own y (home_area y) → (area : ℕ) → y.area ≡ Some area → IsMeantIn own (base_at own) y m area
+    in_area : is_placed y.attributes ≡ true → m ≡ reduced_meant boot (meant_at base_at own y (home_area y)) → (area : ℕ) → y.area ≡ Some area → IsMeantIn own (base_at own) y m area
     in_area placed is area e =
         let home : home_area y ≡ Some area = rw placed e in
-        let own_is : m ≡ meant_at base_at own y (Some area) = is ∙ ap (meant_at base_at own y) home in
-        subst (λ (x : Meant). IsMeantIn own (base_at own) y x area) (sym own_is) (record { number = refl; thumb = refl; datum = refl; home = refl })
+        let own_is : m ≡ reduced_meant boot (meant_at base_at own y (Some area)) = is ∙ ap (λ (z : Option ℕ). reduced_meant boot (meant_at base_at own y z)) home in
+        subst (λ (x : Meant). IsMeantIn own (base_at own) y x area) (sym own_is) (record { number = reduced_same boot (base_at own area + y.value); thumb = refl; datum = refl; home = refl })
 
-    absolute : is_placed y.attributes ≡ false → m ≡ meant_at base_at own y (home_area y) → (m.number ≡ y.value) × (m.home ≡ None)
+    absolute : is_placed y.attributes ≡ false → m ≡ reduced_meant boot (meant_at base_at own y (home_area y)) → (m.number ≡ y.value) × (m.home ≡ None)
     absolute placed is =
         let home : home_area y ≡ None = rw placed refl in
-        let own_is : m ≡ meant_at base_at own y None = is ∙ ap (meant_at base_at own y) home in
+        let own_is : m ≡ reduced_meant boot (meant_at base_at own y None) = is ∙ ap (λ (z : Option ℕ). reduced_meant boot (meant_at base_at own y z)) home in
         (ap (λ (x : Meant). x.number) own_is, ap (λ (x : Meant). x.home) own_is)
 
     go : (d p : Bool) → bit y.attributes 0 == 1 ≡ d → bit y.attributes 2 == 0 ≡ p → IsMeantBy (if d then p else false) own (base_at own) y m
@@ -109,7 +116,7 @@ pub record IsFound (p : Plan) (own area : ℕ) : Type 0 where
   pub at : slice_get (regions_of p) place ≡ Some owner
   pub region : region_with p own area ≡ Some owner
   pub there : find (λ s. is_area own area s.thing) (stood_in owner) ≡ Some spot
-  pub base : bases_of p own area ≡ spot.address
+  pub base : bases_of p own area ≡ reduced_by (boot_address p) spot.address
 
 pub is_found : (p : Plan) (own area : ℕ) (r : Planned) → IsIn (regions_of p) r → list_any (λ s. is_area own area s.thing) (stood_in r) ≡ true → IsFound p own area
 is_found p own area r there some =
@@ -122,7 +129,7 @@ is_found p own area r there some =
       at = sym (find_at (λ q. list_any test (stood_in q)) (regions_of p)) ∙ f.owns;
       region = f.owns;
       there = f.there;
-      base = ap (λ (o : Option Stood). unwrap_or (option_map (λ s. s.address) o) 0) f.first;
+      base = ap (λ (o : Option Stood). unwrap_or (option_map (reduced_by (boot_address p)) (option_map (λ s. s.address) o)) 0) f.first;
     }
 
 module _ (k : Kind) (ram : Option (List Range32)) (l : Linked) (regions : List (List AreaName)) (veneers : List Veneer) (h : IsPlacedLink k ram l regions veneers) where
@@ -259,26 +266,44 @@ module _ (k : Kind) (ram : Option (List Range32)) (l : Linked) (regions : List (
   ends_in r s (inl x) fits = let below = x.below in omega (arith, below, fits)
   ends_in r s (inr x) fits = let below = x.below in omega (arith, below, fits)
 
-  area_ends : (own : ℕ) (o : Named Object) → slice_get os own ≡ Some o → (area : ℕ) (a : Area) → slice_get o.value.areas area ≡ Some a → bases_of p own area + a.size ≤ 2 ^ 32
-  area_ends own o here area a there =
-      let f = found own o here area a there in
+  ends_at : (own : ℕ) (o : Named Object) → slice_get os own ≡ Some o → (area : ℕ) (a : Area) → slice_get o.value.areas area ≡ Some a → (f : IsFound p own area)
+      → f.spot.address + a.size ≤ 2 ^ 32
+  ends_at own o here area a there f =
       let (x, named) = found_all (IsSomewhere f.owner) (λ s. is_area own area s.thing) (stood_in f.owner) f.spot (somewhere f.place f.owner f.at) f.there in
       let is : f.spot.thing ≡ AnArea (item_of own o.«module» area a) = is_item own o here area a there f.spot.thing named (thing_of f.owner f.spot x) in
       let size : size_of f.spot.thing ≡ a.size = ap size_of is in
-      let base = f.base in
       let ends = ends_in f.owner f.spot x (room f.place f.owner f.at) in
-      omega (arith, size, base, ends)
+      omega (arith, size, ends)
+
+  full_at : (own area : ℕ) (a : Area) (f : IsFound p own area) → f.spot.address + a.size ≤ 2 ^ 32 → 0 < a.size → bases_of p own area ≡ f.spot.address
+  full_at own area a f ends some = f.base ∙ reduced_small (boot_address p) f.spot.address (omega (arith, ends, some))
+
+  low_at : (own area : ℕ) (a : Area) (f : IsFound p own area) → f.spot.address + a.size ≤ 2 ^ 32 → bases_of p own area + a.size ≤ 2 ^ 32
+  low_at own area a f ends =
+      let base = f.base in
+      let low = reduced_le (boot_address p) f.spot.address in
+      omega (arith, base, low, ends)
+
+  -- an area that isn't empty stands below the end of memory
+  pub full_base : (own : ℕ) (o : Named Object) (here : slice_get os own ≡ Some o) (area : ℕ) (a : Area) (there : slice_get o.value.areas area ≡ Some a) → 0 < a.size
+      → bases_of p own area ≡ (found own o here area a there).spot.address
+  full_base own o here area a there some = full_at own area a (found own o here area a there) (ends_at own o here area a there (found own o here area a there)) some
+
+  area_ends : (own : ℕ) (o : Named Object) → slice_get os own ≡ Some o → (area : ℕ) (a : Area) → slice_get o.value.areas area ≡ Some a → bases_of p own area + a.size ≤ 2 ^ 32
+  area_ends own o here area a there = low_at own area a (found own o here area a there) (ends_at own o here area a there (found own o here area a there))
 
   area_aligned : (own : ℕ) (o : Named Object) → slice_get os own ≡ Some o → (area : ℕ) (a : Area) → slice_get o.value.areas area ≡ Some a → bases_of p own area % 4 ≡ 0
   area_aligned own o here area a there =
       let f = found own o here area a there in
-      ap (λ (x : ℕ). x % 4) f.base ∙ (found_all (λ s. s.address % 4 ≡ 0) (λ s. is_area own area s.thing) (stood_in f.owner) f.spot (aligned f.place f.owner f.at) f.there).0
+      ap (λ (x : ℕ). x % 4) f.base
+      ∙ reduced_aligned (boot_address p) f.spot.address (found_all (λ s. s.address % 4 ≡ 0) (λ s. is_area own area s.thing) (stood_in f.owner) f.spot (aligned f.place f.owner f.at) f.there).0
 
 pub objects_are_placed : ObjectsArePlaced
 objects_are_placed k ram l regions veneers numbers h own o here = record {
   aligned = area_aligned k ram l regions veneers h own o here;
   ends = area_ends k ram l regions veneers h own o here;
-  symbols = λ n y there. is_meant own (bases_of (link_plan k l regions veneers)) y _ (defined_here l numbers (bases_of (link_plan k l regions veneers)) own n o y here there);
-  homes = λ n. homes_stand (objects_in l.objects) (bases_of (link_plan k l regions veneers)) (meaning_at (link_of l) numbers own n);
+  symbols = λ n y there. is_meant own (boot_address (link_plan k l regions veneers)) (bases_of (link_plan k l regions veneers)) y _
+      (λ e. ap (reduced_meant (boot_address (link_plan k l regions veneers))) (defined_here l numbers (bases_of (link_plan k l regions veneers)) own n o y here there e));
+  homes = λ n. homes_reduced (objects_in l.objects) (bases_of (link_plan k l regions veneers)) (boot_address (link_plan k l regions veneers)) (meaning_at (link_of l) numbers own n);
   addresses = λ area. refl;
 }

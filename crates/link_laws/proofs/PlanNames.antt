@@ -13,7 +13,7 @@ use Rattle.aof_object.specs.Checks.{is_exported}
 use Rattle.aof_object.specs.Objects.{exported}
 use Rattle.aof_object.specs.Validity.{IsSymbol, IsValid, heads}
 use Rattle.patch_model.specs.Fields.{Meant}
-use Rattle.place_model.specs.Plans.{Plan}
+use Rattle.place_model.specs.Plans.{Plan, boot_address}
 use Rattle.place_model.proofs.ListLemmas.{all_at}
 use Rattle.link_model.specs.declared.selection.Definition.{Definition}
 use Rattle.link_model.specs.declared.selection.Linked.{Linked}
@@ -21,8 +21,9 @@ use Rattle.link_model.specs.declared.selection.Named.{Named}
 use Rattle.link_model.specs.Definitions.{definition_in, definitions_in, definitions_from}
 use Rattle.link_model.specs.Meaning.{Meaning, Defined, definition_of, meaning_by, meaning_of, symbol_of}
 use Rattle.link_model.specs.Members.{objects_in}
-use Rattle.link_model.specs.Values.{meant_by, meant_of, unplaced}
-use Rattle.link_laws.specs.Placing.{bases_of}
+use Rattle.link_model.specs.Values.{meant_by, unplaced}
+use Rattle.link_values.specs.Placed.{reduced_meant}
+use Rattle.link_laws.specs.Placing.{bases_of, meant_in}
 use Rattle.link_laws.specs.Plans.{IsExport, NoneExports, IsSelection, IsMeaning, IsMeantBy, AreMeant, NamesMean, numbers_by, values_by}
 use Rattle.link_laws.proofs.ListLemmas.{each_at}
 
@@ -182,7 +183,7 @@ module _ (plan : Plan) (l : Linked) (h : IsSelection l) where
   numbers = numbers_by plan l.objects
 
   abbrev Means : Option Meaning → Meant
-  Means m = meant_by (objects_in l.objects) (bases_of plan) m
+  Means m = reduced_meant (boot_address plan) (meant_by (objects_in l.objects) (bases_of plan) m)
 
   value_is : (own k : ℕ) (o : Named Object) (s : Symbol) → slice_get l.objects own ≡ Some o → slice_get o.value.symbols k ≡ Some s
       → (values_by plan l own).symbol k ≡ Means (meaning_of defs numbers own k s)
@@ -190,19 +191,19 @@ module _ (plan : Plan) (l : Linked) (h : IsSelection l) where
       ap (λ (z : Option Symbol). Means (option_and_then (meaning_of l.definitions numbers own k) z)) (symbol_there l.objects own k o s at there)
       ∙ ap (λ (ds : List Definition). Means (meaning_of ds numbers own k s)) h.definitions
 
-  exported_value : (own k : ℕ) (name : List ℕ) (d : Symbol) → IsExport l.objects name own k d → meant_of (bases_of plan) own (symbol_of (objects_in l.objects) own k) ≡ meant_of (bases_of plan) own (Some d)
-  exported_value own k name d e = ap (meant_of (bases_of plan) own) (symbol_there l.objects own k e.object d e.there e.symbol)
+  exported_value : (own k : ℕ) (name : List ℕ) (d : Symbol) → IsExport l.objects name own k d → meant_in plan own (symbol_of (objects_in l.objects) own k) ≡ meant_in plan own (Some d)
+  exported_value own k name d e = ap (meant_in plan own) (symbol_there l.objects own k e.object d e.there e.symbol)
 
   by_definition : (s : Symbol) (weak : Bool) (own k : ℕ) (d : Symbol) → IsExport l.objects s.name own k d → (f : Option Definition) → definition_of defs s.name ≡ f
-      → Means (meaning_by f (numbers s.name) weak) ≡ meant_of (bases_of plan) own (Some d)
+      → Means (meaning_by f (numbers s.name) weak) ≡ meant_in plan own (Some d)
   by_definition s weak own k d e None at = absurd (no_export s.name 0 l.objects at own k d e)
   by_definition s weak own k d e (Some f) at =
       let x : AtExport s.name 0 l.objects f = first_export s.name 0 l.objects f at in
       let (same_object, same_symbol) = h.once s.name own k x.own x.k d x.symbol e x.export in
       let object : f.object ≡ own = let a = x.object in omega (arith, a, same_object) in
       let number : f.symbol ≡ k = x.number ∙ sym same_symbol in
-      ap (λ (i : ℕ). meant_of (bases_of plan) i (symbol_of (objects_in l.objects) i f.symbol)) object
-      ∙ ap (λ (j : ℕ). meant_of (bases_of plan) own (symbol_of (objects_in l.objects) own j)) number
+      ap (λ (i : ℕ). meant_in plan i (symbol_of (objects_in l.objects) i f.symbol)) object
+      ∙ ap (λ (j : ℕ). meant_in plan own (symbol_of (objects_in l.objects) own j)) number
       ∙ exported_value own k s.name d e
 
   undefined : (q : List ℕ) → NoneExports l.objects q → (f : Option Definition) → definition_of defs q ≡ f → definition_of defs q ≡ None
@@ -230,7 +231,7 @@ module _ (plan : Plan) (l : Linked) (h : IsSelection l) where
   means : (own k : ℕ) (o : Named Object) (s : Symbol) → slice_get l.objects own ≡ Some o → slice_get o.value.symbols k ≡ Some s
       → (b : Bool) → is_some (cond b (Some (Defined own k)) (meaning_by (definition_of defs s.name) (numbers s.name) (bit s.attributes 4 == 1))) ≡ true
       → IsMeantBy b plan l.objects own s (Means (cond b (Some (Defined own k)) (meaning_by (definition_of defs s.name) (numbers s.name) (bit s.attributes 4 == 1))))
-  means own k o s at there true known = ap (meant_of (bases_of plan) own) (symbol_there l.objects own k o s at there)
+  means own k o s at there true known = ap (meant_in plan own) (symbol_there l.objects own k o s at there)
   means own k o s at there false known = reference s (bit s.attributes 4 == 1) refl known
 
   pub names_mean : AllByRecursion (λ o. IsValid o.value) l.objects → AreMeant plan l → NamesMean plan l

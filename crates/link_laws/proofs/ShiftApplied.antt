@@ -48,7 +48,7 @@ use Rattle.link_laws.proofs.PlacedLemmas.{shaped}
 use Rattle.link_laws.proofs.ShiftLinked.{IsWholeImage, area_fits}
 use Rattle.link_laws.proofs.ShiftNeeds.{target_there}
 use Rattle.link_laws.proofs.ShiftPlaced.{aif_placement, is_moved, whole_image, base_whole}
-use Rattle.link_laws.proofs.ShiftPlacement.{moved_area, moved_placement, find_area_moves, base_moves, veneers_move}
+use Rattle.link_laws.proofs.ShiftPlacement.{moved_area, moved_placement, find_area_moves, place_moves, veneers_move}
 use Rattle.link_laws.proofs.ShiftPlans.{plan_law, regions_move, stood_moves}
 use Rattle.link_laws.proofs.ShiftVeneers.{own_shifts, veneer_shifts}
 use Rattle.link_laws.proofs.ShiftWords.{shifted_none}
@@ -81,7 +81,7 @@ module _ (l : Linked) (p : Placement) (region : ℕ) (target : Home) (b c : ℕ)
   given by thumb = (given_in (link_of l) (moved_placement by p)).veneer region target thumb
 
   goal_at : (by : ℕ) → target_in (moved_placement by p) target ≡ (x + by + target.offset) % 2 ^ 32
-  goal_at by = ap (λ n. (n + target.offset) % 2 ^ 32) (base_moves by p target.object target.area there)
+  goal_at by = place_moves by p target.object target.area target.offset there
 
   -- what stands there where it stands at all
   its_bytes : (by : ℕ) (thumb : Bool) (o : Option ℕ) → veneers_at p region target thumb ≡ o

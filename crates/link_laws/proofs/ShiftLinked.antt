@@ -128,7 +128,7 @@ module _ (l : Linked) (p : Placement) (w : IsWholeImage l p) where
 
   module _ (by : ℕ) where
     pub homes_move : (object k : ℕ) (s : Symbol) (area : ℕ) → symbol_of (objects_in l.objects) object k ≡ Some s → home_area s ≡ Some area → base_in (moved_placement by p) object area ≡ base_in p object area + by
-    homes_move object k s area at home = base_moves by p object area (home_there object k s area at home)
+    homes_move object k s area at home = base_moves by p w.boot object area (home_there object k s area at home)
 
     pub relocs_move : (own : ℕ) (o : Named Object) → slice_get l.objects own ≡ Some o → (area : ℕ) (a : Area) → slice_get o.value.areas area ≡ Some a
         → AllByRecursion (IsMovedIn (names_moving (link_of l) p own) by (values_in (link_of l) p own) (values_in (link_of l) (moved_placement by p) own)) a.relocs
@@ -143,7 +143,7 @@ module _ (l : Linked) (p : Placement) (w : IsWholeImage l p) where
             let areas : named_by (length o.value.areas) (length o.value.symbols) r.word ≡ length o.value.areas = ap (λ (b : Bool). if b then length o.value.symbols else length o.value.areas) by_symbol in
             let below = is.index in
             let (b, at) = some_at o.value.areas (number_named r) (omega (arith, below, areas)) in
-            base_moves by p own (number_named r) (w.there own (number_named r) o b here at)
+            base_moves by p w.boot own (number_named r) (w.there own (number_named r) o b here at)
 
   -- ---- an area of a link that is made at a base, and may be moved
 
@@ -259,7 +259,7 @@ module _ (l : Linked) (p : Placement) (w : IsWholeImage l p) where
 
       as_there : (r : Reloc) → offset r % 4 ≡ (field_of r).place % 4
       as_there r =
-          let stands = base_moves base p own area (w.there own area o a here there) in
+          let stands = base_moves base p w.boot own area (w.there own area o a here there) in
           let aligned = w.aligned own area o a here there in
           let start = w.start base in
           omega (arith, stands, aligned, start)

@@ -36,6 +36,7 @@ use Rattle.link_laws.proofs.RegionLemmas.{IsShaped, all_shaped, things_all, zero
 use Rattle.link_laws.proofs.ShiftLinked.{IsWholeImage}
 use Rattle.link_laws.proofs.ShiftPlacement.{moved_place, moved_area, moved_veneer, moved_placement, find_moves, find_area_moves}
 use Rattle.link_laws.proofs.ShiftPlans.{flat_moves, length_moves, zero_length_moves, things_move, regions_move, plan_law}
+use Rattle.link_laws.proofs.ReducedLemmas.{plain_base, plain_bases}
 
 -- ---- the placement of a plan that is moved
 
@@ -249,7 +250,9 @@ module _ (base : ℕ) (ram : Option (List Range32)) (l : Linked) (a : Assigned) 
 
   same_base : (own area : ℕ) (o : Named Object) (x : Area) → slice_get l.objects own ≡ Some o → slice_get o.value.areas area ≡ Some x → bases_of (link_plan k l a.regions vs) own area ≡ base_in at_0 own area + base
   same_base own area o x here there =
-      ap (λ (z : Option ℕ). unwrap_or z 0) (sym (same_find own area)) ∙ go (find (is_area own area) at_0.areas) (known own area o x here there)
+      plain_bases (link_plan k l a.regions vs) own area (no_boot base c)
+      ∙ ap (λ (z : Option ℕ). unwrap_or z 0) (sym (same_find own area)) ∙ go (find (is_area own area) at_0.areas) (known own area o x here there)
+      ∙ ap (λ (n : ℕ). n + base) (sym (plain_base at_0 own area (no_boot 0 c)))
     where
       go : (z : Option PlacedArea) → is_some z ≡ true → unwrap_or (option_map (λ y. y.address) (option_map (moved_area base) z)) 0 ≡ unwrap_or (option_map (λ y. y.address) z) 0 + base
       go None e = absurd cc

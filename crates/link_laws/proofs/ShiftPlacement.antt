@@ -1,5 +1,5 @@
 -- A placement that is moved: where its areas, veneers and region symbols are.
-use Rattle.std.proofs.Common.{◌≡◌, ℕ, ◌+◌, Bool, true, false, cond, List, [], ◌∷◌, map, min, max, refl, sym, ap, ◌∙◌, arith, Option, Some, None}
+use Rattle.std.proofs.Common.{◌≡◌, ℕ, ◌+◌, ◌%◌, ◌^◌, Bool, true, false, cond, List, [], ◌∷◌, map, min, max, refl, sym, ap, ◌∙◌, arith, Option, Some, None}
 use Rattle.std.specs.Prelude.{unwrap_or, is_some}
 use Rattle.std.specs.List.{filter, find, flat_map}
 use Rattle.std.specs.Option.{option_map, option_and_then, option_or}
@@ -14,6 +14,7 @@ use Rattle.link_model.specs.RegionNames.{image_base, image_limit, area_base, are
 use Rattle.link_model.specs.RegionValues.{plain_numbers, numbers_by, area_of, has_name, areas_named, end_of, least, greatest, least_start, greatest_end, number_of_area, reduced_by, region_number}
 use Rattle.link_values.specs.Placed.{is_area, base_in}
 use Rattle.link_apply.specs.Placed.{leads_to, veneers_at}
+use Rattle.link_laws.proofs.ReducedLemmas.{plain_base, reduced_moves}
 use Rattle.link_laws.proofs.ShiftPlans.{flat_moves}
 
 abbrev pub moved_place : ℕ → Region → Region
@@ -84,12 +85,30 @@ or_moves by (Some x) p = refl
 pub find_area_moves : (by : ℕ) (p : Placement) (object area : ℕ) → find (is_area object area) (moved_placement by p).areas ≡ option_map (moved_area by) (find (is_area object area) p.areas)
 find_area_moves by p object area = find_moves (moved_area by) (is_area object area) (is_area object area) (λ a. refl) p.areas
 
-pub base_moves : (by : ℕ) (p : Placement) (object area : ℕ) → is_some (find (is_area object area) p.areas) ≡ true → base_in (moved_placement by p) object area ≡ base_in p object area + by
-base_moves by p object area there = ap (λ (o : Option PlacedArea). unwrap_or (option_map (λ a. a.address) o) 0) (find_area_moves by p object area) ∙ go (find (is_area object area) p.areas) there
+-- where no address is reduced
+pub base_moves : (by : ℕ) (p : Placement) → p.boot ≡ None → (object area : ℕ) → is_some (find (is_area object area) p.areas) ≡ true
+    → base_in (moved_placement by p) object area ≡ base_in p object area + by
+base_moves by p none object area there =
+    plain_base (moved_placement by p) object area (ap (option_map (λ n. n + by)) none)
+    ∙ ap (λ (o : Option PlacedArea). unwrap_or (option_map (λ a. a.address) o) 0) (find_area_moves by p object area) ∙ go (find (is_area object area) p.areas) there
+    ∙ ap (λ (n : ℕ). n + by) (sym (plain_base p object area none))
   where
     go : (o : Option PlacedArea) → is_some o ≡ true → unwrap_or (option_map (λ a. a.address) (option_map (moved_area by) o)) 0 ≡ unwrap_or (option_map (λ a. a.address) o) 0 + by
     go None e = absurd cc
     go (Some a) e = refl
+
+-- a place modulo 2^32
+pub place_moves : (by : ℕ) (p : Placement) (object area offset : ℕ) → is_some (find (is_area object area) p.areas) ≡ true
+    → (base_in (moved_placement by p) object area + offset) % 2 ^ 32 ≡ (base_in p object area + by + offset) % 2 ^ 32
+place_moves by p object area offset there =
+    ap (λ (o : Option PlacedArea). (unwrap_or (option_map (λ a. reduced_by (moved_placement by p).boot a.address) o) 0 + offset) % 2 ^ 32) (find_area_moves by p object area)
+    ∙ go (find (is_area object area) p.areas) there
+  where
+    go : (o : Option PlacedArea) → is_some o ≡ true
+        → (unwrap_or (option_map (λ a. reduced_by (moved_placement by p).boot a.address) (option_map (moved_area by) o)) 0 + offset) % 2 ^ 32
+        ≡ (unwrap_or (option_map (λ a. reduced_by p.boot a.address) o) 0 + by + offset) % 2 ^ 32
+    go None e = absurd cc
+    go (Some a) e = reduced_moves p.boot (moved_placement by p).boot a.address by offset
 
 pub veneers_move : (by : ℕ) (p : Placement) (region : ℕ) (target : Home) (thumb : Bool) → veneers_at (moved_placement by p) region target thumb ≡ option_map (λ y. y + by) (veneers_at p region target thumb)
 veneers_move by p region target thumb =

@@ -18,6 +18,7 @@ use Rattle.link_values.specs.Moving.{is_moving_symbol, is_moving}
 use Rattle.link_laws.proofs.ShiftSums.{IsMovedIn}
 use Rattle.link_laws.proofs.ShiftFields.{IsMovedSymbol, IsMovedImage}
 use Rattle.link_laws.proofs.ShiftPlacement.{moved_placement, veneers_move, symbol_moves}
+use Rattle.link_laws.proofs.ReducedLemmas.{plain_meant}
 
 -- ---- meanings
 
@@ -95,9 +96,12 @@ module _ (by : ℕ) (l : Link) (p : Placement) (none : p.boot ≡ None) where
     value_moves object k =
         let o : Option Meaning = meaning_at l (region_number l.objects p) object k in
         let own = by_meaning o in
+        let here : meant_by l.objects (base_in p) o ≡ (values_in l p object).symbol k = plain_meant p.boot (meant_by l.objects (base_in p) o) none in
+        let moved : meant_by l.objects (base_in (moved_placement by p)) (meaning_at l (region_number l.objects (moved_placement by p)) object k) ≡ (values_in l (moved_placement by p) object).symbol k =
+        plain_meant (moved_placement by p).boot (meant_by l.objects (base_in (moved_placement by p)) (meaning_at l (region_number l.objects (moved_placement by p)) object k)) (ap (option_map (λ n. n + by)) none) in
         let same : meant_by l.objects (base_in (moved_placement by p)) (option_map (moved_meaning by) o) ≡ (values_in l (moved_placement by p) object).symbol k =
-        ap (meant_by l.objects (base_in (moved_placement by p))) (sym (meaning_moves object k)) in
-        subst (λ (m : Meant). Moves (is_moving l.objects o) ((values_in l p object).symbol k) m) same own
+        ap (meant_by l.objects (base_in (moved_placement by p))) (sym (meaning_moves object k)) ∙ moved in
+        subst (λ (m : Meant). Moves (is_moving l.objects o) m ((values_in l (moved_placement by p) object).symbol k)) here (subst (λ (m : Meant). Moves (is_moving l.objects o) (meant_by l.objects (base_in p) o) m) same own)
 
     pub image_moves : (object : ℕ) → IsMovedImage by p (moved_placement by p) (values_in l p object) (values_in l (moved_placement by p) object)
     image_moves object = record { symbols = λ k. (value_moves object k).symbol; veneers = veneers_move by p }

@@ -16,7 +16,7 @@ use Rattle.link_apply.specs.Placed.{veneers_at, target_in}
 use Rattle.link_laws.specs.AifJoins.{shift_between, shifted_words}
 use Rattle.link_laws.specs.Joins.{given_in}
 use Rattle.link_laws.proofs.ShiftWords.{shifted_none}
-use Rattle.link_laws.proofs.ShiftPlacement.{moved_placement, base_moves, veneers_move}
+use Rattle.link_laws.proofs.ShiftPlacement.{moved_placement, place_moves, veneers_move}
 
 -- ---- plain numbers
 
@@ -39,7 +39,7 @@ module _ (p : Placement) (region : ℕ) (target : Home) (b c : ℕ) (low : b ≤
   x = base_in p target.object target.area
 
   target_at : (by : ℕ) → target_in (moved_placement by p) target ≡ (x + by + target.offset) % 2 ^ 32
-  target_at by = ap (λ n. (n + target.offset) % 2 ^ 32) (base_moves by p target.object target.area there)
+  target_at by = place_moves by p target.object target.area target.offset there
 
   thumb_bytes : (y : ℕ) → veneer_bytes (y + c) (target_in (moved_placement c p) target) true
       ≡ shifted_words (shift_between b c) (own_shifts true) 0 (veneer_bytes (y + b) (target_in (moved_placement b p) target) true)

@@ -1,6 +1,6 @@
 -- A view of an accepted plan shows the linked objects.
 use Rattle.std.proofs.Common.{◌≡◌, ◌⊎◌, inl, inr, ℕ, suc, ◌+◌, ◌-◌, ◌%◌, ◌^◌, ◌<◌, ◌≤◌, Bool, true, false, not, ◌&&◌, ◌==◌, List, [], ◌∷◌, refl, sym, ap, subst, ◌∙◌, arith, eqb-true, Option, Some, None}
-use Rattle.std.specs.Prelude.{slice_get}
+use Rattle.std.specs.Prelude.{slice_get, IsSomeAnd}
 use Rattle.std.specs.List.{find, position_or_len, AllByRecursion}
 use Rattle.std.specs.Option.{option_map}
 use Rattle.std.proofs.lemmas.List.Folds.{find_at}
@@ -15,7 +15,7 @@ use Rattle.boot_code.specs.Startup.{zeros}
 use Rattle.boot_code.proofs.ViewLemmas.{length-zeros, get_or-zeros}
 use Rattle.byte_maps.specs.Maps.{Holds}
 use Rattle.patch_model.specs.Fields.{Home, Values}
-use Rattle.patch_model.specs.Patched.{other_state}
+use Rattle.patch_model.specs.Patched.{other_state, AreaPatched}
 use Rattle.patch_model.specs.Reaches.{Shows, IsVeneer, VeneersStand}
 use Rattle.patch_model.proofs.VeneerLemmas.{veneer_law}
 use Rattle.place_model.specs.declared.scatter.Kind.{Kind}
@@ -36,8 +36,10 @@ use Rattle.link_laws.specs.Placing.{bases_of, region_with, IsRange, has_area, is
 use Rattle.link_laws.specs.Laws.{AreRanges, RangesExist, ObjectsAreShown, StatementsStand}
 use Rattle.link_laws.proofs.ListLemmas.{found_all}
 use Rattle.link_laws.proofs.RegionLemmas.{IsWithin}
-use Rattle.link_laws.proofs.PlacedLemmas.{IsLoaded, IsCleared, room, loaded, cleared, found, is_item, objects_are_placed}
+use Rattle.link_laws.proofs.PlacedLemmas.{IsLoaded, IsCleared, room, loaded, cleared, found, is_item, objects_are_placed, full_base}
 use Rattle.link_laws.proofs.SizedLemmas.{applied_are_sized}
+use Rattle.aof_object.specs.Validity.{IsValid}
+use Rattle.link_laws.proofs.ReducedLemmas.{bytes_le, shows_at}
 
 -- ---- bytes
 
@@ -168,12 +170,12 @@ module _ (k : Kind) (ram : Option (List Range32)) (l : Linked) (regions : List (
     area_shown area a there =
         let f = found k ram l regions veneers h own o here area a there in
         let (x, named) = found_all (IsThere f.owner) (λ s. is_area own area s.thing) (stood_in f.owner) f.spot (there_all f.place f.owner f.at) f.there in
-        by_kind f.owner f.place f.at f.spot f.base named x (bit a.attributes 12 == 1) refl
+        by_kind f.owner f.place f.at f.spot (full_base k ram l regions veneers h own o here area a there) named x (bit a.attributes 12 == 1) refl
       where
         is : (t : Thing) → is_area own area t ≡ true → IsLoaded l.objects t ⊎ IsCleared l.objects t → t ≡ AnArea (item_of own o.«module» area a)
         is = is_item k ram l regions veneers h own o here area a there
 
-        by_kind : (r : Planned) (n : ℕ) → slice_get (regions_of p) n ≡ Some r → (s : Stood) → bases_of p own area ≡ s.address → is_area own area s.thing ≡ true → IsThere r s
+        by_kind : (r : Planned) (n : ℕ) → slice_get (regions_of p) n ≡ Some r → (s : Stood) → (0 < a.size → bases_of p own area ≡ s.address) → is_area own area s.thing ≡ true → IsThere r s
             → (b : Bool) → bit a.attributes 12 == 1 ≡ b → ShowsBy b view o.value area a values (veneers_in (region_with p own area))
         by_kind r n at s base named (inl x) true e =
             let item = is s.thing named (inl x.within.holds) in
@@ -182,13 +184,18 @@ module _ (k : Kind) (ram : Option (List Range32)) (l : Linked) (regions : List (
         by_kind r n at s base named (inl x) false e =
             let item = is s.thing named (inl x.within.holds) in
             let bytes : Holds view s.address (g.area own area) = subst (λ (t : Thing). Holds view s.address (held r t)) item x.holds in
-            (g.area own area, applied.areas own area o a here there e, subst (λ (i : ℕ). Shows view i (g.area own area)) (sym base) (holds_shows view s.address (g.area own area) bytes))
+            let own_bytes = applied.areas own area o a here there e in
+            let patched = subst (λ (z : Option Area). IsSomeAnd z (λ (b : Area). AreaPatched b.relocs b.bytes (bases_of p own area) values (veneers_in (region_with p own area)) (g.area own area))) there own_bytes in
+            let size = patched.size in
+            let fits = bytes_le o.value (all_at (λ (q : Named Object). IsValid q.value) l.objects own o h.valid here) area a there in
+            (g.area own area, own_bytes, shows_at view s.address (bases_of p own area) (g.area own area) (λ some. base (omega (arith, some, size, fits))) (holds_shows view s.address (g.area own area) bytes))
         by_kind r n at s base named (inr x) true e =
             let item = is s.thing named (inr x.holds) in
             let size : size_of s.thing ≡ a.size = ap size_of item in
             let from = x.from in let below = x.below in
             let zero = all_at (λ q. Holds view (zero_base_of q) (zeros (zero_length_of q))) (regions_of p) n r shown.cleared at in
-            λ i lt. zero_at view (zero_base_of r) (zero_length_of r) (bases_of p own area + i) zero (omega (arith, base, from)) (omega (arith, base, below, size, lt))
+            λ i lt. let at_base = base (omega (arith, lt)) in
+            zero_at view (zero_base_of r) (zero_length_of r) (bases_of p own area + i) zero (omega (arith, at_base, from)) (omega (arith, at_base, below, size, lt))
         by_kind r n at s base named (inr x) false e =
             let item = is s.thing named (inr x.holds) in
             let none : is_zero_initialised (item_of own o.«module» area a) ≡ true = (subst (IsCleared l.objects) item x.holds).1 in

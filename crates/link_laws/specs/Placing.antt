@@ -2,12 +2,14 @@
 -- branches go (SDT 2.50 Reference Guide, armlink; ARM Object Format, relocation directives).
 use Rattle.std.specs.Prelude.{◌≡◌, ℕ, ◌+◌, ◌%◌, ◌^◌, Bool, false, not, ◌&&◌, ◌==◌, List, length, slice_get, unwrap_or, Option, Some, None}
 use Rattle.std.specs.List.{find, list_any, AllByRecursion}
+use Rattle.std.specs.Option.{option_map}
 use Rattle.sdt_word.specs.Numbers.{bit}
 use Rattle.sdt_word.specs.declared.ranges.Range32.{Range32}
 use Rattle.aof_object.specs.declared.records.Area.{Area}
 use Rattle.aof_object.specs.declared.records.Object.{Object}
+use Rattle.aof_object.specs.declared.records.Symbol.{Symbol}
 use Rattle.aof_object.specs.Validity.{IsValid}
-use Rattle.patch_model.specs.Fields.{Home, Values}
+use Rattle.patch_model.specs.Fields.{Home, Meant, Values}
 use Rattle.patch_model.specs.Patched.{other_state, Veneers, Patched}
 use Rattle.patch_model.specs.Reaches.{HasVeneer}
 use Rattle.place_model.specs.declared.scatter.Kind.{Kind}
@@ -15,7 +17,7 @@ use Rattle.place_model.specs.declared.scatter.Kind.TheVariants as kind
 use Rattle.place_model.specs.Assignment.{description, described_regions, AreAssigned}
 use Rattle.place_model.specs.Faults.{place_refusal}
 use Rattle.place_model.specs.Laws.{IsWholeBase}
-use Rattle.place_model.specs.Plans.{Planned, execution_size, Plan, regions_of, plan_of, stood_in, address_of, is_area, area_address}
+use Rattle.place_model.specs.Plans.{Planned, execution_size, Plan, regions_of, plan_of, stood_in, address_of, is_area, area_address, boot_address}
 use Rattle.place_model.specs.Things.{Thing, AVeneer, stood}
 use Rattle.image_model.specs.Regions.{Given}
 use Rattle.link_model.specs.declared.placing.AreaName.{AreaName}
@@ -23,14 +25,16 @@ use Rattle.link_model.specs.declared.placing.Veneer.{Veneer}
 use Rattle.link_model.specs.declared.selection.Linked.{Linked}
 use Rattle.link_model.specs.declared.selection.Named.{Named}
 use Rattle.link_model.specs.Members.{link_of}
-use Rattle.link_model.specs.Values.{Bases, values_of}
+use Rattle.link_model.specs.RegionValues.{reduced_by}
+use Rattle.link_model.specs.Values.{Bases, meant_of, values_of}
 use Rattle.link_items.specs.LinkedItems.{items_in, contents_of}
+use Rattle.link_values.specs.Placed.{reduced_meant, reduced_values}
 
 -- ---- addresses
 
--- of each area that is in a region; 0 stands for that of any other
+-- of each area that is in a region, in a scatter image modulo 2^32; 0 stands for that of any other
 abbrev pub bases_of : Plan → Bases
-bases_of p object area = unwrap_or (area_address p object area) 0
+bases_of p object area = unwrap_or (option_map (reduced_by (boot_address p)) (area_address p object area)) 0
 
 abbrev pub has_area : ℕ → ℕ → Planned → Bool
 has_area object area r = list_any (λ s. is_area object area s.thing) (stood_in r)
@@ -72,7 +76,11 @@ pub record IsPlacedLink (k : Kind) (ram : Option (List Range32)) (l : Linked) (r
 
 -- the values of an object's symbols there, where `numbers` has the region symbols
 abbrev pub values_in : Plan → Linked → (List ℕ → Option ℕ) → ℕ → Values
-values_in p l numbers own = values_of (link_of l) numbers (bases_of p) own
+values_in p l numbers own = reduced_values (boot_address p) (values_of (link_of l) numbers (bases_of p) own)
+
+-- the value of a definition of an object
+abbrev pub meant_in : Plan → ℕ → Option Symbol → Meant
+meant_in p own s = reduced_meant (boot_address p) (meant_of (bases_of p) own s)
 
 -- ---- its bytes
 

@@ -26,13 +26,13 @@ use Rattle.link_model.specs.Definitions.{definitions_from}
 use Rattle.link_model.specs.Meaning.{meaning_of, symbol_of}
 use Rattle.link_model.specs.Members.{link_of, objects_in}
 use Rattle.link_model.specs.RegionValues.{region_number}
-use Rattle.link_model.specs.Values.{meant_of, unplaced}
+use Rattle.link_model.specs.Values.{unplaced}
 use Rattle.link_model.specs.Veneers.{veneers_of}
 use Rattle.link_items.specs.LinkedItems.{has_header}
 use Rattle.link_place.specs.Placed.{placement_of}
 use Rattle.link_laws.specs.Joins.{IsEntryOf}
 use Rattle.link_laws.specs.Laws.{AreRanges}
-use Rattle.link_laws.specs.Placing.{AreApplied, IsPlacedLink, bases_of, link_plan, region_with, values_in, veneers_in}
+use Rattle.link_laws.specs.Placing.{AreApplied, IsPlacedLink, bases_of, link_plan, meant_in, region_with, values_in, veneers_in}
 
 -- ---- what is linked
 
@@ -74,13 +74,13 @@ values_by plan l own = values_in plan l (numbers_by plan l.objects) own
 -- plus its offset, in its state. Where no linked object exports it, it has the number of the region symbol of the name. One
 -- that is neither is weak: it is 0 and stands nowhere, so that a branch to it stays in its own state.
 pub record IsMeaning (plan : Plan) (os : List (Named Object)) (s : Symbol) (m : Meant) : Type 0 where
-  pub defined : (own k : ℕ) (d : Symbol) → IsExport os s.name own k d → m ≡ meant_of (bases_of plan) own (Some d)
+  pub defined : (own k : ℕ) (d : Symbol) → IsExport os s.name own k d → m ≡ meant_in plan own (Some d)
   pub of_region : NoneExports os s.name → (n : ℕ) → numbers_by plan os s.name ≡ Some n → m ≡ unplaced n false false
   pub of_none : NoneExports os s.name → numbers_by plan os s.name ≡ None → (is_weak s.attributes ≡ true) × (m ≡ unplaced 0 false false)
 
 -- a definition has its own value, and a reference that of its name
 abbrev pub IsMeantBy : Bool → Plan → List (Named Object) → ℕ → Symbol → Meant → Type 0
-IsMeantBy true plan os own s m = m ≡ meant_of (bases_of plan) own (Some s)
+IsMeantBy true plan os own s m = m ≡ meant_in plan own (Some s)
 IsMeantBy false plan os own s m = IsMeaning plan os s m
 
 abbrev pub NamesMean : Plan → Linked → Type 0

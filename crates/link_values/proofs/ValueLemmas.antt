@@ -12,12 +12,12 @@ use Rattle.link_model.specs.declared.selection.Definition.{Definition}
 use Rattle.link_model.specs.Meaning.{Defined, definition_of, meaning_by, meaning_of, symbol_of}
 use Rattle.link_model.specs.Members.{Link}
 use Rattle.link_model.specs.RegionValues.{region_number}
-use Rattle.link_model.specs.Values.{Bases, meant_of, meant_by, unplaced}
+use Rattle.link_model.specs.Values.{Bases, meant_of, meant_by, unplaced, values_of}
 use Rattle.link_values.specs.declared.values.SymbolContext.{SymbolContext}
 use Rattle.link_values.specs.declared.values.SymbolValue.{SymbolValue}
 use Rattle.link_values.specs.Index.{place_of}
-use Rattle.link_values.specs.Placed.{base_in, values_in}
-use Rattle.link_values.specs.Values.{meant, named_value, known_value, all_values, AreValues, Knows}
+use Rattle.link_values.specs.Placed.{base_in, reduced_meant, values_in}
+use Rattle.link_values.specs.Values.{meant, named_value, known_value, taken_value, all_values, AreValues, Knows}
 
 -- ---- one symbol
 
@@ -34,7 +34,7 @@ by_kind os base_at object k s there true d n weak = ap (meant_of base_at object)
 by_kind os base_at object k s there false d n weak = named_same os base_at d n weak
 
 value_same : (l : Link) (p : Placement) (known : SymbolContext) → Knows l p known → (object k : ℕ) (s : Symbol) → symbol_of l.objects object k ≡ Some s
-    → known_value known object s ≡ (values_in l p object).symbol k
+    → known_value known object s ≡ (values_of l (region_number l.objects p) (base_in p) object).symbol k
 value_same l p known h object k s there =
     (λ i. cond (bit s.attributes 0 == 1) (meant_of (λ o a. h.bases o a i) object (Some s))
     (named_value (h.objects i) (λ o a. h.bases o a i) (h.definitions s.name i) (h.symbols s.name i)))
@@ -61,19 +61,19 @@ of_object f None k = refl
 of_object f (Some o) k = slice_get-map f o.symbols k
 
 there_or : (l : Link) (p : Placement) (known : SymbolContext) → Knows l p known → (object k : ℕ) (o : Option Symbol) → symbol_of l.objects object k ≡ o
-    → unwrap_or (option_map (known_value known object) o) (unplaced 0 false false) ≡ (values_in l p object).symbol k
+    → unwrap_or (option_map (taken_value p.boot known object) o) (unplaced 0 false false) ≡ (values_in l p object).symbol k
 there_or l p known h object k None there =
-    ap (λ (o : Option Symbol). meant_by l.objects (base_in p) (option_and_then (meaning_of l.definitions (region_number l.objects p) object k) o)) (sym there)
-there_or l p known h object k (Some s) there = value_same l p known h object k s there
+    ap (λ (o : Option Symbol). reduced_meant p.boot (meant_by l.objects (base_in p) (option_and_then (meaning_of l.definitions (region_number l.objects p) object k) o))) (sym there)
+there_or l p known h object k (Some s) there = ap (reduced_meant p.boot) (value_same l p known h object k s there)
 
 pub all_known : (l : Link) (p : Placement) (known : SymbolContext) (values : List (List SymbolValue)) → Knows l p known
-    → map (map meant) values ≡ all_values (known_value known) 0 l.objects → AreValues l p values
+    → map (map meant) values ≡ all_values (taken_value p.boot known) 0 l.objects → AreValues l p values
 all_known l p known values h e object k =
     ap (λ (o : Option Meant). unwrap_or o (unplaced 0 false false))
     (met (slice_get values object) k
-    ∙ ap (option_and_then (λ ms. slice_get ms k)) (sym (slice_get-map (map meant) values object) ∙ ap (λ (l : List (List Meant)). slice_get l object) e ∙ listed (known_value known) 0 l.objects object)
-    ∙ ap (λ (n : ℕ). option_and_then (λ ms. slice_get ms k) (option_map (λ o. map (known_value known n) o.symbols) (slice_get l.objects object))) from_zero
-    ∙ of_object (known_value known object) (slice_get l.objects object) k)
+    ∙ ap (option_and_then (λ ms. slice_get ms k)) (sym (slice_get-map (map meant) values object) ∙ ap (λ (l : List (List Meant)). slice_get l object) e ∙ listed (taken_value p.boot known) 0 l.objects object)
+    ∙ ap (λ (n : ℕ). option_and_then (λ ms. slice_get ms k) (option_map (λ o. map (taken_value p.boot known n) o.symbols) (slice_get l.objects object))) from_zero
+    ∙ of_object (taken_value p.boot known object) (slice_get l.objects object) k)
     ∙ there_or l p known h object k (symbol_of l.objects object k) refl
   where
     from_zero : 0 + object ≡ object

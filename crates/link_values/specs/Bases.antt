@@ -8,6 +8,7 @@ use Rattle.indexmap.specs.IndexMap.{IndexMap, get_by}
 use Rattle.link_model.specs.declared.placing.AreaName.{AreaName}
 use Rattle.link_model.specs.declared.placing.PlacedArea.{PlacedArea}
 use Rattle.link_model.specs.declared.placing.Placement.{Placement}
+use Rattle.link_model.specs.RegionValues.{reduced_by}
 use Rattle.link_values.specs.declared.bases.AreaBases.{AreaBases}
 use Rattle.link_values.specs.Placed.{is_area, base_in}
 
@@ -20,10 +21,10 @@ is_same a b = a.object == b.object && a.area == b.area
 abbrev pub address_in : Addresses → AreaName → Option ℕ
 address_in m a = get_by (is_same a) m
 
--- each area has the address that it has first among these
-abbrev pub AreAddresses : List PlacedArea → Addresses → Type 0
-AreAddresses areas m =
-    (a : AreaName) → address_in m a ≡ option_map (λ p. p.address) (find (is_area a.object a.area) areas)
+-- each area has the address, taken as it is in the image, that it has first among these
+abbrev pub AreAddresses : Option ℕ → List PlacedArea → Addresses → Type 0
+AreAddresses boot areas m =
+    (a : AreaName) → address_in m a ≡ option_map (λ p. reduced_by boot p.address) (find (is_area a.object a.area) areas)
 
 abbrev pub base_of : AreaBases → ℕ → ℕ → ℕ
 base_of bases object area = unwrap_or (address_in bases.addresses (record { object = object; area = area })) 0

@@ -16,7 +16,7 @@ use Rattle.link_values.specs.declared.values.SymbolContext.{SymbolContext}
 use Rattle.link_values.specs.Bases.{base_of, AreBases}
 use Rattle.link_values.specs.Index.{found_in, IsIndexOf}
 use Rattle.link_values.specs.Regions.{number_by, AreSymbols}
-use Rattle.link_values.specs.Placed.{values_in}
+use Rattle.link_values.specs.Placed.{reduced_meant, values_in}
 
 abbrev pub home : AreaOffset → Home
 home p = record { object = p.object; area = p.area; offset = p.offset }
@@ -55,6 +55,10 @@ abbrev pub known_value : SymbolContext → ℕ → Symbol → Meant
 known_value known object s =
     if bit s.attributes 0 == 1 then meant_of (base_of known.bases.now) object (Some s)
     else named_value (objects_in known.objects.now) (base_of known.bases.now) (found_in known.definitions s.name) (number_by known.symbols s.name)
+
+-- as branches take it
+abbrev pub taken_value : Option ℕ → SymbolContext → ℕ → Symbol → Meant
+taken_value boot known object s = reduced_meant boot (known_value known object s)
 
 -- of all symbols of objects, which are counted from i on
 abbrev pub all_values : (ℕ → Symbol → Meant) → ℕ → List Object → List (List Meant)

@@ -10,7 +10,7 @@ mod objects;
 mod regions;
 mod values;
 
-pub use crate::bases::{AreaBases, area_bases, base_at};
+pub use crate::bases::{AreaBases, area_bases, base_at, reduced};
 pub use crate::definitions::{Defined, index_definitions};
 pub use crate::moving::is_moving;
 pub use crate::names::find;

@@ -9,6 +9,7 @@ ghost use Rattle.link_model.specs.RegionValues.{plain_numbers, scatter_numbers, 
 ghost use Rattle.link_values.specs.Index.{found_in};
 ghost use Rattle.link_values.specs.Regions.{stem_extent as stem, area_number as of_area, number_by, AreNumbers, AreSymbols};
 
+use crate::bases::reduced;
 use crate::extents::{Extent, index_extents};
 use crate::names::{find, put};
 use crate::objects::sum;
@@ -200,15 +201,6 @@ fn full_number(symbols: &RegionSymbols, name: &[u8]) -> Option<u64>
         return Some(number);
     }
     area_number(&symbols.extents, name)
-}
-
-fn reduced(boot: Option<u32>, number: u64) -> u64
-    ensures { result ≡ reduced_by boot number }
-{
-    match boot {
-        None => number,
-        Some(_) => number % 0x1_0000_0000,
-    }
 }
 
 /// The number of a region symbol.

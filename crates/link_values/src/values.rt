@@ -6,9 +6,10 @@ ghost use Rattle.link_model.specs.Meaning.{symbol_of};
 ghost use Rattle.link_model.specs.RegionValues.{numbers_by};
 ghost use Rattle.link_model.specs.Values.{home_area as home, meant_of, unplaced as alone};
 ghost use Rattle.link_values.specs.Bases.{base_of, AreBases};
-ghost use Rattle.link_values.specs.Values.{meant, of_region, known_value, all_values, value_in, AreValues, Knows};
+ghost use Rattle.link_values.specs.Placed.{reduced_meant};
+ghost use Rattle.link_values.specs.Values.{meant, of_region, known_value, taken_value, all_values, value_in, AreValues, Knows};
 
-use crate::bases::{AreaBases, base_at};
+use crate::bases::{AreaBases, base_at, reduced};
 use crate::definitions::{Defined, index_definitions};
 use crate::names::find;
 use crate::objects::{sum, symbol_at};
@@ -158,38 +159,63 @@ fn value_of(known: &SymbolContext, object: u32, symbol: &Symbol) -> Result<Symbo
     }
 }
 
+/// The number of a value, in a scatter image modulo 2^32 where it is an address.
+fn reduced_number(boot: Option<u32>, value: SymbolValue) -> u64
+    ensures { result ≡ (reduced_meant boot (meant value)).number }
+{
+    match value.home {
+        None => value.number,
+        Some(_) => reduced(boot, value.number),
+    }
+}
+
+/// The same value with its number as branches take it.
+fn reduced_value(boot: Option<u32>, value: SymbolValue) -> SymbolValue
+    ensures { meant result ≡ reduced_meant boot (meant value) }
+{
+    SymbolValue {
+        number: reduced_number(boot, value),
+        thumb: value.thumb,
+        datum: value.datum,
+        home: value.home,
+    }
+}
+
 fn object_values(
     alloc: Global,
+    boot: Option<u32>,
     known: &SymbolContext,
     object: u32,
     symbols: &[Symbol],
 ) -> Result<List<SymbolValue>, NoMemory>
-    ensures { IfOk result (λ vs. map meant vs ≡ map (known_value known.now object) symbols.now) }
+    ensures { IfOk result (λ vs. map meant vs ≡ map (taken_value boot known.now object) symbols.now) }
 {
     let mut values = Vec::new(alloc);
     for symbol in symbols {
-        values.push(value_of(known, object, symbol)?)?;
+        values.push(reduced_value(boot, value_of(known, object, symbol)?))?;
     }
     Ok(List::from_vec(values))
 }
 
 fn values_of_objects(
     alloc: Global,
+    boot: Option<u32>,
     known: &SymbolContext,
     objects: &[Named<Object>],
 ) -> Result<Vec<List<SymbolValue>>, NoMemory>
     ensures { IfOk result (λ vs. map (map meant) vs.items
-        ≡ all_values (known_value known.now) 0 (objects_in objects.now)) }
+        ≡ all_values (taken_value boot known.now) 0 (objects_in objects.now)) }
 {
     let mut values = Vec::new(alloc);
     for (i, object) in objects.iter().enumerate() {
         let symbols = object.value.symbols.as_slice();
-        values.push(object_values(alloc, known, numbered(i)?, symbols)?)?;
+        values.push(object_values(alloc, boot, known, numbered(i)?, symbols)?)?;
     }
     Ok(values)
 }
 
-/// The values of the symbols of all linked objects, by the numbers of objects and symbols.
+/// The values of the symbols of all linked objects, by the numbers of objects and symbols; in a scatter
+/// image numbers are taken modulo 2^32.
 pub fn symbol_values(
     alloc: Global,
     linked: &Linked,
@@ -202,7 +228,8 @@ pub fn symbol_values(
     let objects = linked.objects.as_slice();
     let numbers = region_numbers(alloc, placement.boot, placement.regions.as_slice())?;
     let known = gathered(alloc, linked, placement, bases, numbers.as_slice())?;
-    Ok(List::from_vec(values_of_objects(alloc, &known, objects)?))
+    let values = values_of_objects(alloc, placement.boot, &known, objects)?;
+    Ok(List::from_vec(values))
 }
 
 /// The value of the symbol of a number of an object; 0, absolute, where none is there.

@@ -42,7 +42,7 @@ fn reach(thumb: bool, word: u32) -> u64
 }
 
 /// The veneer of a branch in a state, where it goes by one.
-fn led_to(region: u32, thumb: bool, distance: u64, to: BranchTarget) -> Option<Veneer>
+fn veneer_for(region: u32, thumb: bool, distance: u64, to: BranchTarget) -> Option<Veneer>
     requires { distance < 2 ^ 34 }
     ensures { result ≡ veneer_to region thumb distance to }
 {
@@ -90,7 +90,7 @@ fn led_by(
     let thumb = reloc.offset % 2 == 1;
     let far = distance(bytes, thumb, reloc.field().place)?;
     let to = named_target(linked, index, object, reloc.number())?;
-    led_to(region, thumb, far, to)
+    veneer_for(region, thumb, far, to)
 }
 
 /// The veneer that a relocation of an area in a region needs.

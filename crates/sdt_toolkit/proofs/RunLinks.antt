@@ -41,7 +41,7 @@ use Rattle.link_laws.proofs.MadeStart.{made_starts}
 use Rattle.bin_image.specs.Fields.{lacks}
 use Rattle.bin_image.specs.Files.{map_file, map_of as image_map, map_region}
 use Rattle.bin_image.specs.Maps.{IsRegion, IsValid}
-use Rattle.armlink_core.specs.declared.making.Made.{Made}
+use Rattle.armlink_core.specs.declared.making.PlacedImage.{PlacedImage}
 use Rattle.armlink_core.specs.Images.{image_of, loads_from}
 use Rattle.armlink_core.specs.Sizes.{copies_in, region_size, zeros_in}
 use Rattle.armlink_core.proofs.LoadLemmas.{copies_few, zeros_few}
@@ -90,7 +90,7 @@ module _ (s : Scatter) (ram : Option (List Range32)) (l : Linked) (a : Assigned)
   abbrev held : Filling
   held = filled_in l p plan
 
-  abbrev made : Made
+  abbrev made : PlacedImage
   made = record { linked = l; assigned = a; veneers = vs; placement = p; bytes = regions_bytes (link_of l) p }
 
   abbrev image : Image

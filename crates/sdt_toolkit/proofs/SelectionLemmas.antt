@@ -59,7 +59,7 @@ use Rattle.link_laws.specs.Placing.{IsPlacedLink, link_plan}
 use Rattle.link_laws.specs.Plans.{AreExportedOnce, AreMeant, IsExport, IsSelection, numbers_by}
 use Rattle.link_laws.proofs.MadePlacedLemmas.{is_placement}
 use Rattle.link_laws.proofs.PlanNumbers.{numbered}
-use Rattle.armlink_core.specs.declared.making.Made.{Made}
+use Rattle.armlink_core.specs.declared.making.PlacedImage.{PlacedImage}
 use Rattle.armlink_core.specs.Linking.{made_at, made_of, made_with, symbols_of}
 use Rattle.armlink_core.specs.Images.{image_made, image_of, linking}
 use Rattle.armlink_core.specs.Moves.{can_move, moves_in}
@@ -291,7 +291,7 @@ meant_by k ram l regions vs h names meanings each = λ own i s there scope.
 
 -- ---- a link that is answered
 
-abbrev pub made_by : (l : Linked) → Assigned → List Veneer → Placement → Made
+abbrev pub made_by : (l : Linked) → Assigned → List Veneer → Placement → PlacedImage
 made_by l a vs p = record { linked = l; assigned = a; veneers = vs; placement = p; bytes = regions_bytes (link_of l) p }
 
 -- it is made with a placement, and the image is that
@@ -323,12 +323,12 @@ still_image k ram i l a vs p fixed n =
 
 module _ (k : Kind) (ram : Option (List Range32)) (os : List (Named Object)) (i : Image) (sound : AreSound os)
     (loads : AllByRecursion (λ load. load.base % 4 ≡ 0) (description k)) (bases : AllByRecursion (λ r. IsWholeBase r.base) (described_regions k)) where
-  with_placement : (l : Linked) (a : Assigned) (vs : List Veneer) (p : Placement) (m : Made) (moves : List ℕ) → IsSelected os l → assignment_of k l.objects ≡ Ok a
+  with_placement : (l : Linked) (a : Assigned) (vs : List Veneer) (p : Placement) (m : PlacedImage) (moves : List ℕ) → IsSelected os l → assignment_of k l.objects ≡ Ok a
       → planned_veneers l a (has_header k) ≡ Ok vs → placed k ram (contents_of l.objects a.regions vs) ≡ Ok p → made_at l a vs p ≡ Ok m
       → moves_in k m.linked m.placement ≡ Ok moves → image_of k m moves ≡ i → IsAnsweredBy k ram i l a vs p
   with_placement l a vs p m moves s assigned planned places made listed image =
       let (bytes, applies, is) = steps_ok (applied l p) (λ bytes. Ok (record { linked = l; assigned = a; veneers = vs; placement = p; bytes = bytes })) m made in
-      let one : Made = record { linked = l; assigned = a; veneers = vs; placement = p; bytes = bytes } in
+      let one : PlacedImage = record { linked = l; assigned = a; veneers = vs; placement = p; bytes = bytes } in
       let (none, same) = not_refused (apply_refusal l p) (regions_bytes (link_of l) p) bytes applies in
       record {
         made = record {
@@ -343,9 +343,9 @@ module _ (k : Kind) (ram : Option (List Range32)) (os : List (Named Object)) (i 
           sound = none;
         };
         moves = moves;
-        listed = subst (λ (n : Made). moves_in k n.linked n.placement ≡ Ok moves) (sym (ok_same one m is)) listed;
+        listed = subst (λ (n : PlacedImage). moves_in k n.linked n.placement ≡ Ok moves) (sym (ok_same one m is)) listed;
         image = ap (λ (b : List (List ℕ)). image_of k (record { linked = l; assigned = a; veneers = vs; placement = p; bytes = b }) moves) (sym same)
-            ∙ ap (λ (n : Made). image_of k n moves) (ok_same one m is) ∙ image;
+            ∙ ap (λ (n : PlacedImage). image_of k n moves) (ok_same one m is) ∙ image;
       }
 
   pub answered : linking k ram os ≡ Ok i → IsAnswered k ram os i

@@ -5,7 +5,7 @@ use Rattle.link_apply.proofs.judging.sums_of.Goals as goal
 pub returns : goal.returns
 returns c = record {
   tells = λ values relocs f there unmixed kind. let h = tells values c.args.base relocs f c.args.start there unmixed kind in
-      record { more = h.more; less = h.less ∙ sym c.taken_by.ensures.value; symbol = h.symbol };
-  more = refl;
-  less = c.taken_by.ensures.bound;
+      record { added = h.added; subtracted = h.subtracted ∙ sym c.taken_by.ensures.value; symbol = h.symbol };
+  added = refl;
+  subtracted = c.taken_by.ensures.bound;
 }

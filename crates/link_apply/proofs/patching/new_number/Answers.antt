@@ -13,7 +13,7 @@ returns c =
           let place = c.from.ensures ∙ ap (λ (f : Field). f.place) c.field-field.ensures in
           let word = c.number_of-word.ensures ∙ ap (λ bytes. number_in bytes (field_of c.args.reloc)) c.as_slice.ensures in
           c.number_by.ensures.value p region leads
-          ∙ (λ i. number_with p region (c.args.base + place i) (word i) c.sums_of.result.more c.sums_of.result.less (way_by c.args.detour.target) (kind i))
+          ∙ (λ i. number_with p region (c.args.base + place i) (word i) c.sums_of.result.added c.sums_of.result.subtracted (way_by c.args.detour.target) (kind i))
           ∙ numbered p values region c.args.base number c.args.area.now c.args.reloc c.args.start c.sums_of.result (way_by c.args.detour.target) own there sound
           (λ unmixed same. c.sums_of.ensures.tells values c.args.area.now.relocs (field_of c.args.reloc) there unmixed same) goes;
       bound = subst (λ k. c.number_by.result < 256 ^ size_of k) kind c.number_by.ensures.bound;

@@ -12,8 +12,8 @@ returns c = λ bases number own there t branch sound.
     let place = c.from.ensures ∙ ap (λ (f : Field). f.place) c.field-field.ensures in
     let word = c.number_of-word.ensures ∙ ap (λ bytes. number_in bytes (field_of c.args.reloc)) c.as_slice.ensures in
     let thumb : c.is_thumb-thumb.result ≡ t = c.is_thumb-thumb.ensures t (ap (λ (f : Field). f.kind) c.field-field.ensures ∙ branch) in
-    let more = sym told.more in
-    let less = sym told.less in
+    let more = sym told.added in
+    let less = sym told.subtracted in
     let symbol = sym told.symbol in
     c.target_by.ensures
     ∙ (λ i. way_to (thumb i) (total (c.args.base + place i + ahead (thumb i) + span (thumb i) (word i)) 0 (middle (thumb i))) (more i) (less i)

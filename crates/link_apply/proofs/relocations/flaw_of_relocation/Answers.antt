@@ -15,6 +15,6 @@ returns c = λ p region values known leads goes.
     let only = c.is_only_at-only.ensures in
     let kind : c.field-field.result.kind ≡ kind_of c.args.reloc = ap (λ (f : Field). f.kind) c.field-field.ensures in
     c.flaw_of_field.ensures p region leads
-    ∙ (λ i. flaw_by p region (c.args.base + place i) (word i) c.sums_of-sums.result.more c.sums_of-sums.result.less (only i) (way_by c.args.detour.target) (kind i))
+    ∙ (λ i. flaw_by p region (c.args.base + place i) (word i) c.sums_of-sums.result.added c.sums_of-sums.result.subtracted (only i) (way_by c.args.detour.target) (kind i))
     ∙ judged p values region c.args.base c.args.number c.args.area.now c.args.reloc c.args.start c.sums_of-sums.result (way_by c.args.detour.target) c.requires.own there sound
     (λ unmixed same. c.sums_of-sums.ensures.tells values c.args.area.now.relocs (field_of c.args.reloc) there unmixed same) goes
