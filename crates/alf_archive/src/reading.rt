@@ -11,13 +11,13 @@ ghost use Rattle.alf_archive.specs.Grammar.{IsValid, ReadsArchive};
 
 use crate::entries::{Slot, bad_library, read_slot};
 use crate::records::{Archive, Member};
-use aof_object::{Found, Object, find, note_name, read_object, terminated_name};
+use aof_object::{Area, Found, Object, Symbol, find, note_name, read_object, terminated_name};
 use chunk_file::{Span, bytes_of_span, read_table};
 use indexmap::IndexMap;
 use sdt_fault::answer::Fault;
 use sdt_fault::kinds::FileKind;
 use sdt_fault::refusal::Refusal;
-use sdt_fault::{List, Text};
+use sdt_fault::{List, NoMemory, Text};
 use std::alloc::Global;
 
 /// The chunk of a number, where it is one of a member.
@@ -122,7 +122,43 @@ fn read_member<'a>(
     read_member_in(alloc, b, at, name, data_chunk(spans, slot.index))
 }
 
-/// Reads the entry behind some members, and adds its member where it is used.
+/// The most bytes that the members of a library take up, whose entries may all name one chunk.
+const MOST_BYTES: usize = 1 << 30;
+
+/// What an area or a symbol takes up beside its contents and its name.
+const RECORD_BYTES: usize = 64;
+
+fn bytes_of_areas(areas: &[Area]) -> usize {
+    let mut bytes: usize = 0;
+    for area in areas {
+        bytes = bytes
+            .saturating_add(RECORD_BYTES)
+            .saturating_add(area.name.as_slice().len())
+            .saturating_add(area.bytes.as_slice().len())
+            .saturating_add(area.relocs.as_slice().len().saturating_mul(8));
+    }
+    bytes
+}
+
+fn bytes_of_symbols(symbols: &[Symbol]) -> usize {
+    let mut bytes: usize = 0;
+    for symbol in symbols {
+        bytes = bytes
+            .saturating_add(RECORD_BYTES)
+            .saturating_add(symbol.name.as_slice().len());
+    }
+    bytes
+}
+
+/// How many bytes are left for others behind a member.
+fn left_behind(left: usize, member: &Member) -> Result<usize, NoMemory> {
+    let areas = bytes_of_areas(member.object.areas.as_slice());
+    let symbols = bytes_of_symbols(member.object.symbols.as_slice());
+    left.checked_sub(areas.saturating_add(symbols))
+        .ok_or(NoMemory)
+}
+
+/// Reads the entry behind some members, and adds its member where it is used and there is room for it.
 #[tactic(auto, unfolding(crate::specs::Archives::with_entry))]
 fn add_entry<'a>(
     alloc: Global,
@@ -130,6 +166,7 @@ fn add_entry<'a>(
     spans: &[Option<Span>],
     taken: &mut IndexMap<&'a [u8], u32>,
     members: &mut Vec<Member>,
+    left: &mut usize,
     at: usize,
     text: &'a [u8],
     slot: Slot,
@@ -144,6 +181,7 @@ fn add_entry<'a>(
         return Ok(());
     }
     let member = read_member(alloc, b, spans, taken, at, text, slot)?;
+    *left = left_behind(*left, &member)?;
     members.push(member)?;
     Ok(())
 }
@@ -162,6 +200,7 @@ fn read_members(
 {
     let mut taken = IndexMap::new(alloc);
     let mut members = Vec::new(alloc);
+    let mut left = MOST_BYTES;
     let mut at = 0;
     while at < dir.len() {
         let slot = read_slot(alloc, start, dir, at)?;
@@ -172,6 +211,7 @@ fn read_members(
             spans,
             &mut taken,
             &mut members,
+            &mut left,
             start + at,
             text,
             slot,
@@ -205,7 +245,8 @@ fn archive(alloc: Global, b: &[u8]) -> Result<Archive, Fault>
 }
 
 /// The members of a library. Gives `BadChunk`, `BadLibrary` and, for a member, `BadObject`, each with an
-/// empty file name and an offset in the whole file. OFL_SYMT is never read.
+/// empty file name and an offset in the whole file. OFL_SYMT is never read. Members that take up more than 2^30 bytes
+/// in all count as want of memory.
 pub fn read_archive(alloc: Global, b: &[u8]) -> Result<Archive, Fault>
     requires { length b.now < 2 ^ 32 }
     // What is read is what the bytes say.
