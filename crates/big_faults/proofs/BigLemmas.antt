@@ -109,7 +109,7 @@ or_parts : (a b : Bool) → (a || b) ≡ false → (a ≡ false) × (b ≡ false
 or_parts true b h = absurd (cc)
 or_parts false b h = (refl, h)
 
-entered : (d : List LaidName) (source : List ℕ) (registers names_settled : List (List ℕ)) (all : List Statement) → is_thumb_area 0 all ≡ false
+pub entered : (d : List LaidName) (source : List ℕ) (registers names_settled : List (List ℕ)) (all : List Statement) → is_thumb_area 0 all ≡ false
     → AreLaid d registers names_settled all (codes "big" ∷ []) 0 contents.Code (λ b. 0)
     (stated source 2 None (what.Directive line.Entry) ∷ stated source 1 None (area_what (codes "big") contents.Code true) ∷ [])
 entered d source registers names_settled all arm = record {
@@ -128,11 +128,11 @@ entered d source registers names_settled all arm = record {
     by_test true = refl
     by_test false = refl
 
-abbrev pub code_words : ℕ → ℕ → ℕ
-code_words n = more 0 2 (more 0 n (more 0 1 (λ b. 0)))
+abbrev pub code_ends : ℕ → ℕ → ℕ
+code_ends n = more 0 2 (more 0 n (more 0 1 (λ b. 0)))
 
 pub code_laid : (d : List LaidName) (source : List ℕ) (registers names_settled : List (List ℕ)) (all : List Statement) (n : ℕ) → is_thumb_area 0 all ≡ false → n ≤ 50000
-    → AreLaid d registers names_settled all (codes "big" ∷ []) 0 contents.Code (code_words n) (code_part source n)
+    → AreLaid d registers names_settled all (codes "big" ∷ []) 0 contents.Code (code_ends n) (code_part source n)
 code_laid d source registers names_settled all n arm few =
     let many = many_steps source 4 n in
     let one =
@@ -162,7 +162,7 @@ zero_fits : (o : Option ℕ) (a : ℕ) (ps : List Piece) (thumb : Bool) (w : Wha
 zero_fits o a ps thumb w n e al h few = rw (e, al thumb (waiting a ps), h) (le-ltb area_bytes (raised (4 * n) 1 + 0) (omega arith))
 
 -- the second area
-second_laid : (d : List LaidName) (source : List ℕ) (at : ℕ) (registers names_settled : List (List ℕ)) (all : List Statement) (E : ℕ → ℕ) (ss : List Statement) → E 1 ≡ 0
+pub second_laid : (d : List LaidName) (source : List ℕ) (at : ℕ) (registers names_settled : List (List ℕ)) (all : List Statement) (E : ℕ → ℕ) (ss : List Statement) → E 1 ≡ 0
     → AreLaid d registers names_settled all (codes "big" ∷ []) 0 contents.Code E ss
     → AreLaid d registers names_settled all (codes "big" ∷ codes "bigrw" ∷ []) 1 contents.Data E (stated source at None (area_what (codes "bigrw") contents.Data false) ∷ ss)
 second_laid d source at registers names_settled all E ss none h =
@@ -249,13 +249,13 @@ begun_enter all d source h = (
 -- ---- all
 
 pub data_laid : (d : List LaidName) (source : List ℕ) (registers names_settled : List (List ℕ)) (all : List Statement) (n : ℕ) → is_thumb_area 0 all ≡ false → n ≤ 50000
-    → AreLaid d registers names_settled all (codes "big" ∷ codes "bigrw" ∷ []) 1 contents.Data (more 1 n (code_words n)) (data_part source n)
+    → AreLaid d registers names_settled all (codes "big" ∷ codes "bigrw" ∷ []) 1 contents.Data (more 1 n (code_ends n)) (data_part source n)
 data_laid d source registers names_settled all n arm few =
     let many = many_data source (n + 7) n in
     let code = code_laid d source registers names_settled all n arm few in
-    let second = second_laid d source (n + 6) registers names_settled all (code_words n) (code_part source n) refl code in
+    let second = second_laid d source (n + 6) registers names_settled all (code_ends n) (code_part source n) refl code in
     let words =
-    words_have_no_fault d registers names_settled all (codes "big" ∷ codes "bigrw" ∷ []) 1 contents.Data (code_words n) (data_statements source (n + 7) n) _ tt second
+    words_have_no_fault d registers names_settled all (codes "big" ∷ codes "bigrw" ∷ []) 1 contents.Data (code_ends n) (data_statements source (n + 7) n) _ tt second
     (data_are_words source (n + 7) n) (data_fresh source (n + 7) n _) (omega arith) in
     rw many at words
 
@@ -268,14 +268,14 @@ big_has_no_fault source n few =
     let calm = all_calm source n in
     let many = many_data source (n + 7) n in
     let code = code_laid d source registers known all n (calm_area 0 all calm) few in
-    let second = second_laid d source (n + 6) registers known all (code_words n) (code_part source n) refl code in
+    let second = second_laid d source (n + 6) registers known all (code_ends n) (code_part source n) refl code in
     let words =
-    words_have_no_fault d registers known all (codes "big" ∷ codes "bigrw" ∷ []) 1 contents.Data (code_words n) (data_statements source (n + 7) n) _ tt second
+    words_have_no_fault d registers known all (codes "big" ∷ codes "bigrw" ∷ []) 1 contents.Data (code_ends n) (data_statements source (n + 7) n) _ tt second
     (data_are_words source (n + 7) n) (data_fresh source (n + 7) n _) (omega arith) in
     let first = end_laid d source (n + n + 7) registers known all (codes "big" ∷ codes "bigrw" ∷ []) _ (data_part source n) (omega arith) words in
     let last : area_behind (statements_of (laid_of d (data_part source n))) ≡ Some 1 = rw (same_statements d (data_part source n)) words.stand.area in
     let size : 0 < area_size 0 (pieces_of (laid all)) =
-    some_size (pieces_of (laid all)) (more 1 (length (data_statements source (n + 7) n)) (code_words n) 0)
+    some_size (pieces_of (laid all)) (more 1 (length (data_statements source (n + 7) n)) (code_ends n) 0)
     (ends_zero 0 1 _ _ (pieces_of (laid_of d (data_part source n))) _ last refl (words.stand.ends 0)) (omega arith) in
     let enter =
     enter_on (laid all) d (stated source (n + n + 7) None (what.Directive line.End) ∷ data_statements source (n + 7) n) _ (refl, data_enter source (n + 7) n)

@@ -1,3 +1,4 @@
 mod BigLemmas
+mod BytesLemmas
 mod ShapeLemmas
 mod StatementLemmas

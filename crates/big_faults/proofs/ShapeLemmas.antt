@@ -1,11 +1,15 @@
 -- The shape of the object of a generated source.
-use Rattle.std.proofs.Common.{◌≡◌, ℕ, zero, suc, ◌+◌, ◌*◌, ◌%◌, ◌<◌, List, [], ◌∷◌, ◌++◌, length, map, Bool, true, false, cond, refl, sym, ◌∙◌, ap, arith, Option, Some, None, ◌⊎◌, inl, inr}
+use Rattle.std.proofs.Common.{◌≡◌, ℕ, zero, suc, ◌+◌, ◌*◌, ◌%◌, ◌<◌, ◌≤◌, List, [], ◌∷◌, ◌++◌, length, map, Bool, true, false, cond, refl, sym, ◌∙◌, ap, arith, Option, Some, None, ◌⊎◌, inl, inr}
 use Rattle.std.specs.Prelude.{Result, Ok, codes, slice_get}
 use Rattle.std.proofs.lemmas.Bool.{and_right}
 use Rattle.std.proofs.lemmas.Option.{same_Some}
 use Rattle.sdt_fault.specs.declared.kinds.LineKind.{LineKind}
+use Rattle.aof_object.specs.declared.records.Area.{Area}
 use Rattle.aof_object.specs.declared.records.Entry.{Entry}
+use Rattle.aof_object.specs.declared.records.Object.{Object}
 use Rattle.aof_object.specs.declared.records.Reloc.{Reloc}
+use Rattle.aof_object.specs.declared.records.Symbol.{Symbol}
+use Rattle.asm_model.specs.declared.directives.Contents.{Contents}
 use Rattle.asm_model.specs.declared.directives.Contents.TheVariants as contents
 use Rattle.asm_model.specs.declared.directives.DirectiveLine.TheVariants as line
 use Rattle.asm_model.specs.declared.names.LaidName.{LaidName}
@@ -24,17 +28,19 @@ use Rattle.asm_model.specs.LayoutKinds.{settled, equals_in}
 use Rattle.asm_model.specs.Offsets.{Piece, waiting, pooled, all_pooled, area_size, end_behind, is_of}
 use Rattle.asm_model.specs.Symbols.{symbols_of, symbols_in}
 use Rattle.source_model.specs.Contexts.{Context}
-use Rattle.source_model.specs.Objects.{Source, attributes_of, says_area, source_of, entry_of, entry_by, relocs_of, units_from, or_none, pieces_in, things_of, things_behind, things_in, words_of, StandsIn, IsAmong, IsRelocOf, HasRelocs, unit_bytes, IsObject}
+use Rattle.source_model.specs.Objects.{Source, attributes_of, says_area, source_of, entry_of, relocs_of, units_from, or_none, things_of, things_behind, words_of, StandsIn, IsAmong, HasRelocs, unit_bytes, IsObject, is_kept, contents_in, contents_of, HoldsBytes, KeepsBytes}
 use Rattle.source_model.specs.Objects as objects
 use Rattle.source_model.specs.Registers.{register_names}
 use Rattle.source_model.specs.Units.{Emitted, units}
 use Rattle.big_model.specs.Statements.{area_what, stated, datum_what, step_what, clear, give, leave, step_statements, data_statements, begun, code_part, data_part, big_statements}
-use Rattle.big_faults.specs.Big.{BigIsShaped}
+use Rattle.big_model.specs.Words.{code_words, data_words}
+use Rattle.big_faults.specs.Big.{words_bytes, code_area, data_area, BigHasObject}
 use Rattle.word_source.specs.Words.{more}
 use Rattle.word_source.proofs.WordLemmas.{same_statements}
 use Rattle.word_source.proofs.CalmLemmas.{calm_area}
 use Rattle.big_faults.proofs.StatementLemmas.{data_small}
-use Rattle.big_faults.proofs.BigLemmas.{all_calm, code_laid, data_laid, code_words, ends_zero, NoEntries, steps_enter, data_enter}
+use Rattle.big_faults.proofs.BytesLemmas.{code_bytes, data_bytes}
+use Rattle.big_faults.proofs.BigLemmas.{all_calm, entered, code_laid, second_laid, data_laid, code_ends, ends_zero, NoEntries, steps_enter, data_enter}
 
 -- a statement that takes up a block, names no symbol, and whose units aren't relocated
 abbrev IsBare : Emitted → Type 0
@@ -48,30 +54,35 @@ record IsMute (w : What) : Type 0 where
   block : (s : Names) → (a : ℕ) × (n : ℕ) × (extent_of s w ≡ Ok (Block a n))
   no_symbols : (names : List LaidName) (l : SourceLine) (a n : ℕ) → symbols_in names l (Block a n) w ≡ []
   bare : (c : Context) (data_names : List (List ℕ)) (s : Names) (word : Option ℕ) → AreBare (or_none (units c data_names s word w))
+  kept : (area : ℕ) (l : LaidLine) → is_kept (contents_in area l w) ≡ true
+
+kept_if : (t : Bool) (c : Contents) → is_kept (Some c) ≡ true → is_kept (cond t (Some c) None) ≡ true
+kept_if true c h = h
+kept_if false c h = refl
 
 step_mute : (v : ℕ) → v < 256 → IsMute (step_what v)
-step_mute v h = record { block = λ s. (4, 4, refl); no_symbols = λ names l a n. refl; bare = λ c d s word. rw (data_small _ _ false 4 4 v h) ((λ s at. refl), tt) }
+step_mute v h = record { block = λ s. (4, 4, refl); no_symbols = λ names l a n. refl; bare = λ c d s word. rw (data_small _ _ false 4 4 v h) ((λ s at. refl), tt); kept = λ area l. refl }
 
 clear_mute : IsMute clear
-clear_mute = record { block = λ s. (4, 4, refl); no_symbols = λ names l a n. refl; bare = λ c d s word. rw (data_small _ _ false 0 4 0 (omega arith)) ((λ s at. refl), tt) }
+clear_mute = record { block = λ s. (4, 4, refl); no_symbols = λ names l a n. refl; bare = λ c d s word. rw (data_small _ _ false 0 4 0 (omega arith)) ((λ s at. refl), tt); kept = λ area l. refl }
 
 give_mute : IsMute give
-give_mute = record { block = λ s. (4, 4, refl); no_symbols = λ names l a n. refl; bare = λ c d s word. ((λ s at. refl), tt) }
+give_mute = record { block = λ s. (4, 4, refl); no_symbols = λ names l a n. refl; bare = λ c d s word. ((λ s at. refl), tt); kept = λ area l. refl }
 
 leave_mute : IsMute leave
-leave_mute = record { block = λ s. (4, 4, refl); no_symbols = λ names l a n. refl; bare = λ c d s word. ((λ s at. refl), tt) }
+leave_mute = record { block = λ s. (4, 4, refl); no_symbols = λ names l a n. refl; bare = λ c d s word. ((λ s at. refl), tt); kept = λ area l. refl }
 
 datum_mute : (k : ℕ) → IsMute (datum_what k)
-datum_mute k = record { block = λ s. (4, 4, refl); no_symbols = λ names l a n. refl; bare = λ c d s word. ((λ s at. refl), tt) }
+datum_mute k = record { block = λ s. (4, 4, refl); no_symbols = λ names l a n. refl; bare = λ c d s word. ((λ s at. refl), tt); kept = λ area l. refl }
 
 end_mute : IsMute (what.Directive line.End)
-end_mute = record { block = λ s. (1, 0, refl); no_symbols = λ names l a n. refl; bare = λ c d s word. tt }
+end_mute = record { block = λ s. (1, 0, refl); no_symbols = λ names l a n. refl; bare = λ c d s word. tt; kept = λ area l. refl }
 
 rw_mute : IsMute (area_what (codes "bigrw") contents.Data false)
-rw_mute = record { block = λ s. (1, 0, refl); no_symbols = λ names l a n. refl; bare = λ c d s word. tt }
+rw_mute = record { block = λ s. (1, 0, refl); no_symbols = λ names l a n. refl; bare = λ c d s word. tt; kept = λ area l. kept_if (is_of area l.area) contents.Data refl }
 
 code_mute : IsMute (area_what (codes "big") contents.Code true)
-code_mute = record { block = λ s. (1, 0, refl); no_symbols = λ names l a n. refl; bare = λ c d s word. tt }
+code_mute = record { block = λ s. (1, 0, refl); no_symbols = λ names l a n. refl; bare = λ c d s word. tt; kept = λ area l. kept_if (is_of area l.area) contents.Code refl }
 
 abbrev entry_extent : Bool → Result Extent LineKind
 entry_extent t = Ok (cond t (Block 2 0) (Block 4 0))
@@ -81,7 +92,7 @@ entry_block true = (2, 0, refl)
 entry_block false = (4, 0, refl)
 
 entry_mute : IsMute (what.Directive line.Entry)
-entry_mute = record { block = λ s. entry_block s.thumb; no_symbols = λ names l a n. refl; bare = λ c d s word. tt }
+entry_mute = record { block = λ s. entry_block s.thumb; no_symbols = λ names l a n. refl; bare = λ c d s word. tt; kept = λ area l. refl }
 
 abbrev AllMute : List Statement → Type 0
 AllMute [] = Unit {0}
@@ -91,9 +102,9 @@ joined_mute : (ss ts : List Statement) → AllMute ss → AllMute ts → AllMute
 joined_mute [] ts h k = k
 joined_mute (s ∷ ss) ts h k = (h.0, joined_mute ss ts h.1 k)
 
-sums_mute : (source : List ℕ) (at n : ℕ) → AllMute (step_statements source at n)
-sums_mute source at zero = tt
-sums_mute source at (suc k) = (step_mute (k % 256) (omega arith), sums_mute source at k)
+steps_mute : (source : List ℕ) (at n : ℕ) → AllMute (step_statements source at n)
+steps_mute source at zero = tt
+steps_mute source at (suc k) = (step_mute (k % 256) (omega arith), steps_mute source at k)
 
 data_mute : (source : List ℕ) (at n : ℕ) → AllMute (data_statements source at n)
 data_mute source at zero = tt
@@ -103,8 +114,18 @@ all_mute : (source : List ℕ) (n : ℕ) → AllMute (big_statements source n)
 all_mute source n = (
   end_mute,
   joined_mute (data_statements source (n + 7) n) _ (data_mute source (n + 7) n)
-      (rw_mute, (leave_mute, (give_mute, joined_mute (step_statements source 4 n) (begun source) (sums_mute source 4 n) (clear_mute, (entry_mute, (code_mute, tt)))))),
+      (rw_mute, (leave_mute, (give_mute, joined_mute (step_statements source 4 n) (begun source) (steps_mute source 4 n) (clear_mute, (entry_mute, (code_mute, tt)))))),
 )
+
+-- ---- contents
+
+kept_or : (a b : Option Contents) → is_kept a ≡ true → is_kept b ≡ true → is_kept (or_else a b) ≡ true
+kept_or None b h k = k
+kept_or (Some c) b h k = h
+
+all_kept : (area : ℕ) (d : List LaidName) (ss : List Statement) → AllMute ss → is_kept (contents_of area (laid_of d ss)) ≡ true
+all_kept area d [] h = refl
+all_kept area d (s ∷ ss) h = kept_or (contents_of area (laid_of d ss)) _ (all_kept area d ss h.1) (h.0.kept area (laid_behind d s (laid_of d ss)))
 
 -- ---- symbols and pools
 
@@ -189,10 +210,10 @@ entry_on d (s ∷ ss) rest h = rw (h.0) (or_none_after (entry_of (laid_of d (ss 
 size_is : (area : ℕ) (ps : List Piece) (n : ℕ) → waiting area ps ≡ [] → end_behind area ps ≡ 4 * n → area_size area ps ≡ 4 * n
 size_is area ps n w e = rw (w, e) (omega arith)
 
-first_words : (n : ℕ) → more 1 n (code_words n) 0 ≡ n + 3
+first_words : (n : ℕ) → more 1 n (code_ends n) 0 ≡ n + 3
 first_words n = omega arith
 
-second_words : (n : ℕ) → more 1 n (code_words n) 1 ≡ n
+second_words : (n : ℕ) → more 1 n (code_ends n) 1 ≡ n
 second_words n = omega arith
 
 no_pool : (area : ℕ) (ps : List Piece) → pooled area ps ≡ [] → waiting area ps ≡ [] → all_pooled area ps ≡ []
@@ -265,33 +286,73 @@ second_at : (d : List LaidName) (source : List ℕ) (at : ℕ) (ss : List Statem
     → area_behind (stated source at None (area_what (codes "bigrw") contents.Data false) ∷ statements_of (laid_of d ss)) ≡ Some 1
 second_at d source at ss h = rw (same_statements d ss, h) refl
 
-pub big_is_shaped : BigIsShaped
-big_is_shaped source n o few h =
+holds_kept : (s : Source) (area : ℕ) (t : Bool) (bytes : List ℕ) → t ≡ true → KeepsBytes s area t bytes → HoldsBytes s area bytes
+holds_kept s area true bytes e h = h
+holds_kept s area false bytes e h = absurd (cc)
+
+-- ---- the object
+
+same_area : (a : Area) (name : List ℕ) (attributes size : ℕ) (bytes : List ℕ) (relocs : List Reloc) → a.name ≡ name → a.attributes ≡ attributes → a.size ≡ size → a.bytes ≡ bytes → a.relocs ≡ relocs
+    → a ≡ record { name = name; attributes = attributes; size = size; bytes = bytes; relocs = relocs }
+same_area a name attributes size bytes relocs en ea es eb er = rw (← en, ← ea, ← es, ← eb, ← er) refl
+
+two_areas : (both : List Area) (a b : Area) → length both ≡ 2 → ((x : Area) → slice_get both 0 ≡ Some x → x ≡ a) → ((x : Area) → slice_get both 1 ≡ Some x → x ≡ b) → both ≡ a ∷ b ∷ []
+two_areas [] a b e f g = absurd (omega arith)
+two_areas (x ∷ []) a b e f g = absurd (omega arith)
+two_areas (x ∷ y ∷ []) a b e f g = let p = f x refl in let q = g y refl in rw (p, q) refl
+two_areas (x ∷ y ∷ z ∷ zs) a b e f g = absurd (omega arith)
+
+same_object : (o : Object) (areas : List Area) (symbols : List Symbol) (entry : Option Entry) → o.areas ≡ areas → o.symbols ≡ symbols → o.entry ≡ entry
+    → o ≡ record { areas = areas; symbols = symbols; entry = entry }
+same_object o areas symbols entry ea es ee = rw (← ea, ← es, ← ee) refl
+
+code_is : (source : List ℕ) (n : ℕ) (o : Object) → n ≤ 50000 → IsObject (big_statements source n) o → (a : Area) → slice_get o.areas 0 ≡ Some a → a ≡ code_area n
+code_is source n o few h a e =
+    let all = big_statements source n in
+    let d = declared_names all in
+    let mute = all_mute source n in
+    let arm = calm_area 0 all (all_calm source n) in
+    let laid_out = data_laid d source (register_names all) (settled (equals_in all)) all n arm few in
+    let start = entered d source (register_names all) (settled (equals_in all)) all arm in
+    let last : area_behind (statements_of (laid_of d (data_part source n))) ≡ Some 1 = rw (same_statements d (data_part source n)) laid_out.stand.area in
+    let end = ends_zero 0 1 _ _ (pieces_of (laid_of d (data_part source n))) _ last refl (laid_out.stand.ends 0) in
+    let size = size_is 0 (pieces_of (laid all)) (n + 3) (none_wait 0 d all mute) (end ∙ ap (λ (m : ℕ). 4 * m) (first_words n)) in
+    let x = h.areas 0 a e in
+    let holds = holds_kept (source_of all) 0 (is_kept (contents_of 0 (laid all))) a.bytes (all_kept 0 d all mute) x.bytes in
+    same_area a (codes "big") 0x2202 (4 * (n + 3)) (words_bytes (code_words n)) []
+    (same_Some _ _ (sym x.name ∙ ap (λ (ns : List (List ℕ)). slice_get ns 0) laid_out.stand.areas))
+    (same_Some _ _ (sym x.attributes ∙ ap (λ (t : Bool). attributes_of 0 t (laid all)) arm ∙ code_attributes d source n))
+    (x.size ∙ size) (code_bytes source n (codes "big" ∷ []) a.bytes start.stand holds (holds.size ∙ size))
+    (no_relocs (source_of all) 0 a.relocs (no_area_relocs source n mute 0) x.relocs)
+
+data_is : (source : List ℕ) (n : ℕ) (o : Object) → n ≤ 50000 → IsObject (big_statements source n) o → (a : Area) → slice_get o.areas 1 ≡ Some a → a ≡ data_area n
+data_is source n o few h a e =
+    let all = big_statements source n in
+    let d = declared_names all in
+    let mute = all_mute source n in
+    let arm = calm_area 0 all (all_calm source n) in
+    let laid_out = data_laid d source (register_names all) (settled (equals_in all)) all n arm few in
+    let code_stand = code_laid d source (register_names all) (settled (equals_in all)) all n arm few in
+    let second = second_laid d source (n + 6) (register_names all) (settled (equals_in all)) all (code_ends n) (code_part source n) refl code_stand in
+    let there : area_behind (stated source (n + 6) None (area_what (codes "bigrw") contents.Data false) ∷ statements_of (laid_of d (code_part source n))) ≡ Some 1 =
+    second_at d source (n + 6) (code_part source n) code_stand.stand.areas in
+    let last : area_behind (statements_of (laid_of d (data_part source n))) ≡ Some 1 = rw (same_statements d (data_part source n)) laid_out.stand.area in
+    let end = ends_zero 1 1 _ _ (pieces_of (laid_of d (data_part source n))) _ last refl (laid_out.stand.ends 1) in
+    let size = size_is 1 (pieces_of (laid all)) n (none_wait 1 d all mute) (end ∙ ap (λ (m : ℕ). 4 * m) (second_words n)) in
+    let x = h.areas 1 a e in
+    let holds = holds_kept (source_of all) 1 (is_kept (contents_of 1 (laid all))) a.bytes (all_kept 1 d all mute) x.bytes in
+    same_area a (codes "bigrw") 2 (4 * n) (words_bytes (data_words n)) []
+    (same_Some _ _ (sym x.name ∙ ap (λ (ns : List (List ℕ)). slice_get ns 1) laid_out.stand.areas))
+    (same_Some _ _ (sym x.attributes ∙ ap (λ (t : Bool). attributes_of 1 t (laid all)) (calm_area 1 all (all_calm source n)) ∙ data_attributes d source n there))
+    (x.size ∙ size) (data_bytes source n (codes "big" ∷ codes "bigrw" ∷ []) (code_ends n) a.bytes refl second.stand holds (holds.size ∙ size))
+    (no_relocs (source_of all) 1 a.relocs (no_area_relocs source n mute 1) x.relocs)
+
+pub big_has_object : BigHasObject
+big_has_object source n o few h =
     let all = big_statements source n in
     let d = declared_names all in
     let mute = all_mute source n in
     let laid_out = data_laid d source (register_names all) (settled (equals_in all)) all n (calm_area 0 all (all_calm source n)) few in
-    let last : area_behind (statements_of (laid_of d (data_part source n))) ≡ Some 1 = rw (same_statements d (data_part source n)) laid_out.stand.area in
-    let code_stand = code_laid d source (register_names all) (settled (equals_in all)) all n (calm_area 0 all (all_calm source n)) few in
-    let second_there : area_behind (stated source (n + 6) None (area_what (codes "bigrw") contents.Data false) ∷ statements_of (laid_of d (code_part source n))) ≡ Some 1 =
-    second_at d source (n + 6) (code_part source n) code_stand.stand.areas in
-    let first_end = ends_zero 0 1 _ _ (pieces_of (laid_of d (data_part source n))) _ last refl (laid_out.stand.ends 0) in
-    let second_end = ends_zero 1 1 _ _ (pieces_of (laid_of d (data_part source n))) _ last refl (laid_out.stand.ends 1) in
-    let bare = no_area_relocs source n mute in
-    record {
-      count = h.count ∙ ap length laid_out.stand.areas;
-      symbols = h.symbols ∙ ap (map _) (no_symbols _ d all mute);
-      entry = h.entry ∙ entry_is d source n;
-      code = λ a e. let x = h.areas 0 a e in (
-        same_Some _ _ (sym x.name ∙ ap (λ (ns : List (List ℕ)). slice_get ns 0) laid_out.stand.areas),
-        same_Some _ _ (sym x.attributes ∙ ap (λ (t : Bool). attributes_of 0 t (laid all)) (calm_area 0 all (all_calm source n)) ∙ code_attributes d source n),
-        x.size ∙ size_is 0 (pieces_of (laid all)) (n + 3) (none_wait 0 d all mute) (first_end ∙ ap (λ (m : ℕ). 4 * m) (first_words n)),
-        no_relocs (source_of all) 0 a.relocs (bare 0) x.relocs,
-      );
-      words = λ a e. let x = h.areas 1 a e in (
-        same_Some _ _ (sym x.name ∙ ap (λ (ns : List (List ℕ)). slice_get ns 1) laid_out.stand.areas),
-        same_Some _ _ (sym x.attributes ∙ ap (λ (t : Bool). attributes_of 1 t (laid all)) (calm_area 1 all (all_calm source n)) ∙ data_attributes d source n second_there),
-        x.size ∙ size_is 1 (pieces_of (laid all)) n (none_wait 1 d all mute) (second_end ∙ ap (λ (m : ℕ). 4 * m) (second_words n)),
-        no_relocs (source_of all) 1 a.relocs (bare 1) x.relocs,
-      );
-    }
+    same_object o (code_area n ∷ data_area n ∷ []) [] (Some (record { area = 0; offset = 0 }))
+    (two_areas o.areas (code_area n) (data_area n) (h.count ∙ ap length laid_out.stand.areas) (code_is source n o few h) (data_is source n o few h))
+    (h.symbols ∙ ap (map _) (no_symbols _ d all mute)) (h.entry ∙ entry_is d source n)

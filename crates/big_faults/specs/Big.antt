@@ -1,23 +1,34 @@
--- What layout and values find in the statements of a generated source: no fault, and an object of two areas. This project's.
-use Rattle.std.specs.Prelude.{◌≡◌, ℕ, ◌+◌, ◌*◌, ◌≤◌, List, [], length, slice_get, codes, Some, None}
+-- What layout and values find in the statements of a generated source: no fault, and one object. This project's.
+use Rattle.std.specs.Prelude.{◌≡◌, ℕ, ◌+◌, ◌*◌, ◌≤◌, List, [], ◌∷◌, ◌++◌, codes, Some, None}
+use Rattle.sdt_word.specs.Bytes.{bytes_of}
 use Rattle.aof_object.specs.declared.records.Area.{Area}
 use Rattle.aof_object.specs.declared.records.Object.{Object}
 use Rattle.source_model.specs.Objects.{IsObject}
 use Rattle.source_model.specs.SourceFaults.{layout_faults, value_faults}
 use Rattle.big_model.specs.Statements.{big_statements}
+use Rattle.big_model.specs.Words.{code_words, data_words}
 
 abbrev pub BigHasNoFault : Type 0
 BigHasNoFault =
     (source : List ℕ) (n : ℕ) → n ≤ 50000
     → (layout_faults (big_statements source n) ≡ None) × (value_faults (big_statements source n) ≡ None)
 
--- the object's symbols, entry, sizes and relocations
-pub record IsShaped (n : ℕ) (o : Object) : Type 0 where
-  pub count : length o.areas ≡ 2
-  pub symbols : o.symbols ≡ []
-  pub entry : o.entry ≡ Some (record { area = 0; offset = 0 })
-  pub code : (a : Area) → slice_get o.areas 0 ≡ Some a → (a.name ≡ codes "big") × (a.attributes ≡ 8706) × (a.size ≡ 4 * (n + 3)) × (a.relocs ≡ [])
-  pub words : (a : Area) → slice_get o.areas 1 ≡ Some a → (a.name ≡ codes "bigrw") × (a.attributes ≡ 2) × (a.size ≡ 4 * n) × (a.relocs ≡ [])
+-- words as bytes
+abbrev pub words_bytes : List ℕ → List ℕ
+words_bytes [] = []
+words_bytes (w ∷ ws) = bytes_of w 4 ++ words_bytes ws
 
-abbrev pub BigIsShaped : Type 0
-BigIsShaped = (source : List ℕ) (n : ℕ) (o : Object) → n ≤ 50000 → IsObject (big_statements source n) o → IsShaped n o
+-- an area of read-only code and one of data
+abbrev pub code_area : ℕ → Area
+code_area n = record { name = codes "big"; attributes = 0x2202; size = 4 * (n + 3); bytes = words_bytes (code_words n); relocs = [] }
+
+abbrev pub data_area : ℕ → Area
+data_area n = record { name = codes "bigrw"; attributes = 2; size = 4 * n; bytes = words_bytes (data_words n); relocs = [] }
+
+-- with no symbols, and the entry at the first word
+abbrev pub big_object : ℕ → Object
+big_object n = record { areas = code_area n ∷ data_area n ∷ []; symbols = []; entry = Some (record { area = 0; offset = 0 }) }
+
+-- the object of the statements is that one
+abbrev pub BigHasObject : Type 0
+BigHasObject = (source : List ℕ) (n : ℕ) (o : Object) → n ≤ 50000 → IsObject (big_statements source n) o → o ≡ big_object n
