@@ -23,10 +23,10 @@ use Rattle.elf_image.proofs.WrittenLemmas.{word_behind, word_there, words_length
 
 -- ---- bytes behind others
 
-behind : (front rest : List ℕ) (k : ℕ) → word_in (front ++ rest) (length front + k) ≡ word_in rest k
+pub behind : (front rest : List ℕ) (k : ℕ) → word_in (front ++ rest) (length front + k) ≡ word_in rest k
 behind front rest k = ap (λ bs. number_of (take 4 bs)) (skip front rest k)
 
-string_there : (front name rest : List ℕ) → HasString (front ++ (string_of name ++ rest)) (length front) name
+pub string_there : (front name rest : List ℕ) → HasString (front ++ (string_of name ++ rest)) (length front) name
 string_there front name rest =
     let one : length name + 1 ≡ length (string_of name) = sym (length-append name (0 ∷ [])) in
     ap (λ n. take n (drop (length front) (front ++ (string_of name ++ rest)))) one
@@ -50,11 +50,11 @@ symbols_length : (name : ℕ) (xs : List ElfSymbol) → length (symbols_words na
 symbols_length name [] = refl
 symbols_length name (x ∷ xs) = let e = symbols_length (name + length (string_of x.name)) xs in omega (arith, e)
 
-sections_length : (name : ℕ) (xs : List Section) → length (sections_words name xs) ≡ 10 * length xs
+pub sections_length : (name : ℕ) (xs : List Section) → length (sections_words name xs) ≡ 10 * length xs
 sections_length name [] = refl
 sections_length name (x ∷ xs) = let e = sections_length (name + length (string_of x.name)) xs in omega (arith, e)
 
-all_last : {A : Type 0} (P : A → Type 0) (xs : List A) (y : A) (ys : List A) → AllByRecursion P (xs ++ y ∷ ys) → P y
+pub all_last : {A : Type 0} (P : A → Type 0) (xs : List A) (y : A) (ys : List A) → AllByRecursion P (xs ++ y ∷ ys) → P y
 all_last P [] y ys h = h.0
 all_last P (x ∷ xs) y ys h = all_last P xs y ys h.1
 
@@ -79,29 +79,29 @@ replicate_length zero = refl
 replicate_length (suc n) = ap suc (replicate_length n)
 
 module _ (i : Image) (t : Tables) (can : CanName i t) where
-  at : ℕ
+  pub at : ℕ
   at = tables_at i.loads
 
-  front : List ℕ
+  pub front : List ℕ
   front = head i t ++ (headers_bytes (first_offset (length i.loads)) i.loads ++ (loads_bytes i.loads ++ padding_of i.loads))
 
   -- with the section headers, with that of the symbols, with all, with the symbols
   to_symtab : List ℕ
   to_symtab = front ++ bytes_of_words (section_headers t.sections)
 
-  to_strtab : List ℕ
+  pub to_strtab : List ℕ
   to_strtab = to_symtab ++ bytes_of_words (symtab_header at t)
 
-  to_symbols : List ℕ
+  unfoldable pub to_symbols : List ℕ
   to_symbols = front ++ section_table at t
 
-  to_strings : List ℕ
+  pub to_strings : List ℕ
   to_strings = to_symbols ++ bytes_of_words (symbol_table t.symbols)
 
-  behind_headers : List ℕ
+  pub behind_headers : List ℕ
   behind_headers = bytes_of_words (symbol_table t.symbols) ++ (strings_of t.symbols ++ names_of t.sections)
 
-  behind_strtab : List ℕ
+  unfoldable pub behind_strtab : List ℕ
   behind_strtab = bytes_of_words (section_strings_header at t) ++ behind_headers
 
   file : named_file i t ≡ front ++ tables_bytes at t
@@ -114,11 +114,11 @@ module _ (i : Image) (t : Tables) (can : CanName i t) where
       ap (λ bs. head i t ++ bs) (ap (λ bs. h ++ bs) (sym (append_assoc l p tables)) ∙ sym (append_assoc h (l ++ p) tables))
       ∙ sym (append_assoc (head i t) (h ++ (l ++ p)) tables)
 
-  by_symbols : named_file i t ≡ to_symbols ++ behind_headers
+  pub by_symbols : named_file i t ≡ to_symbols ++ behind_headers
   unfolding to_symbols behind_headers tables_bytes
   by_symbols = file ∙ sym (append_assoc front (section_table at t) (bytes_of_words (symbol_table t.symbols) ++ (strings_of t.symbols ++ names_of t.sections)))
 
-  by_strings : named_file i t ≡ to_strings ++ (strings_of t.symbols ++ names_of t.sections)
+  pub by_strings : named_file i t ≡ to_strings ++ (strings_of t.symbols ++ names_of t.sections)
   unfolding to_strings behind_headers
   by_strings = by_symbols ∙ sym (append_assoc to_symbols (bytes_of_words (symbol_table t.symbols)) (strings_of t.symbols ++ names_of t.sections))
 
@@ -136,13 +136,13 @@ module _ (i : Image) (t : Tables) (can : CanName i t) where
       ∙ (append_assoc front (h ++ (a ++ (b ++ c))) behind_headers
       ∙ (ap (λ bs. front ++ bs) inner ∙ sym (append_assoc front h (a ++ (b ++ (c ++ behind_headers))))))
 
-  by_strtab : named_file i t ≡ to_strtab ++ (bytes_of_words (symbol_strings_header at t) ++ behind_strtab)
+  pub by_strtab : named_file i t ≡ to_strtab ++ (bytes_of_words (symbol_strings_header at t) ++ behind_strtab)
   unfolding to_strtab
   by_strtab = by_symtab ∙ sym (append_assoc to_symtab (bytes_of_words (symtab_header at t)) (bytes_of_words (symbol_strings_header at t) ++ behind_strtab))
 
   -- ---- where they begin
 
-  front_length : length front ≡ at
+  pub front_length : length front ≡ at
   unfolding front at
   front_length =
       let h = headers_bytes (first_offset (length i.loads)) i.loads in
@@ -171,7 +171,7 @@ module _ (i : Image) (t : Tables) (can : CanName i t) where
       let c = headers_length in
       omega (arith, a, b, c)
 
-  strtab_at : length to_strtab ≡ at + 40 * (length t.sections + 2)
+  pub strtab_at : length to_strtab ≡ at + 40 * (length t.sections + 2)
   unfolding to_strtab symtab_header
   strtab_at =
       let a = length-append to_symtab (bytes_of_words (symtab_header at t)) in
@@ -188,7 +188,7 @@ module _ (i : Image) (t : Tables) (can : CanName i t) where
       let d = headers_length in
       omega (arith, a, b, c, d)
 
-  strings_at : length to_strings ≡ strings_from at t
+  pub strings_at : length to_strings ≡ strings_from at t
   unfolding to_strings symbol_table
   strings_at =
       let a = length-append to_symbols (bytes_of_words (symbol_table t.symbols)) in
@@ -197,13 +197,13 @@ module _ (i : Image) (t : Tables) (can : CanName i t) where
       let d = symbols_length 1 t.symbols in
       omega (arith, a, b, c, d)
 
-  sized : end_from at t < 2 ^ 32
+  pub sized : end_from at t < 2 ^ 32
   unfolding at
   sized = can.sized
 
   -- ---- the headers of the tables
 
-  offset : word_in (named_file i t) 0x20 ≡ at
+  pub offset : word_in (named_file i t) 0x20 ≡ at
   unfolding at named_of named_header
   offset = let s = can.sized in number_of-bytes_of (tables_at i.loads) 4 (omega (arith, s))
 

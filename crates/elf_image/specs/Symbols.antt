@@ -1,13 +1,14 @@
--- What a debugger reads of the symbols of an ELF executable (System V Application Binary Interface, Object Files: Sections, String
--- Table, Symbol Table), and the law that it finds those of a file that is written with them.
+-- What a debugger reads of the sections and symbols of an ELF executable (System V Application Binary Interface, Object Files:
+-- Sections, String Table, Symbol Table), and the laws that it finds those of a file that is written with them.
 use Rattle.std.specs.Prelude.{◌≡◌, ℕ, ◌+◌, ◌*◌, ◌^◌, ◌<◌, List, [], ◌∷◌, ◌++◌, length, drop, take}
 use Rattle.std.specs.List.{AllByRecursion}
-use Rattle.sdt_word.specs.Bytes.{word_in}
+use Rattle.sdt_word.specs.Bytes.{half_in, word_in}
 use Rattle.link_model.specs.declared.images.Image.{Image}
 use Rattle.elf_image.specs.declared.tables.ElfSymbol.{ElfSymbol}
+use Rattle.elf_image.specs.declared.tables.Section.{Section}
 use Rattle.elf_image.specs.declared.tables.Tables.{Tables}
 use Rattle.elf_image.specs.Files.{halves}
-use Rattle.elf_image.specs.Tables.{binding_number, kind_number, named_file, named_size, place_number}
+use Rattle.elf_image.specs.Tables.{binding_number, kind_number, named_file, named_size, place_number, type_number}
 
 -- the section header of a number, from e_shoff on
 abbrev pub section_header : List ℕ → ℕ → ℕ
@@ -54,3 +55,28 @@ pub record CanName (i : Image) (t : Tables) : Type 0 where
 -- the symbols are the section behind those that are given
 abbrev pub SymbolsLaw : Type 0
 SymbolsLaw = (i : Image) (t : Tables) → CanName i t → HasSymbols (named_file i t) (length t.sections + 1) t.symbols
+
+-- ---- sections
+
+-- the section of a number, whose name is in the section that e_shstrndx tells
+pub record IsSection (b : List ℕ) (k : ℕ) (s : Section) : Type 0 where
+  pub name : HasString b (contents_at b (half_in b 0x32) + word_in b (section_header b k)) s.name
+  pub kind : type_at b k ≡ type_number s.kind
+  pub address : word_in b (section_header b k + 12) ≡ s.address
+  pub offset : contents_at b k ≡ s.offset
+  pub size : size_at b k ≡ s.size
+
+-- these are the file's behind the empty one
+abbrev pub HasSections : List ℕ → List Section → Type 0
+HasSections b sections = (before : List Section) (s : Section) (after : List Section) → sections ≡ before ++ s ∷ after → IsSection b (length before + 1) s
+
+-- what a section has are words
+pub record AreFields (s : Section) : Type 0 where
+  pub address : s.address < 2 ^ 32
+  pub offset : s.offset < 2 ^ 32
+  pub size : s.size < 2 ^ 32
+
+abbrev pub SectionsLaw : Type 0
+SectionsLaw =
+    (i : Image) (t : Tables) → CanName i t → length t.sections < 0xFEFC → AllByRecursion AreFields t.sections
+    → HasSections (named_file i t) t.sections

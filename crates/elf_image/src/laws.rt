@@ -4,7 +4,7 @@ ghost use Rattle.elf_image.specs.Examples.{WorkedExample};
 ghost use Rattle.elf_image.specs.Files.{LoadLaw, WrittenLaw};
 ghost use Rattle.elf_image.specs.NamedExamples.{NamedExample};
 ghost use Rattle.elf_image.specs.Reading.{ElfLaw, FirstFailedLaw, OneRecord};
-ghost use Rattle.elf_image.specs.Symbols.{SymbolsLaw};
+ghost use Rattle.elf_image.specs.Symbols.{SectionsLaw, SymbolsLaw};
 ghost use Rattle.elf_image.specs.Tables.{NamedLaw, NamedLoadLaw};
 
 /// What reading gives is what the bytes say, and where it gives no record they say none.
@@ -45,6 +45,11 @@ pub fn named_load_law()
 /// The words and the size of a file that was worked out by hand, and what is told of it where it is cut.
 pub fn worked_example()
     ensures { WorkedExample }
+{}
+
+/// A debugger finds the sections of the file where they are written.
+pub fn sections_law()
+    ensures { SectionsLaw }
 {}
 
 /// A debugger finds the symbols of the file where they are written.

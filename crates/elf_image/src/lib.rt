@@ -10,7 +10,7 @@ mod writing;
 
 pub use crate::laws::{
     elf_law, first_failed_law, load_law, named_example, named_law, named_load_law, one_record,
-    symbols_law, worked_example, written_law,
+    sections_law, symbols_law, worked_example, written_law,
 };
 pub use crate::naming::write_named_elf;
 pub use crate::reading::read_elf;
