@@ -33,7 +33,7 @@ use Rattle.link_laws.specs.Placing.{bases_of, region_with, veneers_in, link_plan
 use Rattle.link_laws.specs.Joins.{area_bytes, given_in}
 use Rattle.link_laws.proofs.PlacedLemmas.{IsFound, found as found_area, full_base}
 use Rattle.link_laws.proofs.ReducedLemmas.{bytes_le, patched_at}
-use Rattle.link_laws.proofs.MadeAddressLemmas.{placed_as, area_found, veneers_there, has_places}
+use Rattle.link_laws.proofs.Made.AddressLemmas.{placed_as, area_found, veneers_there, has_places}
 
 pub area_there : (os : List (Named Object)) (own area : ℕ) (o : Named Object) (a : Area) → slice_get os own ≡ Some o → slice_get o.value.areas area ≡ Some a
     → area_of (objects_in os) (record { object = own; area = area }) ≡ Some a

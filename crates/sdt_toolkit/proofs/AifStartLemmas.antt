@@ -42,11 +42,11 @@ use Rattle.link_laws.specs.AifStarts.{HasParts, IsSeen, aif_at, contents_at, ent
 use Rattle.link_laws.specs.Joins.{IsMade}
 use Rattle.link_laws.specs.Placing.{link_plan}
 use Rattle.link_laws.specs.Plans.{AreMeant, AreSeenBy, IsSelection, entry_by}
-use Rattle.link_laws.proofs.AifEntry.{calls}
-use Rattle.link_laws.proofs.AifStarts.{becomes_there, entry_moves, size_there, made_fixed_boots, made_has_parts, made_is_aif, made_is_seen, made_moving_boots, moved_is_seen}
-use Rattle.link_laws.proofs.MadePlacedLemmas.{are_needed, made_is_placed}
-use Rattle.link_laws.proofs.PlanNumbers.{plain_numbered}
-use Rattle.link_laws.proofs.PlanSeen.{entry_whole, views_are_seen}
+use Rattle.link_laws.proofs.Aif.Entry.{calls}
+use Rattle.link_laws.proofs.Aif.Starts.{becomes_there, entry_moves, size_there, made_fixed_boots, made_has_parts, made_is_aif, made_is_seen, made_moving_boots, moved_is_seen}
+use Rattle.link_laws.proofs.Made.PlacedLemmas.{are_needed, made_is_placed}
+use Rattle.link_laws.proofs.Plans.Numbers.{plain_numbered}
+use Rattle.link_laws.proofs.Plans.Seen.{entry_whole, views_are_seen}
 use Rattle.armlink_core.specs.Images.{image_of}
 use Rattle.sdt_toolkit.specs.Plans.{HasViews, ImagesArePlaced, IsPlacedAs, zero_part}
 use Rattle.sdt_toolkit.specs.Starting.{HasRoom}

@@ -36,8 +36,8 @@ use Rattle.link_place.specs.Placed.{placement_of}
 use Rattle.link_apply.specs.RegionBytes.{regions_bytes}
 use Rattle.link_laws.specs.Joins.{IsMade, filled_in, given_in}
 use Rattle.link_laws.specs.Placing.{link_plan}
-use Rattle.link_laws.proofs.MadePlacedLemmas.{is_placement, made_is_placed}
-use Rattle.link_laws.proofs.MadeStart.{made_starts}
+use Rattle.link_laws.proofs.Made.PlacedLemmas.{is_placement, made_is_placed}
+use Rattle.link_laws.proofs.Made.Start.{made_starts}
 use Rattle.bin_image.specs.Fields.{lacks}
 use Rattle.bin_image.specs.Files.{map_file, map_of as image_map, map_region}
 use Rattle.bin_image.specs.Maps.{IsRegion, IsValid}

@@ -57,8 +57,8 @@ use Rattle.link_apply.specs.RegionBytes.{regions_bytes}
 use Rattle.link_laws.specs.Joins.{IsMade}
 use Rattle.link_laws.specs.Placing.{IsPlacedLink, link_plan}
 use Rattle.link_laws.specs.Plans.{AreExportedOnce, AreMeant, IsExport, IsSelection, numbers_by}
-use Rattle.link_laws.proofs.MadePlacedLemmas.{is_placement}
-use Rattle.link_laws.proofs.PlanNumbers.{numbered}
+use Rattle.link_laws.proofs.Made.PlacedLemmas.{is_placement}
+use Rattle.link_laws.proofs.Plans.Numbers.{numbered}
 use Rattle.armlink_core.specs.declared.making.PlacedImage.{PlacedImage}
 use Rattle.armlink_core.specs.Linking.{made_at, made_of, made_with, symbols_of}
 use Rattle.armlink_core.specs.Images.{image_made, image_of, linking}

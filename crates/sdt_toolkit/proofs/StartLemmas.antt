@@ -54,12 +54,12 @@ use Rattle.link_apply.specs.RegionBytes.{regions_bytes}
 use Rattle.link_laws.specs.Joins.{IsMade, PlacesOf, bytes_of_load, files_from, given_in, filled_in}
 use Rattle.link_laws.specs.Placing.{link_plan, IsPlacedLink}
 use Rattle.link_laws.specs.Plans.{AreMeant, AreSeenBy, IsCalledBy, IsSelection, entry_by, header_by}
-use Rattle.link_laws.proofs.MadeAppliedLemmas.{made_has_places, made_is_applied}
-use Rattle.link_laws.proofs.MadeBytesLaws.{made_sized, made_has_files}
-use Rattle.link_laws.proofs.MadePlacedLemmas.{are_needed, made_is_placed}
-use Rattle.link_laws.proofs.MadeStart.{made_boots}
-use Rattle.link_laws.proofs.PlanNumbers.{plain_numbered, scatter_numbered}
-use Rattle.link_laws.proofs.PlanSeen.{entry_whole, views_are_seen}
+use Rattle.link_laws.proofs.Made.AppliedLemmas.{made_has_places, made_is_applied}
+use Rattle.link_laws.proofs.Made.BytesLaws.{made_sized, made_has_files}
+use Rattle.link_laws.proofs.Made.PlacedLemmas.{are_needed, made_is_placed}
+use Rattle.link_laws.proofs.Made.Start.{made_boots}
+use Rattle.link_laws.proofs.Plans.Numbers.{plain_numbered, scatter_numbered}
+use Rattle.link_laws.proofs.Plans.Seen.{entry_whole, views_are_seen}
 use Rattle.armlink_core.specs.Images.{bytes_in, image_of, linking, loads_from as regions_loaded}
 use Rattle.armlink_core.specs.Linking.{symbols_of}
 use Rattle.armlink_core.specs.Sizes.{zeros_in}

@@ -1,6 +1,6 @@
-use Rattle.link_laws.proofs.ShiftMoved
-use Rattle.link_laws.proofs.ShiftPlans
-use Rattle.link_laws.proofs.ShiftStarts
+use Rattle.link_laws.proofs.Shifts.Moved
+use Rattle.link_laws.proofs.Shifts.Plans
+use Rattle.link_laws.proofs.Shifts.Starts
 use Rattle.link_laws.proofs.laws.aif_moves.Goals as goal
 
 pub returns-clause-plans : goal.returns-clause-plans

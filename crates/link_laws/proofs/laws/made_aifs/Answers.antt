@@ -1,4 +1,4 @@
-use Rattle.link_laws.proofs.AifStarts
+use Rattle.link_laws.proofs.Aif.Starts
 use Rattle.link_laws.proofs.laws.made_aifs.Goals as goal
 
 pub returns-clause-is_aif : goal.returns-clause-is_aif

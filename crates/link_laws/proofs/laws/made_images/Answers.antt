@@ -1,5 +1,5 @@
-use Rattle.link_laws.proofs.MadeBytesLaws
-use Rattle.link_laws.proofs.MadeStart
+use Rattle.link_laws.proofs.Made.BytesLaws
+use Rattle.link_laws.proofs.Made.Start
 use Rattle.link_laws.proofs.laws.made_images.Goals as goal
 
 pub returns-clause-bytes : goal.returns-clause-bytes

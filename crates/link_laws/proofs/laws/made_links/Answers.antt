@@ -1,5 +1,5 @@
-use Rattle.link_laws.proofs.MadeAppliedLemmas
-use Rattle.link_laws.proofs.MadePlacedLemmas
+use Rattle.link_laws.proofs.Made.AppliedLemmas
+use Rattle.link_laws.proofs.Made.PlacedLemmas
 use Rattle.link_laws.proofs.laws.made_links.Goals as goal
 
 pub returns-clause-placed : goal.returns-clause-placed

@@ -1,4 +1,4 @@
-use Rattle.link_laws.proofs.PlanSeen
+use Rattle.link_laws.proofs.Plans.Seen
 use Rattle.link_laws.proofs.ShownLemmas
 use Rattle.link_laws.proofs.SizedLemmas
 use Rattle.link_laws.proofs.laws.objects_are_shown.Goals as goal

@@ -1,0 +1,14 @@
+pub mod AnswerLemmas
+pub mod AssignedLemmas
+pub mod PlacedLemmas
+pub mod AddressLemmas
+pub mod VeneerLemmas
+pub mod RegionLemmas
+pub mod AppliedLemmas
+pub mod Once
+pub mod Bytes
+pub mod BytesOfRegions
+pub mod BytesLaws
+pub mod Start
+pub mod Rows
+pub mod StartRow
