@@ -183,6 +183,9 @@ fn begin(text: &[u8], count: usize) -> &[u8]
     &text[..count]
 }
 
+/// For how many tokens there is room before the first.
+const TOKENS_AT_FIRST: usize = 8;
+
 /// The tokens of a line, where it has tokens; None where it has none. A name may be too long.
 pub fn scan(alloc: Global, text: &[u8]) -> Result<Option<Vec<Token>>, NoMemory>
     requires { length text.now < 2 ^ 32 }
@@ -190,7 +193,7 @@ pub fn scan(alloc: Global, text: &[u8]) -> Result<Option<Vec<Token>>, NoMemory>
         (λ found. MatchOption found (model.NoTokens text.now)
         (λ v. model.Tokens text.now v.items)) }
 {
-    let mut list = Vec::new(alloc);
+    let mut list = Vec::with_capacity(alloc, TOKENS_AT_FIRST)?;
     let mut due = first_due(text);
     let mut place = 0;
     'tokens: loop {

@@ -1,5 +1,5 @@
 -- Maps from names, and tables of names.
-use Rattle.std.proofs.Common.{◌≡◌, ℕ, List, [], ◌∷◌, ◌++◌, Bool, true, false, cond, ◌&&◌, refl, ◌∙◌, Some, None}
+use Rattle.std.proofs.Common.{◌≡◌, ℕ, List, [], ◌∷◌, ◌++◌, Bool, true, false, cond, ◌&&◌, length, refl, ◌∙◌, Some, None}
 use Rattle.std.specs.Option.{is_some}
 use Rattle.std.specs.Str.{bytes_eq}
 use Rattle.asm_model.specs.Directives.{or_else}
@@ -7,6 +7,7 @@ use Rattle.asm_model.specs.Forms.{same}
 use Rattle.asm_model.proofs.SharedLemmas.{same_back, tests}
 use Rattle.asm_model.proofs.WordLemmas.{same_true}
 use Rattle.expand_model.specs.States.{Table, found, with_row}
+use Rattle.asm_variables.specs.Maps.{Map, value_named}
 
 pub bytes_same : (a b : List ℕ) → bytes_eq a b ≡ same a b
 bytes_same a b = tests a b ∙ same_back b a
@@ -51,3 +52,11 @@ found_with name v q (row ∷ rows) = by (same row.0 name) refl (same name q) ref
     by false e true f false g h = rw g h
     by false e false f true g h = rw g refl
     by false e false f false g h = rw g h
+
+-- nothing is found where there is no entry
+pub none_named : {V : Type 0} (m : Map V) (q : List ℕ) → length m.entries ≡ 0 → value_named m q ≡ None
+none_named {V} m q h = by m.entries refl h
+  where
+    by : (es : List (List ℕ × V)) → m.entries ≡ es → length es ≡ 0 → value_named m q ≡ None
+    by [] e z = rw e refl
+    by (x ∷ xs) e z = absurd (cc)

@@ -1,5 +1,6 @@
 -- Steps of substitution.
-use Rattle.std.proofs.Common.{◌≡◌, ℕ, ◌+◌, ◌-◌, ◌≤◌, List, [], ◌∷◌, ◌++◌, length, drop, refl, sym, ◌∙◌, ap, arith, zero, suc, append-nil, append_assoc, length-drop, Option, Some, None}
+use Rattle.std.proofs.Common.{◌≡◌, ℕ, ◌+◌, ◌-◌, ◌≤◌, ◌==◌, ◌||◌, Bool, true, false, List, [], ◌∷◌, ◌++◌, length, drop, refl, sym, ◌∙◌, ap, arith, zero, suc, append-nil, append_assoc, length-drop, Option, Some, None}
+use Rattle.std.specs.List.{list_any}
 use Rattle.std.proofs.lemmas.List.{drop-drop}
 use Rattle.std.specs.Prelude.{Result, Ok, Err}
 use Rattle.sdt_fault.specs.declared.kinds.LineKind.{LineKind}
@@ -11,6 +12,10 @@ use Rattle.expand_model.specs.Standing.{Byte, standing, standing_from, begun_at}
 use Rattle.expand_model.specs.States.{State, text_named}
 use Rattle.expand_model.specs.Substitution.{substituted_from, substituted, plain}
 use Rattle.asm_variables.specs.Substitution.{IsPut}
+
+no_first : (a b : Bool) → (a || b) ≡ false → (a ≡ false) × (b ≡ false)
+no_first false b e = (refl, e)
+no_first true b e = absurd (cc)
 
 mapped_nothing : (r : Result (List ℕ) LineKind) → mapped (λ t. [] ++ t) r ≡ r
 mapped_nothing (Ok t) = refl
@@ -90,3 +95,22 @@ module _ (s : State) (text out : List ℕ) (st : Standing) (left dropped at : �
         → IsSubstituting (text_named s) text new t n k (at + 1)
     passed_line taken k new e h =
         passed (text_named s) text out st left dropped at is c cs here t n stands k new (rw e at h) (behind_one text at c cs here)
+
+-- ---- a line without dollars
+
+put_one : (c : ℕ) (cs : List ℕ) (r : Result (List ℕ) LineKind) → r ≡ Ok cs → mapped (λ t. (c ∷ []) ++ t) r ≡ Ok (c ∷ cs)
+put_one c cs r e = rw e refl
+
+-- bytes without dollars become themselves
+without_dollar : (texts : List ℕ → Option (List ℕ)) (st : Standing) (n : ℕ) (cs : List ℕ) → list_any (λ c. c == 36) cs ≡ false → substituted_from texts 0 (standing_from st n cs) ≡ Ok cs
+without_dollar texts st n [] e = refl
+without_dollar texts st zero (c ∷ cs) e =
+    let parts = no_first (c == 36) (list_any (λ d. d == 36) cs) e in
+    rw parts.0 (put_one c cs _ (without_dollar texts (begun_at c cs).0 ((begun_at c cs).1 - 1) cs parts.1))
+without_dollar texts st (suc n) (c ∷ cs) e =
+    let parts = no_first (c == 36) (list_any (λ d. d == 36) cs) e in
+    rw parts.0 (put_one c cs _ (without_dollar texts st n cs parts.1))
+
+pub without_dollar_line : (s : State) (text : List ℕ) → list_any (λ c. c == 36) text ≡ false → substituted s text ≡ Ok text
+unfolding substituted standing
+without_dollar_line s text e = without_dollar (text_named s) Open 0 text e

@@ -41,3 +41,7 @@ Fails t text = (s : State) → HasTables t s → model.substituted s text ≡ Er
 -- a line's text after substitution
 abbrev pub Gives : Tables → List ℕ → List ℕ → Type 0
 Gives t text out = (s : State) → HasTables t s → model.substituted s text ≡ Ok out
+
+-- a text that substitution leaves as it is
+abbrev pub Stays : List ℕ → Type 0
+Stays text = (s : State) → model.substituted s text ≡ Ok text

@@ -124,7 +124,7 @@ impl Expansion {
         ensures visits { self.new.visits ≡ self.old.visits }
         ensures flats { self.new.flats.items ≡ self.old.flats.items }
     {
-        if self.tables.locals.contains_key(&name) {
+        if self.tables.has_local(&name) {
             return replace(&mut self.tables.locals, name, value);
         }
         replace(&mut self.tables.globals, name, value)

@@ -1,9 +1,10 @@
 //! Substitution.
 
-ghost use Rattle.std.specs.Prelude.{◌≡◌, ◌≤◌, ◌∷◌, [], length, drop, IfOk, MatchOption};
+ghost use Rattle.std.specs.Prelude.{◌≡◌, ◌==◌, ◌≤◌, ◌∷◌, [], false, length, drop, IfOk, MatchOption};
+ghost use Rattle.std.specs.List.{list_any};
 ghost use Rattle.expand_model.specs.Standing as place;
 ghost use Rattle.expand_model.specs.Substitution as model;
-ghost use Rattle.asm_variables.specs.Substitution.{Fails, Gives, PutsByte, PutsDollar, PutsName};
+ghost use Rattle.asm_variables.specs.Substitution.{Fails, Gives, PutsByte, PutsDollar, PutsName, Stays};
 
 use crate::standing::begun_at;
 use crate::variables::Tables;
@@ -159,8 +160,12 @@ pub fn first_of(text: &[u8], at: usize) -> Option<(u8, &[u8])>
     }
 }
 
-/// A line's text after substitution; None where nothing has one of its names.
-pub fn substitute(alloc: Global, tables: &Tables, text: &[u8]) -> Result<Option<Vec<u8>>, NoMemory>
+/// The text of a line with dollars after substitution; None where nothing has one of its names.
+fn substitute_dollars(
+    alloc: Global,
+    tables: &Tables,
+    text: &[u8],
+) -> Result<Option<Vec<u8>>, NoMemory>
     ensures { IfOk result
         (λ found. MatchOption found (Fails tables.now text.now)
         (λ v. Gives tables.now text.now v.items)) }
@@ -183,4 +188,24 @@ pub fn substitute(alloc: Global, tables: &Tables, text: &[u8]) -> Result<Option<
         dropped = taken;
         at += 1;
     }
+}
+
+/// Whether a dollar stands in a text; a text without one stays as it is.
+pub fn has_dollar(text: &[u8]) -> bool
+    ensures value { result ≡ list_any (λ c. c == 36) text.now }
+    ensures stays { result ≡ false → Stays text.now }
+{
+    text.contains(&b'$')
+}
+
+/// A line's text after substitution; None where nothing has one of its names.
+pub fn substitute(alloc: Global, tables: &Tables, text: &[u8]) -> Result<Option<Vec<u8>>, NoMemory>
+    ensures { IfOk result
+        (λ found. MatchOption found (Fails tables.now text.now)
+        (λ v. Gives tables.now text.now v.items)) }
+{
+    if has_dollar(text) {
+        return substitute_dollars(alloc, tables, text);
+    }
+    Ok(Some(Vec::from_slice(alloc, text)?))
 }

@@ -1,6 +1,8 @@
 //! Values of expressions, by the variables and the numbers of EQUs.
 
-ghost use Rattle.std.specs.Prelude.{◌≡◌, false, IfOk, Ok};
+ghost use Rattle.std.specs.Prelude.{◌≡◌, ◌++◌, [], false, None, IfOk, OnOk, Ok};
+ghost use Rattle.asm_expr.specs.Places.{one_entry};
+ghost use Rattle.asm_expr.specs.Seeing.{seen_names};
 ghost use Rattle.asm_model.specs.Entries.{valued_entry};
 ghost use Rattle.asm_model.specs.declared.exprs.UnaryOp.TheVariants as unary;
 ghost use Rattle.expand_model.specs.Known.{asked_kinds, item_kinds};
@@ -18,6 +20,7 @@ use asm_model::{EvalFault, Expr, ExprItem, LaidName, Meaning, UnaryOp, Value};
 use sdt_fault::kinds::LineKind;
 use sdt_fault::{NoMemory, Text};
 use std::alloc::Global;
+use std::mem;
 
 /// Which names have values.
 #[derive(Clone, Copy, Debug)]
@@ -196,21 +199,68 @@ fn item_entry(
     }
 }
 
+/// Entries of names, of which the last stands alone: with one name no index is made.
+#[derive(Drop)]
+struct Entries {
+    names: KnownNames,
+    last: Option<LaidName>,
+}
+
+/// One entry more, where there is one.
+fn add_behind(
+    alloc: Global,
+    names: &mut KnownNames,
+    last: &mut Option<LaidName>,
+    entry: Option<LaidName>,
+) -> Result<(), NoMemory>
+    ensures { OnOk result (names.new ++ one_entry last.new
+        ≡ (names.old ++ one_entry last.old) ++ one_entry entry) }
+{
+    let Some(entry) = entry else {
+        return Ok(());
+    };
+    let before = mem::replace(last, Some(entry));
+    add_entry(alloc, names, before)
+}
+
 /// The entries of the names in an expression.
 fn entries_of(
     alloc: Global,
     state: &Expansion,
     visible: Visible,
     items: &[ExprItem],
-) -> Result<KnownNames, NoMemory>
-    ensures { IfOk result (λ names. HasEntries visible state.now items.now names) }
+) -> Result<Entries, NoMemory>
+    ensures { IfOk result (λ entries.
+        HasEntries visible state.now items.now (entries.names ++ one_entry entries.last)) }
 {
     let mut names = KnownNames::new(alloc);
+    let mut last = None;
     'items: for item in items {
         let entry = item_entry(alloc, state, visible, item)?;
-        add_entry(alloc, &mut names, entry)?;
+        add_behind(alloc, &mut names, &mut last, entry)?;
     }
-    Ok(names)
+    Ok(Entries { names, last })
+}
+
+/// What an expression sees of these entries.
+fn seen_among(entries: &Entries, thumb: bool) -> Seen<'_>
+    ensures { seen_names result ≡ record {
+      list = entries.now.names ++ one_entry entries.now.last ++ [];
+      area = None;
+      offset = 0;
+      map = 0;
+      thumb = thumb;
+    } }
+{
+    Seen {
+        names: &entries.names,
+        own: entries.last.as_ref(),
+        later: None,
+        area: None,
+        offset: 0,
+        map: 0,
+        thumb,
+    }
 }
 
 /// The value of an expression whose items have no fault.
@@ -222,16 +272,8 @@ fn value_known(
 ) -> Result<Value, EvalFault>
     ensures { Gives visible state.now e.now.items result }
 {
-    let names = entries_of(alloc, state, visible, e.items.as_slice())?;
-    let seen = Seen {
-        names: &names,
-        own: None,
-        later: None,
-        area: None,
-        offset: 0,
-        map: 0,
-        thumb: state.thumb,
-    };
+    let entries = entries_of(alloc, state, visible, e.items.as_slice())?;
+    let seen = seen_among(&entries, state.thumb);
     value_seen(alloc, e, &seen)
 }
 

@@ -1,9 +1,10 @@
 //! What names stand for in substitution.
 
 ghost use Rattle.std.specs.Prelude.{◌≡◌, ◌++◌, IfOk, OnOk};
-ghost use Rattle.std.specs.Option.{option_copied};
+ghost use Rattle.std.specs.Option.{is_some, option_copied};
 ghost use Rattle.expand_model.specs.States.{State};
 ghost use Rattle.expand_model.specs.States as model;
+ghost use Rattle.asm_variables.specs.Maps.{value_named};
 ghost use Rattle.asm_variables.specs.Variables.{HasTables, Appends};
 
 use asm_model::Value;
@@ -46,12 +47,34 @@ fn append_value(value: &Value, out: &mut Vec<u8>) -> Result<(), NoMemory>
 }
 
 impl Tables {
+    /// The value of a local variable.
+    #[tactic(auto, using(crate::proofs::MapLemmas::none_named))]
+    fn local(&self, name: &Text) -> Option<&Value>
+        ensures { option_copied result ≡ value_named self.now.locals name.now }
+    {
+        if self.locals.is_empty() {
+            return None;
+        }
+        self.locals.get(name)
+    }
+
+    /// Whether a local variable has the name.
+    #[tactic(auto, using(crate::proofs::MapLemmas::none_named))]
+    pub fn has_local(&self, name: &Text) -> bool
+        ensures { result ≡ is_some (value_named self.now.locals name.now) }
+    {
+        if self.locals.is_empty() {
+            return false;
+        }
+        self.locals.contains_key(name)
+    }
+
     /// The value of a variable; a local hides a global.
     pub fn variable(&self, name: &Text) -> Option<&Value>
         ensures { (s : State) → HasTables self.now s → option_copied result
             ≡ model.variable s name.now }
     {
-        if let Some(value) = self.locals.get(name) {
+        if let Some(value) = self.local(name) {
             return Some(value);
         }
         self.globals.get(name)

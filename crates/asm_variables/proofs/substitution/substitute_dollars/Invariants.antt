@@ -1,7 +1,7 @@
 use Rattle.std.proofs.Common.{◌≤◌, ◌-◌, length}
 use Rattle.expand_model.specs.States.{State, text_named}
 use Rattle.asm_variables.specs.Variables.{HasTables}
-use Rattle.asm_variables.proofs.substitution.substitute.Given as goal
+use Rattle.asm_variables.proofs.substitution.substitute_dollars.Given as goal
 use Rattle.asm_variables.proofs.SubstitutionLemmas.{IsSubstituting}
 
 abbrev pub invariant-bytes : goal.invariant-bytes
