@@ -13,4 +13,4 @@ pub returns-clause-statements : goal.returns-clause-statements
 returns-clause-statements c = ShownLemmas.statements_stand
 
 pub returns-clause-views : goal.returns-clause-views
-returns-clause-views c = PlanSeen.views_are_seen
+returns-clause-views c = Seen.views_are_seen
