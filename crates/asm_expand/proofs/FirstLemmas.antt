@@ -1,8 +1,8 @@
 -- The first line, by what the code finds of it.
 use Rattle.std.proofs.Common.{◌≡◌, ℕ, ◌-◌, ◌==◌, List, [], ◌∷◌, true, false, refl, sym, ◌∙◌, ap}
-use Rattle.std.specs.Prelude.{Ok, Err}
+use Rattle.std.specs.Prelude.{Err}
 use Rattle.std.proofs.lemmas.Bool.{false_from_ne_true, eqb-true}
-use Rattle.sdt_fault.specs.declared.kinds.LineKind.TheVariants.{Syntax, UnknownWord, TooMany}
+use Rattle.sdt_fault.specs.declared.kinds.LineKind.TheVariants.{Syntax, TooMany}
 use Rattle.asm_model.specs.declared.lines.Line.{Line}
 use Rattle.expand_model.specs.declared.macros.Prototype.{Prototype}
 use Rattle.expand_model.specs.Known.{Operand}
@@ -48,26 +48,21 @@ zero_at sources d c at s (m ∷ ms) l rest h e z =
 line_is : (l m : Line) (ls ms : List Line) → m ∷ ms ≡ l ∷ ls → m ≡ l
 line_is l m ls ms e = cc
 
-pub unknown_at : (sources : Sources) (d : Depth) (c : Expansion) (at : Place) (s : State) (ls : List Line) (l : Line) (rest : List Line)
-    → place_lines at ≡ ls → ls ≡ l ∷ rest → (s.visits == 0) ≡ false → substituted s l.text ≡ Err UnknownWord
-    → Reading sources d c (next.Bad at UnknownWord) s ls
-unfolding first_line
-unknown_at sources d c at s [] l rest h e z sub = absurd (cc)
-unknown_at sources d c at s (m ∷ ms) l rest h e z sub =
-    let is = line_is l m rest ms e in
-    let text : substituted s m.text ≡ Err UnknownWord = ap (λ (x : Line). substituted s x.text) is ∙ sub in
-    (Err UnknownWord, rw text refl, rw (z, text) (shows_bad sources c at UnknownWord m ms h))
+visited_text : (s : State) (text : List ℕ) → substituted (visited s) text ≡ substituted s text
+unfolding substituted
+visited_text s text = refl
 
-pub text_at : (sources : Sources) (d : Depth) (c : Expansion) (n : Next) (at : Place) (s : State) (text : List ℕ) (ls : List Line) (l : Line) (rest : List Line)
-    → place_lines at ≡ ls → ls ≡ l ∷ rest → (s.visits == 0) ≡ false → substituted s l.text ≡ Ok text
+pub line_at : (sources : Sources) (d : Depth) (c : Expansion) (n : Next) (at : Place) (s : State) (text : List ℕ) (ls : List Line) (l : Line) (rest : List Line)
+    → place_lines at ≡ ls → ls ≡ l ∷ rest → (s.visits == 0) ≡ false → text ≡ l.text
     → ((m : Line) (ms : List Line) → place_lines at ≡ m ∷ ms
-    → (x : Operand) × ReadsText s.macros (Ok text) x × Shows sources c n (said_text sources d m x (visited s) ms (Ok text)))
+    → (x : Operand) × ReadsText s.macros (substituted (visited s) text) x × Shows sources c n (said_text sources d m x (visited s) ms (substituted (visited s) text)))
     → Reading sources d c n s ls
 unfolding first_line
-text_at sources d c n at s text [] l rest h e z sub reads = absurd (cc)
-text_at sources d c n at s text (m ∷ ms) l rest h e z sub reads =
+line_at sources d c n at s text [] l rest h e z t reads = absurd (cc)
+line_at sources d c n at s text (m ∷ ms) l rest h e z t reads =
     let is = line_is l m rest ms e in
-    let same : substituted s m.text ≡ Ok text = ap (λ (x : Line). substituted s x.text) is ∙ sub in
+    let same : substituted s m.text ≡ substituted (visited s) text =
+    ap (λ (x : Line). substituted s x.text) is ∙ ap (substituted s) (sym t) ∙ sym (visited_text s text) in
     let x = reads m ms h in
     (x.0, rw same x.1, rw (z, same) x.2)
 

@@ -1,5 +1,7 @@
 pub mod AnswerLemmas
+pub mod CalledLemmas
 pub mod DefiningLemmas
+pub mod DollarLemmas
 pub mod EngineLemmas
 pub mod PlainLemmas
 pub mod FirstLemmas

@@ -1,5 +1,5 @@
 -- Operands of lines.
-use Rattle.std.proofs.Common.{◌≡◌, ℕ, List, [], ◌∷◌, length, nat_lt, Bool, true, false, refl, map, Option, Some, None}
+use Rattle.std.proofs.Common.{◌≡◌, ℕ, List, [], ◌∷◌, length, nat_lt, Bool, true, false, refl, ap, ◌∙◌, map, Option, Some, None}
 use Rattle.std.specs.Prelude.{Result, Ok, Err, MatchBool}
 use Rattle.sdt_fault.specs.declared.kinds.LineKind.{LineKind}
 use Rattle.sdt_fault.specs.declared.kinds.LineKind.TheVariants.{Syntax}
@@ -18,11 +18,12 @@ use Rattle.asm_expr.proofs.Spelled.{parsed_spelled}
 use Rattle.expand_model.specs.declared.macros.Macro.{Macro}
 use Rattle.expand_model.specs.Known.{Operand, ReadsExpression, FromTokens}
 use Rattle.expand_model.specs.States.{State}
-use Rattle.expand_model.specs.Steps.{Sources, Depth, Kind, Reads, ReadsText, takes_expression, kind_of, said, said_text}
+use Rattle.expand_model.specs.Steps.{Sources, Depth, Kind, Worded, Called, Plain, Reads, ReadsText, takes_expression, kind_of, said, said_text}
 use Rattle.expand_model.specs.Substitution.{substituted}
-use Rattle.expand_model.specs.Words.{words_of}
+use Rattle.expand_model.specs.Words.{Words, words_of}
 use Rattle.asm_variables.specs.declared.expansion.Expansion.{Expansion}
 use Rattle.asm_expand.specs.declared.steps.Next.{Next}
+use Rattle.asm_expand.specs.Reading.{said_by}
 use Rattle.asm_expand.specs.Saying.{Shows}
 use Rattle.asm_expand.proofs.ScanningLemmas.{some_scan}
 
@@ -61,10 +62,19 @@ pub some_operand : (s : State) (ls : List Line) → (x : Operand) × Reads s ls 
 some_operand s [] = (Err Syntax, refl)
 some_operand s (l ∷ ls) = some_text s.macros (substituted s l.text)
 
--- what a line says with the operand that is read
-pub text_said : (sources : Sources) (d : Depth) (c : Expansion) (n : Next) (s : State) (l : Line) (ls : List Line) (text given : List ℕ) (k : Kind) (x : Operand)
-    → nat_lt line_bytes (length text) ≡ false → k ≡ kind_of s.macros (words_of text) → given ≡ text
-    → MatchBool (takes_expression k (words_of given).operation) (ReadsExpression given x) (x ≡ Err Syntax)
-    → Shows sources c n (said sources d l text x s ls k)
+said_is : (sources : Sources) (d : Depth) (l : Line) (text : List ℕ) (x : Operand) (s : State) (ls : List Line) (k : Kind)
+    → said sources d l text x s ls k ≡ said_by sources d l text (words_of text) x s ls k
+unfolding said
+said_is sources d l text x s ls (Worded o) = refl
+said_is sources d l text x s ls (Called m) = refl
+said_is sources d l text x s ls Plain = refl
+
+-- what a line says with its words and the operand that is read
+pub text_said : (sources : Sources) (d : Depth) (c : Expansion) (n : Next) (s : State) (l : Line) (ls : List Line) (text : List ℕ) (w : Words) (k : Kind) (x : Operand)
+    → nat_lt line_bytes (length text) ≡ false → k ≡ kind_of s.macros w → w ≡ words_of text
+    → MatchBool (takes_expression k w.operation) (ReadsExpression text x) (x ≡ Err Syntax)
+    → Shows sources c n (said_by sources d l text w x s ls k)
     → (y : Operand) × ReadsText s.macros (Ok text) y × Shows sources c n (said_text sources d l y s ls (Ok text))
-text_said sources d c n s l ls text given k x short e g t h = (x, rw (← e) (rw g at t), rw (short, ← e) h)
+text_said sources d c n s l ls text w k x short e g t h =
+    let f : k ≡ kind_of s.macros (words_of text) = e ∙ ap (kind_of s.macros) g in
+    (x, rw (← f, ← g) t, rw (short, ← f, said_is sources d l text x s ls k, ← g) h)

@@ -7,7 +7,8 @@ use Rattle.expand_model.specs.Known.{Operand, ReadsExpression}
 use Rattle.expand_model.specs.States.{State}
 use Rattle.expand_model.specs.Steps.{Sources, Depth, alone_kinds, file_kinds, got, judged, macro_called, said_text}
 use Rattle.expand_model.specs.Steps as model
-use Rattle.expand_model.specs.Words.{Words, as_name, operand_text, words_of}
+use Rattle.expand_model.specs.Substitution.{substituted}
+use Rattle.expand_model.specs.Words.{Words, as_name, operand_text}
 use Rattle.asm_variables.specs.declared.expansion.Definition.{Definition}
 use Rattle.asm_variables.specs.declared.expansion.Expansion.{Expansion}
 use Rattle.asm_expand.specs.declared.places.Place.{Place}
@@ -31,10 +32,15 @@ IsCalled c word called = Values c (λ s. maybe_macro called ≡ macro_called (as
 abbrev pub IsKind : Expansion → Words → Kind → Type 0
 IsKind c w k = Values c (λ s. kind_shown k ≡ model.kind_of s.macros w)
 
--- the operand of a line of this kind
-abbrev pub TakesOperand : model.Kind → List ℕ → Operand → Type 0
-TakesOperand k text x =
-    MatchBool (model.takes_expression k (words_of text).operation) (ReadsExpression text x) (x ≡ Err Syntax)
+-- the operand of a line of this kind with this operation
+abbrev pub TakesOperand : model.Kind → List ℕ → List ℕ → Operand → Type 0
+TakesOperand k word text x = MatchBool (model.takes_expression k word) (ReadsExpression text x) (x ≡ Err Syntax)
+
+-- what a line with these words says
+abbrev pub said_by : Sources → Depth → Line → List ℕ → Words → Operand → State → List Line → model.Kind → model.Next
+said_by sources d l text w x s ls (model.Worded o) = model.said_word sources d l w x s ls o
+said_by sources d l text w x s ls (model.Called m) = model.call d l w s ls m
+said_by sources d l text w x s ls model.Plain = model.plain_line l text w x s ls
 
 -- what a GET says
 abbrev pub SaysGet : Place → Depth → Words → Next → Type 0
@@ -53,6 +59,16 @@ abbrev pub ReadsText : Place → List ℕ → Depth → Expansion → Expansion 
 ReadsText at text d old new n =
     (sources : Sources) (s : State) (l : Line) (ls : List Line) → place_lines at ≡ l ∷ ls → Represents old s
     → (x : Operand) × model.ReadsText s.macros (Ok text) x × Shows sources new n (said_text sources d l x s ls (Ok text))
+
+-- a text that substitution leaves as it is
+abbrev pub Stays : List ℕ → Type 0
+Stays text = (s : State) → substituted s text ≡ Ok text
+
+-- the same of a line with this text before substitution
+abbrev pub ReadsLine : Place → List ℕ → Depth → Expansion → Expansion → Next → Type 0
+ReadsLine at text d old new n =
+    (sources : Sources) (s : State) (l : Line) (ls : List Line) → place_lines at ≡ l ∷ ls → Represents old s
+    → (x : Operand) × model.ReadsText s.macros (substituted s text) x × Shows sources new n (said_text sources d l x s ls (substituted s text))
 
 -- what the first line says, with some operand that it has
 abbrev pub Reads : Place → Depth → Expansion → Expansion → Next → Type 0

@@ -11,6 +11,7 @@ ghost use Rattle.asm_expand.specs.Saying.{most_flats};
 ghost use Rattle.asm_expand.specs.declared.steps.Next.TheVariants as next;
 ghost use Rattle.asm_expand.specs.Leading.{Caused, Closes, Gets, IsBadAt, IsDeeper, IsFault, IsGetOf, IsReadOf, IsRefusal, IsShallower, LedOn, OfFiles, Opens, OutermostEnd, RunsTo, RunsToGet, Smaller, Starts, weight};
 
+use crate::kept::{NONE_KEPT, kept_with};
 use crate::places::Place;
 use crate::reading::read;
 use crate::steps::{Depth, End, Frame, Next};
@@ -269,11 +270,15 @@ fn expand_lines<S: Store>(alloc: Global, first: Place, store: &mut S) -> Result<
 {
     let mut engine = started(alloc);
     let mut next = Next::Go(first);
+    let mut kept = NONE_KEPT;
     'steps: loop {
         match step(alloc, store, &mut engine, next) {
             Err(fault) => return Err(fault),
             Ok(None) => return Ok(engine.state.flats),
-            Ok(Some(after)) => next = after,
+            Ok(Some(after)) => {
+                kept = kept_with(kept, engine.state.flats.as_slice())?;
+                next = after;
+            }
         }
     }
 }

@@ -2,10 +2,11 @@
 
 ghost use Rattle.std.specs.Prelude.{◌≡◌, ◌+◌, ◌≤◌, length, IfOk, OnOk};
 ghost use Rattle.expand_model.specs.Steps as model;
-ghost use Rattle.expand_model.specs.Words.{as_name, words_of};
+ghost use Rattle.expand_model.specs.Words.{as_name};
 ghost use Rattle.asm_variables.specs.Known.{WasRead};
 ghost use Rattle.asm_expand.specs.Plain.{IsFlat, IsNumber, Labels, Numbers, Pushes};
 ghost use Rattle.asm_expand.specs.Saying.{Says};
+ghost use Rattle.asm_variables.specs.Steps.{words_shown};
 
 use crate::places::Place;
 use crate::steps::{End, Next};
@@ -15,7 +16,7 @@ use asm_variables::expansion::Expansion;
 use asm_variables::maps::{add, put};
 use asm_variables::prototypes::name_of;
 use asm_variables::values::known_number;
-use asm_variables::words::words_of;
+use asm_variables::words::Words;
 use indexmap::{IndexMap, IndexSet};
 use sdt_fault::kinds::LineKind;
 use sdt_fault::{Bytes, NoMemory, Text};
@@ -120,8 +121,8 @@ fn push_flat(
 }
 
 /// The flat line that a line becomes.
-fn flat_at(alloc: Global, at: &Place, text: Vec<u8>) -> Result<Option<Flat>, NoMemory>
-    ensures { IfOk result (λ flat. IsFlat at.now text.items flat) }
+fn flat_at(alloc: Global, at: &Place, text: &[u8]) -> Result<Option<Flat>, NoMemory>
+    ensures { IfOk result (λ flat. IsFlat at.now text.now flat) }
 {
     let Some(line) = at.first() else {
         return Ok(None);
@@ -130,25 +131,25 @@ fn flat_at(alloc: Global, at: &Place, text: Vec<u8>) -> Result<Option<Flat>, NoM
     Ok(Some(Flat {
         source,
         number: line.number,
-        text: Bytes::from_vec(text),
+        text: Bytes::from_slice(alloc, text)?,
     }))
 }
 
-/// What a line says that is no part of expansion.
+/// What a line with this text and these words says that is no part of expansion.
 pub fn say_plain(
     alloc: Global,
     state: &mut Expansion,
     at: Place,
-    text: Vec<u8>,
+    text: &[u8],
+    words: Words<'_>,
     operand: &Result<Expr, LineKind>,
 ) -> Result<Next, NoMemory>
     requires { WasRead operand.now }
     ensures says { IfOk result (λ next. Says at state.old state.new next (λ s l ls.
-        model.plain_line l text.items (words_of text.items) operand.now s ls)) }
+        model.plain_line l text.now (words_shown words.entry) operand.now s ls)) }
     ensures visits { state.new.visits ≤ state.old.visits }
     ensures flats { length state.new.flats.items ≤ length state.old.flats.items + 1 }
 {
-    let words = words_of(text.as_slice());
     let ends = is_called(b"END", words.operation);
     let thumb = state_behind(words.operation, state.thumb);
     let name = label_name(alloc, words.label)?;

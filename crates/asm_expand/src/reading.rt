@@ -8,7 +8,7 @@ ghost use Rattle.asm_model.specs.Kinds.{told_kind};
 ghost use Rattle.expand_model.specs.Steps.{Stop, Closed, Left};
 ghost use Rattle.expand_model.specs.Steps as model;
 ghost use Rattle.asm_variables.specs.Known.{WasRead};
-ghost use Rattle.asm_expand.specs.Reading.{IsCalled, IsKind, IsRead, Reads, ReadsText, SaysAlone, SaysGet, TakesOperand, kind_shown};
+ghost use Rattle.asm_expand.specs.Reading.{IsCalled, IsKind, IsRead, Reads, ReadsLine, ReadsText, SaysAlone, SaysGet, TakesOperand, kind_shown, said_by};
 ghost use Rattle.asm_expand.specs.Saying.{Says, SaysFrom, depth_of, most_flats};
 ghost use Rattle.asm_variables.specs.Steps.{words_shown};
 
@@ -16,6 +16,7 @@ use crate::calls::call;
 use crate::conditions::{say_if, say_while};
 use crate::declarations::{say_global, say_local, say_set};
 use crate::definitions::definition;
+use crate::dollars::has_dollar;
 use crate::faults::{alone_fault, is_some_text, label_fault};
 use crate::places::Place;
 use crate::plain::{is_equ, say_plain};
@@ -68,6 +69,9 @@ fn macro_called(
 ) -> Result<Option<Definition>, NoMemory>
     ensures { IfOk result (λ called. IsCalled state.now word.now called) }
 {
+    if state.macros.is_empty() {
+        return Ok(None);
+    }
     let Some(name) = name_of(word) else {
         return Ok(None);
     };
@@ -106,13 +110,19 @@ fn takes_expression(kind: &Kind, word: &[u8]) -> bool
     }
 }
 
-/// The operand of a line, where one is read.
-fn operand_of(alloc: Global, kind: &Kind, text: &[u8]) -> Result<Result<Expr, LineKind>, NoMemory>
+/// The operand of a line with this operation, where one is read.
+fn operand_of(
+    alloc: Global,
+    kind: &Kind,
+    word: &[u8],
+    text: &[u8],
+) -> Result<Result<Expr, LineKind>, NoMemory>
     requires { length text.now < 2 ^ 32 }
-    ensures reads { IfOk result (λ operand. TakesOperand (kind_shown kind.now) text.now operand) }
+    ensures reads { IfOk result
+        (λ operand. TakesOperand (kind_shown kind.now) word.now text.now operand) }
     ensures read { IfOk result (λ operand. WasRead operand) }
 {
-    if takes_expression(kind, words_of(text).operation) {
+    if takes_expression(kind, word) {
         return expression_in(alloc, text);
     }
     Ok(Err(LineKind::Syntax))
@@ -238,30 +248,28 @@ fn say_word(
     }
 }
 
-/// What a line with this text says.
-#[tactic(auto, unfolding(expand_model::specs::Steps::said))]
+/// What a line with this text and these words says.
 fn say(
     alloc: Global,
     depth: Depth,
     state: &mut Expansion,
     at: Place,
-    text: Vec<u8>,
+    text: &[u8],
+    words: Words<'_>,
     kind: Kind,
     operand: &Result<Expr, LineKind>,
 ) -> Result<Next, NoMemory>
     requires { WasRead operand.now }
     ensures says { IfOk result (λ next. SaysFrom at state.old state.new next (λ sources s l ls.
-        model.said sources (depth_of depth) l text.items operand.now s ls (kind_shown kind))) }
+        said_by sources (depth_of depth) l text.now (words_shown words.entry) operand.now s ls
+        (kind_shown kind))) }
     ensures visits { state.new.visits ≤ state.old.visits }
     ensures flats { length state.new.flats.items ≤ length state.old.flats.items + 1 }
 {
     match kind {
-        Kind::Plain => say_plain(alloc, state, at, text, operand),
-        Kind::Called(called) => { call(alloc, depth, state, at, words_of(text.as_slice()), called) }
-        Kind::Worded(operation) => {
-            let words = words_of(text.as_slice());
-            say_word(alloc, depth, state, at, words, operation, operand)
-        }
+        Kind::Plain => say_plain(alloc, state, at, text, words, operand),
+        Kind::Called(called) => call(alloc, depth, state, at, words, called),
+        Kind::Worded(operation) => say_word(alloc, depth, state, at, words, operation, operand),
     }
 }
 
@@ -271,19 +279,58 @@ fn read_text(
     depth: Depth,
     state: &mut Expansion,
     at: Place,
-    text: Vec<u8>,
+    text: &[u8],
 ) -> Result<Next, NoMemory>
     ensures says { IfOk result
-        (λ next. ReadsText at text.items (depth_of depth) state.old state.new next) }
+        (λ next. ReadsText at text.now (depth_of depth) state.old state.new next) }
     ensures visits { state.new.visits ≤ state.old.visits }
     ensures flats { length state.new.flats.items ≤ length state.old.flats.items + 1 }
 {
-    if text.as_slice().len() > LINE_BYTES {
+    if text.len() > LINE_BYTES {
         return Ok(Next::Bad(at, LineKind::TooMany));
     }
-    let kind = kind_of(alloc, state, words_of(text.as_slice()))?;
-    let operand = operand_of(alloc, &kind, text.as_slice())?;
-    say(alloc, depth, state, at, text, kind, &operand)
+    let words = words_of(text);
+    let kind = kind_of(alloc, state, words)?;
+    let operand = operand_of(alloc, &kind, words.operation, text)?;
+    say(alloc, depth, state, at, text, words, kind, &operand)
+}
+
+/// What a line with this text says, which has dollars.
+fn read_dollars(
+    alloc: Global,
+    depth: Depth,
+    state: &mut Expansion,
+    at: Place,
+    text: &[u8],
+) -> Result<Next, NoMemory>
+    ensures says { IfOk result
+        (λ next. ReadsLine at text.now (depth_of depth) state.old state.new next) }
+    ensures visits { state.new.visits ≤ state.old.visits }
+    ensures flats { length state.new.flats.items ≤ length state.old.flats.items + 1 }
+{
+    match substitute(alloc, &state.tables, text)? {
+        None => Ok(Next::Bad(at, LineKind::UnknownWord)),
+        Some(text) => read_text(alloc, depth, state, at, text.as_slice()),
+    }
+}
+
+/// What a line with this text says.
+fn read_line(
+    alloc: Global,
+    depth: Depth,
+    state: &mut Expansion,
+    at: Place,
+    text: &[u8],
+) -> Result<Next, NoMemory>
+    ensures says { IfOk result
+        (λ next. ReadsLine at text.now (depth_of depth) state.old state.new next) }
+    ensures visits { state.new.visits ≤ state.old.visits }
+    ensures flats { length state.new.flats.items ≤ length state.old.flats.items + 1 }
+{
+    if has_dollar(text) {
+        return read_dollars(alloc, depth, state, at, text);
+    }
+    read_text(alloc, depth, state, at, text)
 }
 
 /// What the first line at a place says.
@@ -293,15 +340,13 @@ pub fn read(alloc: Global, depth: Depth, state: &mut Expansion, at: Place) -> Re
     ensures visits { IfOk result (λ next. IsRead next state.old.visits state.new.visits) }
     ensures flats { most_flats state.new ≤ most_flats state.old }
 {
-    let Some(line) = at.first() else {
+    let here = at.copy()?;
+    let Some(line) = here.first() else {
         return Ok(Next::Stop(End::Over));
     };
     if state.visits == 0 {
         return Ok(Next::Bad(at, LineKind::TooMany));
     }
     state.visit();
-    match substitute(alloc, &state.tables, line.text.as_slice())? {
-        None => Ok(Next::Bad(at, LineKind::UnknownWord)),
-        Some(text) => read_text(alloc, depth, state, at, text),
-    }
+    read_line(alloc, depth, state, at, line.text.as_slice())
 }
