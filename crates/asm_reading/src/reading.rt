@@ -99,7 +99,7 @@ fn read_as_written(alloc: Global, lines: &[Flat]) -> Result<Reading, NoMemory>
     ensures { IfOk result (λ reading. reading_of.IsWritten lines.now reading) }
 {
     let mut reading = Reading {
-        statements: Vec::new(alloc),
+        statements: Vec::with_capacity(alloc, lines.len())?,
         unread: None,
         before: 0,
     };

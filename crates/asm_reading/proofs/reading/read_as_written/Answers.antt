@@ -3,7 +3,7 @@ use Rattle.asm_reading.proofs.ReadLemmas.{written_next}
 use Rattle.asm_reading.proofs.reading.read_as_written.Goals as goal
 
 pub loop-line-init : goal.loop-line-init
-loop-line-init c = (record { says = []; say = tt; statements = search; unread = refl; before = refl }, refl)
+loop-line-init c = (record { says = []; say = tt; statements = c.in_ok-with_capacity.ensures.items; unread = refl; before = refl }, refl)
 
 pub loop-line-preserved : goal.loop-line-preserved
 loop-line-preserved c =
