@@ -1,7 +1,7 @@
 //! The source that `make-big` makes, as a text.
 #![tactic(auto)]
 
-ghost use Rattle.std.specs.Prelude.{◌≡◌, ◌≤◌, ◌++◌, codes, map, OnOk, IfOk};
+ghost use Rattle.std.specs.Prelude.{◌≡◌, ◌++◌, codes, map, OnOk, IfOk};
 ghost use Rattle.std.specs.List.{range_with_len};
 ghost use Rattle.big_model.specs.Sources.{big_text, data_line, spelled, step_line};
 
@@ -62,7 +62,6 @@ fn push_data(alloc: Global, out: &mut Vec<u8>, n: u32) -> Result<(), NoMemory>
 ///
 /// Want of memory.
 pub fn big_source(alloc: Global, n: u32) -> Result<Bytes, NoMemory>
-    requires { n ≤ 50000 }
     ensures { IfOk result (λ source. source ≡ big_text n) }
 {
     let mut out = Vec::new(alloc);
