@@ -1,0 +1,7 @@
+mod DataLemmas
+mod DigitLemmas
+mod FixedLemmas
+mod SayLemmas
+mod StepLemmas
+mod TextLemmas
+mod WholeLemmas
