@@ -34,7 +34,7 @@ use Rattle.source_laws.proofs.ListedLemmas.{among_either, among_first, among_las
 use Rattle.source_model.specs.Objects.{Piece, Source, IsAmong, StandsIn, source_of, things_of, things_behind, things_in, words_of}
 use Rattle.source_model.specs.Registers.{Named, register_in, registers_behind, named_by}
 use Rattle.source_model.specs.SourceFaults.{first_valued, layout_faults, value_faults}
-use Rattle.armasm_core.specs.declared.building.Growing.{Growing}
+use Rattle.armasm_core.specs.declared.building.AreaBuild.{AreaBuild}
 use Rattle.armasm_core.specs.Building.{HavePieces, MeetNoneThere, frame_of, frames, pieces_put, with_line}
 use Rattle.armasm_core.specs.Emission.{IsEmittable, IsGrown, things_so_far}
 use Rattle.armasm_core.proofs.FrameLemmas.{frame_there}
@@ -77,7 +77,7 @@ apart_there apart ss sound states before rest l own more parts same e = λ area 
     (subst (IsAmong q) (sym (things_here ss area before rest l more (sym same ∙ here) e))
     (among_last q (things_so_far (source_of ss) before (l ∷ rest) area) more u)))
 
-builders_there : (ss : List Statement) (names : List (List ℕ)) (before rest : List LaidLine) (l : LaidLine) (own : Option ℕ) (more : List Piece) (gs : List Growing)
+builders_there : (ss : List Statement) (names : List (List ℕ)) (before rest : List LaidLine) (l : LaidLine) (own : Option ℕ) (more : List Piece) (gs : List AreaBuild)
     → own ≡ l.area → own_things ss l before rest ≡ more
     → HavePieces names (with_line (things_so_far (source_of ss) before (l ∷ rest)) own more) gs → HavePieces names (things_so_far (source_of ss) (l ∷ before) rest) gs
 builders_there ss names before rest l own more gs same e h = λ area g is.
@@ -122,7 +122,7 @@ words_apart apart ss xs sound states h area = by_area (slice_get xs area) refl
         subst (λ (ps : List Piece). MeetNone ps ps) (sym (words_are ss xs area a h at))
         (λ q u p k. apart ss sound states area p q (words_stand ss area p k) (words_stand ss area q u))
 
-pub pools_first : (ss : List Statement) (names : List (List ℕ)) (xs : List LaidArea) (gs : List Growing) → AreAreas (laid ss) xs → frames gs ≡ map frame_of xs
+pub pools_first : (ss : List Statement) (names : List (List ℕ)) (xs : List LaidArea) (gs : List AreaBuild) → AreAreas (laid ss) xs → frames gs ≡ map frame_of xs
     → HavePieces names (pool_words (source_of ss) xs) gs → HavePieces names (pooled_words (source_of ss)) gs
 pools_first ss names xs gs h same builders = λ area g is.
     let f = frame_there gs xs same area g is in
@@ -131,7 +131,7 @@ pools_first ss names xs gs h same builders = λ area g is.
 
 -- ---- all lines
 
-pub grown_first : (ss : List Statement) (l : Layout) (w : Whole) (names : List (List ℕ)) (known : List Named) (gs : List Growing) → IsEmittable ss l w
+pub grown_first : (ss : List Statement) (l : Layout) (w : Whole) (names : List (List ℕ)) (known : List Named) (gs : List AreaBuild) → IsEmittable ss l w
     → ((q : List ℕ) → register_in q known ≡ None) → HavePieces names (pooled_words (source_of ss)) gs → IsGrown ss names l.statements known gs
 grown_first ss l w names known gs h none builders = record {
   before = [];
@@ -143,7 +143,7 @@ grown_first ss l w names known gs h none builders = record {
   builders = λ area g is. subst (λ (ps : List Piece). HasPieces names ps g.builder) (sym (append-nil (pooled_words (source_of ss) area))) (builders area g is);
 }
 
-pub grown_all : (ss : List Statement) (names : List (List ℕ)) (left : List LaidStatement) (known : List Named) (gs : List Growing) → length left < 1
+pub grown_all : (ss : List Statement) (names : List (List ℕ)) (left : List LaidStatement) (known : List Named) (gs : List AreaBuild) → length left < 1
     → IsGrown ss names left known gs → (value_faults ss ≡ None) × HavePieces names (things_in (source_of ss)) gs
 grown_all ss names left known gs less h =
     let none = none_left h.before h.rest (subst (λ (xs : List LaidStatement). AreOn h.before h.rest xs) (nothing left less) h.lines) in
@@ -156,7 +156,7 @@ grown_all ss names left known gs less h =
     )
 
 -- the lines that are left begin with this one
-pub record Next (ss : List Statement) (l : Layout) (w : Whole) (names : List (List ℕ)) (x : LaidStatement) (more : List LaidStatement) (known : List Named) (gs : List Growing) : Type 0 where
+pub record Next (ss : List Statement) (l : Layout) (w : Whole) (names : List (List ℕ)) (x : LaidStatement) (more : List LaidStatement) (known : List Named) (gs : List AreaBuild) : Type 0 where
   pub before : List LaidLine
   pub line : LaidLine
   pub rest : List LaidLine
@@ -165,7 +165,7 @@ pub record Next (ss : List Statement) (l : Layout) (w : Whole) (names : List (Li
   pub none : value_faults ss ≡ first_valued (laid ss) ss before (line ∷ rest)
   pub builders : HavePieces names (things_so_far (source_of ss) before (line ∷ rest)) gs
 
-next_of : (ss : List Statement) (l : Layout) (w : Whole) (names : List (List ℕ)) (x : LaidStatement) (more : List LaidStatement) (known : List Named) (gs : List Growing)
+next_of : (ss : List Statement) (l : Layout) (w : Whole) (names : List (List ℕ)) (x : LaidStatement) (more : List LaidStatement) (known : List Named) (gs : List AreaBuild)
     → IsEmittable ss l w → IsGrown ss names (x ∷ more) known gs → Next ss l w names x more known gs
 next_of ss l w names x more known gs j k =
     let f = first_of k.before k.rest x more k.lines in
@@ -187,14 +187,14 @@ next_of ss l w names x more known gs j k =
       builders = λ area g is. subst (λ (ls : List LaidLine). HasPieces names (things_so_far (source_of ss) k.before ls area) g.builder) f.parts (k.builders area g is);
     }
 
-pub next_there : (ss : List Statement) (l : Layout) (w : Whole) (names : List (List ℕ)) (x : LaidStatement) (left : List LaidStatement) (known : List Named) (gs : List Growing)
+pub next_there : (ss : List Statement) (l : Layout) (w : Whole) (names : List (List ℕ)) (x : LaidStatement) (left : List LaidStatement) (known : List Named) (gs : List AreaBuild)
     → 1 ≤ length left → x ≡ get_or left 0 x → IsEmittable ss l w → IsGrown ss names left known gs → Next ss l w names x (take (length left - 1) (drop 1 left)) known gs
 next_there ss l w names x left known gs some at j k =
     next_of ss l w names x (take (length left - 1) (drop 1 left)) known gs j
     (subst (λ (xs : List LaidStatement). IsGrown ss names xs known gs) (rest_of left x some at) k)
 
 -- what the line puts is what definitions have
-pub put_there : (ss : List Statement) (l : Layout) (w : Whole) (names : List (List ℕ)) (x : LaidStatement) (more : List LaidStatement) (known : List Named) (gs : List Growing)
+pub put_there : (ss : List Statement) (l : Layout) (w : Whole) (names : List (List ℕ)) (x : LaidStatement) (more : List LaidStatement) (known : List Named) (gs : List AreaBuild)
     (n : Next ss l w names x more known gs) (u : LineUnits) (us : List Code) → us ≡ u.units.items → IsPut ss n.before n.rest n.line u
     → own_things ss n.line n.before n.rest ≡ pieces_put x.place.offset us
 put_there ss l w names x more known gs n u us is h =
@@ -205,13 +205,13 @@ told_first t u f (inl none) = inl none
 told_first t u f (inr h) = inr (h.0, h.1, ap (λ o. or_else o u) h.2, h.3)
 
 -- the refusal of the first of the lines that are left is that of the source
-pub told_here : (ss : List Statement) (l : Layout) (w : Whole) (names : List (List ℕ)) (x : LaidStatement) (more : List LaidStatement) (known : List Named) (gs : List Growing)
+pub told_here : (ss : List Statement) (l : Layout) (w : Whole) (names : List (List ℕ)) (x : LaidStatement) (more : List LaidStatement) (known : List Named) (gs : List AreaBuild)
     (n : Next ss l w names x more known gs) (f : Fault) → IsTold (told_at n.line.statement (told_kind (kinds_at ss n.before n.line n.rest))) f → IsTold (value_faults ss) f
 told_here ss l w names x more known gs n f h =
     subst (λ o. IsTold o f) (sym n.none)
     (told_first (told_at n.line.statement (told_kind (kinds_at ss n.before n.line n.rest))) (first_valued (laid ss) ss (n.line ∷ n.before) n.rest) f h)
 
-pub grown_more : (ss : List Statement) (l : Layout) (w : Whole) (names : List (List ℕ)) (x : LaidStatement) (more : List LaidStatement) (known new : List Named) (gs hs : List Growing)
+pub grown_more : (ss : List Statement) (l : Layout) (w : Whole) (names : List (List ℕ)) (x : LaidStatement) (more : List LaidStatement) (known new : List Named) (gs hs : List AreaBuild)
     (n : Next ss l w names x more known gs) (u : LineUnits) (us : List Code) → us ≡ u.units.items → IsPut ss n.before n.rest n.line u
     → HavePieces names (with_line (things_so_far (source_of ss) n.before (n.line ∷ n.rest)) x.place.area (pieces_put x.place.offset us)) hs
     → ((q : List ℕ) → register_in q new ≡ register_in q (known ++ gives u.number (defined_by x.statement)))

@@ -21,7 +21,7 @@ use Rattle.object_laws.proofs.RelocLemmas.{length_map}
 use Rattle.layout_laws.proofs.SoundLemmas.{statements_kept}
 use Rattle.source_model.specs.Objects.{Piece, source_of, things_in, attributes_of, KeepsBytes, HasRelocs, IsRelocOf, IsArea, contents_of, is_kept, relocs_of, symbol_named, symbol_records}
 use Rattle.source_model.specs.SourceFaults.{layout_faults}
-use Rattle.armasm_core.specs.declared.building.Growing.{Growing}
+use Rattle.armasm_core.specs.declared.building.AreaBuild.{AreaBuild}
 use Rattle.armasm_core.specs.Building.{HavePieces, Frame, IsFinished, frame, frame_of, frames, kept_size, marks_zeroes}
 use Rattle.armasm_core.proofs.AreaLemmas.{zeroes_there}
 use Rattle.armasm_core.proofs.FrameLemmas.{frame_there}
@@ -29,12 +29,12 @@ use Rattle.armasm_core.proofs.RelocLemmas.{of_source}
 
 -- ---- an area by its number
 
-record IsPair (gs : List Growing) (area : ℕ) (a : Area) : Type 0 where
-  builder : Growing
+record IsPair (gs : List AreaBuild) (area : ℕ) (a : Area) : Type 0 where
+  builder : AreaBuild
   there : slice_get gs area ≡ Some builder
   finished : IsFinished builder a
 
-pair_there : (gs : List Growing) (areas : List Area) → AllZip IsFinished gs areas → (area : ℕ) (a : Area) → slice_get areas area ≡ Some a → IsPair gs area a
+pair_there : (gs : List AreaBuild) (areas : List Area) → AllZip IsFinished gs areas → (area : ℕ) (a : Area) → slice_get areas area ≡ Some a → IsPair gs area a
 pair_there [] [] h area a is = absurd (cc)
 pair_there [] (b ∷ areas) h area a is = absurd h
 pair_there (g ∷ gs) [] h area a is = absurd h
@@ -45,7 +45,7 @@ pair_there (g ∷ gs) (b ∷ areas) h (suc area) a is =
     let p = pair_there gs areas h.1 area a is in
     record { builder = p.builder; there = p.there; finished = p.finished }
 
-long : (gs : List Growing) (xs : List LaidArea) → frames gs ≡ map frame_of xs → length gs ≡ length xs
+long : (gs : List AreaBuild) (xs : List LaidArea) → frames gs ≡ map frame_of xs → length gs ≡ length xs
 long [] [] e = refl
 long [] (x ∷ xs) e = absurd (cc)
 long (g ∷ gs) [] e = absurd (cc)
@@ -83,7 +83,7 @@ relocs_there ss names area relocs e h = record {
 
 -- ---- all areas
 
-area_there : (ss : List Statement) (names : List (List ℕ)) (xs : List LaidArea) (area : ℕ) (a : Area) (g : Growing) (x : LaidArea)
+area_there : (ss : List Statement) (names : List (List ℕ)) (xs : List LaidArea) (area : ℕ) (a : Area) (g : AreaBuild) (x : LaidArea)
     → layout_faults ss ≡ None → AreAreas (laid ss) xs → names ≡ symbols_of (source_of ss).names (laid ss)
     → slice_get xs area ≡ Some x → frame g ≡ frame_of x → HasPieces names (things_in (source_of ss) area) g.builder → IsFinished g a → IsArea (source_of ss) area a
 area_there ss names xs area a g x sound laid_areas listed at same builder done =
@@ -102,7 +102,7 @@ area_there ss names xs area a g x sound laid_areas listed at same builder done =
       relocs = relocs_there ss names area a.relocs listed (done.relocs names (things_in (source_of ss) area) builder);
     }
 
-pub areas_there : (ss : List Statement) (names : List (List ℕ)) (xs : List LaidArea) (gs : List Growing) (areas : List Area)
+pub areas_there : (ss : List Statement) (names : List (List ℕ)) (xs : List LaidArea) (gs : List AreaBuild) (areas : List Area)
     → layout_faults ss ≡ None → AreAreas (laid ss) xs → names ≡ symbols_of (source_of ss).names (laid ss)
     → frames gs ≡ map frame_of xs → HavePieces names (things_in (source_of ss)) gs → AllZip IsFinished gs areas
     → (area : ℕ) (a : Area) → slice_get areas area ≡ Some a → IsArea (source_of ss) area a
@@ -111,7 +111,7 @@ areas_there ss names xs gs areas sound laid_areas listed same builders done = λ
     let f = frame_there gs xs same area p.builder p.there in
     area_there ss names xs area a p.builder f.laid_area sound laid_areas listed f.there f.same (builders area p.builder p.there) p.finished
 
-pub count_there : (ss : List Statement) (xs : List LaidArea) (gs : List Growing) (areas : List Area) → AreAreas (laid ss) xs → frames gs ≡ map frame_of xs
+pub count_there : (ss : List Statement) (xs : List LaidArea) (gs : List AreaBuild) (areas : List Area) → AreAreas (laid ss) xs → frames gs ≡ map frame_of xs
     → AllZip IsFinished gs areas → length areas ≡ length (areas_behind ss)
 count_there ss xs gs areas laid_areas same done =
     AllZip-long IsFinished gs areas done ∙ long gs xs same ∙ laid_areas.count ∙ ap (λ (ss : List Statement). length (areas_behind ss)) (statements_kept (declared_names ss) ss)

@@ -39,7 +39,7 @@ use Rattle.source_model.specs.Objects.{Piece, Source, IsAmong, StandsIn, content
 use Rattle.source_laws.specs.Laws.{AreOfState}
 use Rattle.source_model.specs.SourceFaults.{layout_faults}
 use Rattle.source_model.specs.Units.{Emitted, Bytes, Word, Instruction, Half, LinkPair, Stored, Target, Nothing, ByArea, BySymbol}
-use Rattle.armasm_core.specs.declared.building.Growing.{Growing}
+use Rattle.armasm_core.specs.declared.building.AreaBuild.{AreaBuild}
 use Rattle.armasm_core.specs.Building.{Frame, LineCanStand, frame_of, frames, kept_size, marks_zeroes, pieces_put}
 use Rattle.armasm_core.specs.Emission.{GrowsOn, HasSource, HasSymbols, IsEmittable, things_so_far}
 use Rattle.armasm_core.specs.Listing.{StandsThere}
@@ -147,7 +147,7 @@ frame_got (x ∷ xs) (suc i) a e = frame_got xs i a e
 
 line_stands : (o : Layout) (h : HasSource o) (names : List (List ℕ)) → names ≡ symbols_of (source_of h.statements).names (laid h.statements)
     → (areas : List LaidArea) (w : Whole) (before rest : List LaidLine) (l : LaidLine) (x : LaidStatement) → StandsThere h.statements areas w before rest l x
-    → (gs : List Growing) → frames gs ≡ map frame_of areas → (us : List Code) → own_things h.statements l before rest ≡ pieces_put x.place.offset us
+    → (gs : List AreaBuild) → frames gs ≡ map frame_of areas → (us : List Code) → own_things h.statements l before rest ≡ pieces_put x.place.offset us
     → AllUnitsFit (map emitted_of us) → LineCanStand names (frames gs) x.place.area (pieces_put x.place.offset us)
 line_stands o h names listed areas w before rest l x there gs same us puts fits = by_area x.place.area refl
   where
@@ -181,7 +181,7 @@ emittable l w names h =
     let s = h.source in record { layout = s.layout; said = s.said; sound = s.sound; states = s.states; whole = h.whole }
 
 -- of the lines that are left the first can stand
-pub next_stands : (l : Layout) (w : Whole) (names : List (List ℕ)) (x : LaidStatement) (left : List LaidStatement) (known : List Named) (gs : List Growing)
+pub next_stands : (l : Layout) (w : Whole) (names : List (List ℕ)) (x : LaidStatement) (left : List LaidStatement) (known : List Named) (gs : List AreaBuild)
     → 1 ≤ length left → x ≡ get_or left 0 x → (g : GrowsOn l w names left known gs) → frames gs ≡ map frame_of l.areas → (u : LineUnits) (us : List Code) → us ≡ u.units.items
     → ((before rest : List LaidLine) (line : LaidLine) → IsHere g.source.source.statements l.areas w known before rest line x → IsPut g.source.source.statements before rest line u)
     → LineCanStand names (frames gs) x.place.area (pieces_put x.place.offset us)

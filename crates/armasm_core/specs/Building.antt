@@ -9,7 +9,7 @@ use Rattle.asm_units.specs.declared.emitted.Emitted.{Emitted as Code}
 use Rattle.asm_units.specs.Emitting.{emitted_of}
 use Rattle.asm_model.specs.Offsets.{is_of}
 use Rattle.source_model.specs.Objects.{Piece, units_from}
-use Rattle.armasm_core.specs.declared.building.Growing.{Growing}
+use Rattle.armasm_core.specs.declared.building.AreaBuild.{AreaBuild}
 
 -- ---- what stays while an area is emitted
 
@@ -28,20 +28,20 @@ marks_zeroes attributes = bit attributes 12 == 1
 abbrev pub kept_size : ℕ → ℕ → ℕ
 kept_size attributes size = if marks_zeroes attributes then 0 else size
 
-abbrev pub frame : Growing → Frame
+abbrev pub frame : AreaBuild → Frame
 frame g = record { name = g.name; attributes = g.attributes; size = g.size; kept = length g.builder.bytes.items }
 
 abbrev pub frame_of : LaidArea → Frame
 frame_of a = record { name = a.name; attributes = a.attributes; size = a.size; kept = kept_size a.attributes a.size }
 
-abbrev pub frames : List Growing → List Frame
+abbrev pub frames : List AreaBuild → List Frame
 frames gs = map frame gs
 
 -- ---- what stands in areas
 
 -- in each area stand these things
-abbrev pub HavePieces : List (List ℕ) → (ℕ → List Piece) → List Growing → Type 0
-HavePieces names held gs = (area : ℕ) (g : Growing) → slice_get gs area ≡ Some g → HasPieces names (held area) g.builder
+abbrev pub HavePieces : List (List ℕ) → (ℕ → List Piece) → List AreaBuild → Type 0
+HavePieces names held gs = (area : ℕ) (g : AreaBuild) → slice_get gs area ≡ Some g → HasPieces names (held area) g.builder
 
 -- what a line puts from an offset on
 abbrev pub pieces_put : ℕ → List Code → List Piece
@@ -68,13 +68,13 @@ abbrev pub MeetNoneThere : (ℕ → List Piece) → Option ℕ → List Piece �
 MeetNoneThere held own more = (area : ℕ) → own ≡ Some area → MeetNone (held area) more
 
 -- of these areas that of a line takes what the line puts
-abbrev pub AreasTake : List (List ℕ) → Option ℕ → List Piece → List Growing → List Growing → Type 0
+abbrev pub AreasTake : List (List ℕ) → Option ℕ → List Piece → List AreaBuild → List AreaBuild → Type 0
 AreasTake names own more old new =
     (held : ℕ → List Piece) → HavePieces names held old → MeetNoneThere held own more → HavePieces names (with_line held own more) new
 
 -- ---- finished areas
 
-pub record IsFinished (g : Growing) (a : Area) : Type 0 where
+pub record IsFinished (g : AreaBuild) (a : Area) : Type 0 where
   pub name : a.name ≡ g.name
   pub attributes : a.attributes ≡ g.attributes
   pub size : a.size ≡ g.size

@@ -17,7 +17,7 @@ use Rattle.source_laws.specs.Laws.{AreOfState}
 use Rattle.source_model.specs.Objects.{Piece, Source, source_of, things_behind, things_in}
 use Rattle.source_model.specs.Registers.{Named, register_in, registers_behind}
 use Rattle.source_model.specs.SourceFaults.{first_valued, layout_faults, value_faults}
-use Rattle.armasm_core.specs.declared.building.Growing.{Growing}
+use Rattle.armasm_core.specs.declared.building.AreaBuild.{AreaBuild}
 use Rattle.armasm_core.specs.Building.{HavePieces}
 use Rattle.armasm_core.specs.Pools.{pooled_words}
 
@@ -51,7 +51,7 @@ abbrev pub things_so_far : Source → List LaidLine → List LaidLine → ℕ �
 things_so_far s before rest area = pooled_words s area ++ things_behind s area before rest
 
 -- of a source's lines these are left, none before has a fault of values, and in the areas stands what those before put there
-pub record IsGrown (statements : List Statement) (symbols : List (List ℕ)) (left : List LaidStatement) (known : List Named) (gs : List Growing) : Type 0 where
+pub record IsGrown (statements : List Statement) (symbols : List (List ℕ)) (left : List LaidStatement) (known : List Named) (gs : List AreaBuild) : Type 0 where
   pub before : List LaidLine
   pub rest : List LaidLine
   pub parts : laid statements ≡ reversed rest before
@@ -61,11 +61,11 @@ pub record IsGrown (statements : List Statement) (symbols : List (List ℕ)) (le
   pub builders : HavePieces symbols (things_so_far (source_of statements) before rest) gs
 
 -- of the lines of the layout's source these are left
-pub record GrowsOn (l : Layout) (w : Whole) (symbols : List (List ℕ)) (left : List LaidStatement) (known : List Named) (gs : List Growing) : Type 0 where
+pub record GrowsOn (l : Layout) (w : Whole) (symbols : List (List ℕ)) (left : List LaidStatement) (known : List Named) (gs : List AreaBuild) : Type 0 where
   pub source : HasSymbols l w symbols
   pub grown : IsGrown source.source.statements symbols left known gs
 
 -- in the areas stands what all lines put there; or the refusal of the first line whose values have a fault, or want of memory
-abbrev pub AreGrown : List Statement → List (List ℕ) → Result (Vec Growing) Fault → Type 0
+abbrev pub AreGrown : List Statement → List (List ℕ) → Result (Vec AreaBuild) Fault → Type 0
 AreGrown statements symbols (Ok gs) = (value_faults statements ≡ None) × HavePieces symbols (things_in (source_of statements)) gs.items
 AreGrown statements symbols (Err f) = IsTold (value_faults statements) f

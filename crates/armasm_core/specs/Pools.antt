@@ -7,7 +7,7 @@ use Rattle.asm_model.specs.Offsets.{all_pooled}
 use Rattle.asm_layout.specs.declared.laid.LaidArea.{LaidArea}
 use Rattle.asm_sets.specs.Sets.{HaveSame}
 use Rattle.source_model.specs.Objects.{Piece, Source, words_of}
-use Rattle.armasm_core.specs.declared.building.Growing.{Growing}
+use Rattle.armasm_core.specs.declared.building.AreaBuild.{AreaBuild}
 use Rattle.armasm_core.specs.declared.builders.AreaBuilder.{AreaBuilder}
 use Rattle.armasm_core.specs.declared.whole.Whole.{Whole}
 use Rattle.armasm_core.specs.Building.{HavePieces, kept_size}
@@ -64,6 +64,6 @@ pub record PoolsCanStand (w : Whole) (names : List (List ℕ)) (areas : List Lai
       → WordsCanStand w names (kept_size a.attributes a.size) area a.pools.placed
 
 -- in each area the words of its pools stand and nothing else
-abbrev pub HoldPools : Whole → List (List ℕ) → List LaidArea → List Growing → Type 0
+abbrev pub HoldPools : Whole → List (List ℕ) → List LaidArea → List AreaBuild → Type 0
 HoldPools w names areas gs =
     (s : Source) → Shares w s → ((area : ℕ) → MeetNone (pool_words s areas area) (pool_words s areas area)) → HavePieces names (pool_words s areas) gs

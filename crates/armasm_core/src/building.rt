@@ -19,7 +19,7 @@ use std::alloc::Global;
 
 /// An area while the object is emitted.
 #[derive(Debug, Drop)]
-pub struct Growing {
+pub struct AreaBuild {
     pub name: Text,
     pub attributes: u32,
     /// In bytes, with its pools.
@@ -44,7 +44,7 @@ fn started(
     number: u32,
     whole: &Whole<'_>,
     symbols: &Symbols,
-) -> Result<Growing, NoMemory>
+) -> Result<AreaBuild, NoMemory>
     requires few { length symbols.now < 2 ^ 24 }
     requires stand { WordsCanStand whole.now symbols.now
         (building.kept_size laid.now.attributes laid.now.size) number laid.now.pools.placed }
@@ -65,7 +65,7 @@ fn started(
         offsets,
         symbols,
     )?;
-    Ok(Growing {
+    Ok(AreaBuild {
         name,
         attributes: laid.attributes,
         size: laid.size,
@@ -79,69 +79,69 @@ pub fn all_started(
     areas: &[LaidArea],
     whole: &Whole<'_>,
     symbols: &Symbols,
-) -> Result<Vec<Growing>, NoMemory>
+) -> Result<Vec<AreaBuild>, NoMemory>
     requires few { length symbols.now < 2 ^ 24 }
     requires stand { PoolsCanStand whole.now symbols.now areas.now }
     ensures frames { IfOk result (λ gs. frames gs.items ≡ map frame_of areas.now) }
     ensures words { IfOk result (λ gs. HoldPools whole.now symbols.now areas.now gs.items) }
 {
-    let mut growing = Vec::new(alloc);
+    let mut builds = Vec::new(alloc);
     let mut number = 0;
     'areas: for area in areas {
-        growing.push(started(alloc, area, number, whole, symbols)?)?;
+        builds.push(started(alloc, area, number, whole, symbols)?)?;
         number += 1;
     }
-    Ok(growing)
+    Ok(builds)
 }
 
 fn grow(
-    growing: &mut Growing,
+    build: &mut AreaBuild,
     at: u32,
     units: &[Emitted],
     symbols: &Symbols,
 ) -> Result<(), NoMemory>
     requires few { length symbols.now < 2 ^ 24 }
-    requires small { length growing.old.builder.bytes.items < 2 ^ 32 }
-    requires stand { AllCanStand symbols.now (length growing.old.builder.bytes.items)
+    requires small { length build.old.builder.bytes.items < 2 ^ 32 }
+    requires stand { AllCanStand symbols.now (length build.old.builder.bytes.items)
         (pieces_put at units.now) }
-    ensures frame { frame growing.new ≡ frame growing.old }
+    ensures frame { frame build.new ≡ frame build.old }
     ensures more { OnOk result
-        (TakesMore symbols.now (pieces_put at units.now) growing.old.builder growing.new.builder) }
+        (TakesMore symbols.now (pieces_put at units.now) build.old.builder build.new.builder) }
 {
-    growing.builder.put_all(at, units, symbols)
+    build.builder.put_all(at, units, symbols)
 }
 
 /// Puts into a line's area what the line puts there.
 pub fn put_line(
-    growing: &mut Vec<Growing>,
+    builds: &mut Vec<AreaBuild>,
     place: &Place,
     units: &[Emitted],
     symbols: &Symbols,
 ) -> Result<(), NoMemory>
     requires few { length symbols.now < 2 ^ 24 }
-    requires stand { LineCanStand symbols.now (frames growing.old.items) place.now.area
+    requires stand { LineCanStand symbols.now (frames builds.old.items) place.now.area
         (pieces_put place.now.offset units.now) }
-    ensures frames { frames growing.new.items ≡ frames growing.old.items }
+    ensures frames { frames builds.new.items ≡ frames builds.old.items }
     ensures more { OnOk result
         (AreasTake symbols.now place.now.area
-        (pieces_put place.now.offset units.now) growing.old.items growing.new.items) }
+        (pieces_put place.now.offset units.now) builds.old.items builds.new.items) }
 {
     let Some(area) = place.area else {
         return Ok(());
     };
     let number = area as usize;
-    grow(&mut growing[number], place.offset, units, symbols)
+    grow(&mut builds[number], place.offset, units, symbols)
 }
 
-fn finished(alloc: Global, growing: Growing) -> Result<Area, NoMemory>
-    ensures { IfOk result (λ area. IsFinished growing area) }
+fn finished(alloc: Global, build: AreaBuild) -> Result<Area, NoMemory>
+    ensures { IfOk result (λ area. IsFinished build area) }
 {
-    let Growing {
+    let AreaBuild {
         name,
         attributes,
         size,
         builder,
-    } = growing;
+    } = build;
     let done = builder.finish(alloc)?;
     Ok(Area {
         name,
@@ -153,11 +153,11 @@ fn finished(alloc: Global, growing: Growing) -> Result<Area, NoMemory>
 }
 
 /// The finished areas, in their order.
-pub fn all_finished(alloc: Global, growing: Vec<Growing>) -> Result<List<Area>, NoMemory>
-    ensures { IfOk result (λ areas. AllZip IsFinished growing.items areas) }
+pub fn all_finished(alloc: Global, builds: Vec<AreaBuild>) -> Result<List<Area>, NoMemory>
+    ensures { IfOk result (λ areas. AllZip IsFinished builds.items areas) }
 {
     let mut areas = Vec::new(alloc);
-    'areas: for area in growing {
+    'areas: for area in builds {
         areas.push(finished(alloc, area)?)?;
     }
     Ok(List::from_vec(areas))

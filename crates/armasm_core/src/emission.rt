@@ -20,7 +20,7 @@ ghost use Rattle.armasm_core.specs.Emission.{AreGrown, HasSource, HasSymbols, Is
 ghost use Rattle.armasm_core.specs.Emitted.{IsEmitted};
 ghost use Rattle.armasm_core.specs.Wherever.{StandsWherever};
 
-use crate::building::{Growing, all_finished, all_started, put_line};
+use crate::building::{AreaBuild, all_finished, all_started, put_line};
 use crate::entry::entry_of;
 use crate::flags::code_of;
 use crate::records::records_of;
@@ -43,7 +43,7 @@ fn grown(
     layout: &Layout,
     whole: &Whole<'_>,
     symbols: &Symbols,
-) -> Result<Vec<Growing>, Fault>
+) -> Result<Vec<AreaBuild>, Fault>
     requires said { AllLaidSaid layout.now.statements }
     requires source { HasSymbols layout.now whole.now symbols.now }
     requires few { length symbols.now < 2 ^ 24 }
@@ -53,15 +53,15 @@ fn grown(
 {
     sources_stand_apart();
     let areas = layout.areas.as_slice();
-    let mut growing = all_started(alloc, areas, whole, symbols)?;
+    let mut builds = all_started(alloc, areas, whole, symbols)?;
     let mut registers = NameMap::new(alloc);
     let mut left = layout.statements.as_slice();
     'lines: loop {
         match left {
-            [] => return Ok(growing),
+            [] => return Ok(builds),
             [line, rest @ ..] => {
                 let LineUnits { units, number } = pass_line(alloc, areas, whole, &registers, line)?;
-                put_line(&mut growing, &line.place, units.as_slice(), symbols)?;
+                put_line(&mut builds, &line.place, units.as_slice(), symbols)?;
                 give(alloc, &mut registers, &line.statement, number)?;
                 left = rest;
             }
@@ -103,8 +103,8 @@ fn object_of(alloc: Global, layout: &Layout) -> Result<Object, Fault>
     let whole = whole_of(alloc, layout)?;
     let needed = symbols_of(alloc, layout, &whole)?;
     let symbols = few_records(alloc, layout, &whole, &needed)?;
-    let growing = grown(alloc, layout, &whole, &needed)?;
-    let areas = all_finished(alloc, growing)?;
+    let builds = grown(alloc, layout, &whole, &needed)?;
+    let areas = all_finished(alloc, builds)?;
     Ok(Object {
         areas,
         symbols,

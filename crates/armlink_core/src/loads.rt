@@ -4,7 +4,7 @@ ghost use Rattle.std.specs.Prelude.{◌≡◌, ◌∷◌, [], IfOk};
 ghost use Rattle.place_model.specs.Assignment.{description, plain_load};
 ghost use Rattle.armlink_core.specs.Images.{bytes_in, loads_from};
 
-use link_model::{LoadRegion, Region, numbered};
+use link_model::{LoadRegion, Region, to_u32};
 use place_model::{Kind, ScatterLoad};
 use sdt_fault::{Bytes, List, NoMemory, Text};
 use std::alloc::Global;
@@ -40,7 +40,7 @@ fn described_loads(
         out.push(LoadRegion {
             name: load.name.try_clone(alloc)?,
             base: load.base,
-            bytes: Bytes::from_vec(bytes_in(alloc, numbered(k)?, regions, parts)?),
+            bytes: Bytes::from_vec(bytes_in(alloc, to_u32(k)?, regions, parts)?),
         })?;
     }
     Ok(out)

@@ -204,9 +204,9 @@ block text c l m (two b x) = on_both (λ p q. block_line c l m p q) (lists.base 
 block text c l m _ = Err Syntax
 
 -- a number, before which # may stand
-abbrev pub numbered : List Token → Option (List Token) → List Token
-numbered ts (Some e) = e
-numbered ts None = ts
+abbrev pub without_hash : List Token → Option (List Token) → List Token
+without_hash ts (Some e) = e
+without_hash ts None = ts
 
 -- ADR and ADRL, of Rd and a label
 abbrev pub address_line : Condition → Bool → Register → Expr → What
@@ -238,7 +238,7 @@ ReadsWord text mnemonic.StoreHalf c ts r = ReadsHalf text c false half.Half (cut
 ReadsWord text (mnemonic.TransferBlock l m) c ts r = r ≡ block text c l m (cut (operands text ts))
 ReadsWord text (mnemonic.Branch l) c ts r = Expression text (λ e. what.Arm (line.Branch c l e)) ts r
 ReadsWord text mnemonic.SoftwareInterrupt c ts r =
-    Expression text (λ e. what.Arm (line.SoftwareInterrupt c e)) (numbered ts (without_first text hash ts)) r
+    Expression text (λ e. what.Arm (line.SoftwareInterrupt c e)) (without_hash ts (without_first text hash ts)) r
 ReadsWord text mnemonic.Address c ts r = ReadsAddress text c false (cut (operands text ts)) r
 ReadsWord text mnemonic.LongAddress c ts r = ReadsAddress text c true (cut (operands text ts)) r
 ReadsWord text mnemonic.NoOperation c ts r = r ≡ idle ts

@@ -476,9 +476,9 @@ fn branch(alloc: Global, text: &[u8], condition: Condition, link: bool, tokens: 
 }
 
 /// A number, before which # may stand.
-pub fn numbered<'a>(text: &[u8], tokens: &'a [Token]) -> &'a [Token]
+pub fn without_hash<'a>(text: &[u8], tokens: &'a [Token]) -> &'a [Token]
     ensures { result.now
-        ≡ lines.numbered tokens.now (operands.without_first text.now lines.hash tokens.now) }
+        ≡ lines.without_hash tokens.now (operands.without_first text.now lines.hash tokens.now) }
 {
     match without_first(text, b"#", tokens) {
         Some(number) => number,
@@ -617,7 +617,12 @@ fn of_word(
         }
         Mnemonic::TransferBlock { load, mode } => block(alloc, text, condition, load, mode, cut),
         Mnemonic::Branch { link } => branch(alloc, text, condition, link, tokens),
-        Mnemonic::SoftwareInterrupt => interrupt(alloc, text, condition, numbered(text, tokens)),
+        Mnemonic::SoftwareInterrupt => interrupt(
+            alloc,
+            text,
+            condition,
+            without_hash(text, tokens),
+        ),
         Mnemonic::Address => address(alloc, text, condition, false, cut),
         Mnemonic::LongAddress => address(alloc, text, condition, true, cut),
         Mnemonic::NoOperation => Ok(idle(tokens)),

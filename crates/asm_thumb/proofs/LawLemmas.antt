@@ -9,7 +9,7 @@ use Rattle.asm_model.specs.declared.tokens.Token.{Token}
 use Rattle.asm_model.specs.declared.statements.What.{What}
 use Rattle.asm_model.specs.Grammar.{OneParse, ParsesTokens}
 use Rattle.asm_model.specs.Operands.{operands}
-use Rattle.asm_arm.specs.Lines.{hash, equals, bracket, numbered}
+use Rattle.asm_arm.specs.Lines.{hash, equals, bracket, without_hash}
 use Rattle.asm_arm.specs.Operands.{Cuts, none, one, two, three, four, more, cut, without_first}
 use Rattle.asm_arm.proofs.LawLemmas.{one_value, one_made}
 use Rattle.asm_thumb.specs.declared.frames.Frame.{Frame}
@@ -118,7 +118,7 @@ one_word law text (mnemonic.BranchConditional c) ts a b p q = one_with law text 
 one_word law text mnemonic.Branch ts a b p q = one_with law text (Ok frame.Branch) ts a b p q
 one_word law text mnemonic.BranchLink ts a b p q = one_with law text (Ok frame.BranchLink) ts a b p q
 one_word law text mnemonic.BranchExchange ts a b p q = p ∙ sym q
-one_word law text mnemonic.SoftwareInterrupt ts a b p q = one_with law text (Ok frame.SoftwareInterrupt) (numbered ts (without_first text hash ts)) a b p q
+one_word law text mnemonic.SoftwareInterrupt ts a b p q = one_with law text (Ok frame.SoftwareInterrupt) (without_hash ts (without_first text hash ts)) a b p q
 one_word law text mnemonic.Address ts a b p q = one_address law text (cut (operands text ts)) a b p q
 one_word law text mnemonic.NoOperation ts a b p q = p ∙ sym q
 one_word law text mnemonic.FloatingPoint ts a b p q = p ∙ sym q

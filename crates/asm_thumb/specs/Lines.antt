@@ -11,7 +11,7 @@ use Rattle.asm_model.specs.declared.statements.What.TheVariants as what
 use Rattle.asm_model.specs.declared.thumb_lines.ThumbLine.TheVariants as line
 use Rattle.asm_model.specs.Operands.{operands}
 use Rattle.asm_model.specs.Says.{mapped, on_both}
-use Rattle.asm_arm.specs.Lines.{hash, idle, numbered}
+use Rattle.asm_arm.specs.Lines.{hash, idle, without_hash}
 use Rattle.asm_arm.specs.Operands.{Cuts, one, two, cut, no_register, register, without_first}
 use Rattle.asm_thumb.specs.declared.frames.Frame.TheVariants as frame
 use Rattle.asm_thumb.specs.declared.words.Mnemonic.{Mnemonic}
@@ -57,7 +57,7 @@ ReadsWord text mnemonic.Branch ts r = ReadsWith text (Ok frame.Branch) ts r
 ReadsWord text mnemonic.BranchLink ts r = ReadsWith text (Ok frame.BranchLink) ts r
 ReadsWord text mnemonic.BranchExchange ts r = r ≡ exchange text (cut (operands text ts))
 ReadsWord text mnemonic.SoftwareInterrupt ts r =
-    ReadsWith text (Ok frame.SoftwareInterrupt) (numbered ts (without_first text hash ts)) r
+    ReadsWith text (Ok frame.SoftwareInterrupt) (without_hash ts (without_first text hash ts)) r
 ReadsWord text mnemonic.Address ts r = ReadsAddress text (cut (operands text ts)) r
 ReadsWord text mnemonic.NoOperation ts r = r ≡ idle ts
 ReadsWord text mnemonic.FloatingPoint ts r = r ≡ Err FloatingPoint

@@ -11,7 +11,7 @@ use crate::frames::{Frame, Said, with_value};
 use crate::operands::{register_list, written_base};
 use crate::transfers::{Transfer, signed_transfer, transferred};
 use crate::words::Mnemonic;
-use asm_arm::lines::{idle, numbered};
+use asm_arm::lines::{idle, without_hash};
 use asm_arm::operands::{Cut, both, cut_operands, register};
 use asm_model::{Register, RegisterList, ThumbLine, Token, What};
 use sdt_fault::kinds::LineKind;
@@ -118,7 +118,7 @@ fn of_word(alloc: Global, text: &[u8], mnemonic: Mnemonic, tokens: &[Token]) -> 
         Mnemonic::BranchLink => with_value(alloc, text, Ok(Frame::BranchLink), tokens),
         Mnemonic::BranchExchange => exchange(alloc, text, cut),
         Mnemonic::SoftwareInterrupt => {
-            let number = numbered(text, tokens);
+            let number = without_hash(text, tokens);
             with_value(alloc, text, Ok(Frame::SoftwareInterrupt), number)
         }
         Mnemonic::Address => address(alloc, text, cut),

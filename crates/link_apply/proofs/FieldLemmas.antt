@@ -7,7 +7,7 @@ use Rattle.sdt_word.specs.Bytes.{bytes_of}
 use Rattle.aof_object.specs.declared.records.Area.{Area}
 use Rattle.aof_object.specs.declared.records.Reloc.{Reloc}
 use Rattle.patch_model.specs.Fields.{Kind, Byte, Half, Word, Branch, Field, Home, Values, field_of, kind_of, directives, added, taken, size_of, number_in}
-use Rattle.patch_model.specs.Patched.{total, Fits, is_branch, SameBranch, span, middle, ahead, Veneers, Way, Directly, ByVeneer, first_symbol, way_of, Leads, LeadsAt, AddsUp}
+use Rattle.patch_model.specs.Patched.{total, Fits, is_branch, SameBranch, biased_displacement, bias, pc_offset, Veneers, Way, Directly, ByVeneer, first_symbol, way_of, Leads, LeadsAt, AddsUp}
 use Rattle.patch_model.specs.Reaches.{HasVeneer}
 use Rattle.patch_model.proofs.BranchLemmas.{branch_tested}
 use Rattle.link_model.specs.declared.placing.Placement.{Placement}
@@ -15,7 +15,7 @@ use Rattle.link_apply.specs.Placed.{veneers_at, target_in}
 use Rattle.link_apply.specs.declared.flaws.Flaw.{Flaw}
 use Rattle.link_apply.specs.declared.flaws.Flaw.TheVariants.{Malformed, Overflow, OutOfReach}
 use Rattle.link_apply.specs.Flaws.{unit, is_odd, is_far, is_far_behind, has_bad_way, is_far_way, is_only, unless, narrow_flaw, veneer_of, lacks_veneer, goal_of, way_flaw, branch_flaw, value_flaw, has_bad_field}
-use Rattle.link_apply.specs.PatchedBytes.{with_span, turned, number_by, veneer_bytes}
+use Rattle.link_apply.specs.PatchedBytes.{with_displacement, turned, number_by, veneer_bytes}
 use Rattle.link_apply.specs.Laws.{VeneerLaw}
 
 -- ---- tests
@@ -27,10 +27,10 @@ none_of flaw false next e = (refl, e)
 not_odd : (t : Bool) (n : ℕ) → is_odd t n ≡ false → n % unit t ≡ 0
 not_odd t n e = eqb-true (n % unit t) 0 (not-false (n % unit t == 0) e)
 
-not_far : (t : Bool) (from to : ℕ) → is_far t from to ≡ false → (from ≤ to) × (to < from + 2 * middle t)
+not_far : (t : Bool) (from to : ℕ) → is_far t from to ≡ false → (from ≤ to) × (to < from + 2 * bias t)
 not_far t from to e =
-    let parts = or_parts (nat_lt to from) (nat_le (from + 2 * middle t) to) e in
-    (ltb-false to from parts.0, leb-false (from + 2 * middle t) to parts.1)
+    let parts = or_parts (nat_lt to from) (nat_le (from + 2 * bias t) to) e in
+    (ltb-false to from parts.0, leb-false (from + 2 * bias t) to parts.1)
 
 fits_narrow : (width sum : ℕ) → narrow_flaw width sum ≡ None → Fits width sum
 fits_narrow width sum e = by_test (nat_lt sum (2 ^ width) || nat_le (2 ^ 32 - 2 ^ (width - 1)) sum) refl e
@@ -45,23 +45,23 @@ fits_narrow width sum e = by_test (nat_lt sum (2 ^ width) || nat_le (2 ^ 32 - 2 
 
 -- ---- branches with another displacement
 
-same_branch : (t : Bool) (old to : ℕ) → old < 2 ^ 32 → SameBranch t old (with_span t old to)
+same_branch : (t : Bool) (old to : ℕ) → old < 2 ^ 32 → SameBranch t old (with_displacement t old to)
 same_branch false old to small = omega arith
 same_branch true old to small = (omega arith, omega arith)
 
-small_branch : (t : Bool) (old to : ℕ) → old < 2 ^ 32 → with_span t old to < 2 ^ 32
+small_branch : (t : Bool) (old to : ℕ) → old < 2 ^ 32 → with_displacement t old to < 2 ^ 32
 small_branch false old to small = omega arith
 small_branch true old to small = omega arith
 
-span_is : (t : Bool) (old to : ℕ) → to < 2 * middle t → to % unit t ≡ 0 → span t (with_span t old to) ≡ to
-span_is false old to below even = omega arith
-span_is true old to below even = omega arith
+displacement_is : (t : Bool) (old to : ℕ) → to < 2 * bias t → to % unit t ≡ 0 → biased_displacement t (with_displacement t old to) ≡ to
+displacement_is false old to below even = omega arith
+displacement_is true old to below even = omega arith
 
 even_direct : (t : Bool) (s more less : ℕ) → total s more less % unit t ≡ 0 → less ≤ s + more → (s + more - less) % unit t ≡ 0
 even_direct false s more less e h = omega arith
 even_direct true s more less e h = omega arith
 
-even_veneer : (t : Bool) (v from : ℕ) → total v (middle t) from % unit t ≡ 0 → from ≤ v + middle t → (v + middle t - from) % unit t ≡ 0
+even_veneer : (t : Bool) (v from : ℕ) → total v (bias t) from % unit t ≡ 0 → from ≤ v + bias t → (v + bias t - from) % unit t ≡ 0
 even_veneer false v from e h = omega arith
 even_veneer true v from e h = omega arith
 
@@ -72,29 +72,29 @@ HasWay veneers (ByVeneer home state) v = veneers home state ≡ Some v
 
 leads : (t : Bool) (at old more less v goal : ℕ) (veneers : Veneers) (way : Way) → HasWay veneers way v
     → has_bad_way t at old more less v way goal ≡ false → is_far_way t at old more less v way goal ≡ false
-    → Leads t (at + ahead t) veneers old (turned t at old more less v way) more less way
+    → Leads t (at + pc_offset t) veneers old (turned t at old more less v way) more less way
 unfolding HasWay
 leads t at old more less v goal veneers Directly there good near =
-    let range = not_far t less (span t old + more) near in
-    let even = even_direct t (span t old) more less (not_odd t (total (span t old) more less) good) range.0 in
-    let e = span_is t old (span t old + more - less) (omega arith) even in
+    let range = not_far t less (biased_displacement t old + more) near in
+    let even = even_direct t (biased_displacement t old) more less (not_odd t (total (biased_displacement t old) more less) good) range.0 in
+    let e = displacement_is t old (biased_displacement t old + more - less) (omega arith) even in
     omega arith
 leads t at old more less v goal veneers (ByVeneer home state) there good near =
-    let range = not_far t (at + ahead t) (v + middle t) (or_parts (is_far t (at + ahead t) (v + middle t)) (is_far_behind state v goal) near).0 in
-    let odd = (or_parts (is_odd state goal) (is_odd t (total v (middle t) (at + ahead t))) good).1 in
-    let even = even_veneer t v (at + ahead t) (not_odd t (total v (middle t) (at + ahead t)) odd) range.0 in
-    let e = span_is t old (v + middle t - (at + ahead t)) (omega arith) even in
-    let At : Option ℕ → Type 0 = λ o. LeadsAt t (at + ahead t) (with_span t old (v + middle t - (at + ahead t))) o in
-    let here : (at + ahead t) + span t (with_span t old (v + middle t - (at + ahead t))) ≡ v + middle t = omega arith in
+    let range = not_far t (at + pc_offset t) (v + bias t) (or_parts (is_far t (at + pc_offset t) (v + bias t)) (is_far_behind state v goal) near).0 in
+    let odd = (or_parts (is_odd state goal) (is_odd t (total v (bias t) (at + pc_offset t))) good).1 in
+    let even = even_veneer t v (at + pc_offset t) (not_odd t (total v (bias t) (at + pc_offset t)) odd) range.0 in
+    let e = displacement_is t old (v + bias t - (at + pc_offset t)) (omega arith) even in
+    let At : Option ℕ → Type 0 = λ o. LeadsAt t (at + pc_offset t) (with_displacement t old (v + bias t - (at + pc_offset t))) o in
+    let here : (at + pc_offset t) + biased_displacement t (with_displacement t old (v + bias t - (at + pc_offset t))) ≡ v + bias t = omega arith in
     subst At (sym there) here
 
 same_turned : (t : Bool) (at old more less v : ℕ) (way : Way) → old < 2 ^ 32 → SameBranch t old (turned t at old more less v way)
-same_turned t at old more less v Directly small = same_branch t old (span t old + more - less) small
-same_turned t at old more less v (ByVeneer home state) small = same_branch t old (v + middle t - (at + ahead t)) small
+same_turned t at old more less v Directly small = same_branch t old (biased_displacement t old + more - less) small
+same_turned t at old more less v (ByVeneer home state) small = same_branch t old (v + bias t - (at + pc_offset t)) small
 
 small_turned : (t : Bool) (at old more less v : ℕ) (way : Way) → old < 2 ^ 32 → turned t at old more less v way < 2 ^ 32
-small_turned t at old more less v Directly small = small_branch t old (span t old + more - less) small
-small_turned t at old more less v (ByVeneer home state) small = small_branch t old (v + middle t - (at + ahead t)) small
+small_turned t at old more less v Directly small = small_branch t old (biased_displacement t old + more - less) small
+small_turned t at old more less v (ByVeneer home state) small = small_branch t old (v + bias t - (at + pc_offset t)) small
 
 has_way : (p : Placement) (region : ℕ) (way : Way) → lacks_veneer p region way ≡ false → HasWay (veneers_at p region) way (veneer_of p region way)
 unfolding HasWay
@@ -144,16 +144,16 @@ small_by p values region base bytes f (Branch t) rs small =
 
 -- ---- veneers
 
-veneer_field : (to : ℕ) → with_span false 0xEA000000 to ≡ 0xEA000000 + (to / 4 + 2 ^ 23) % 2 ^ 24
+veneer_field : (to : ℕ) → with_displacement false 0xEA000000 to ≡ 0xEA000000 + (to / 4 + 2 ^ 23) % 2 ^ 24
 veneer_field to = omega arith
 
 has_veneer : (v target : ℕ) (state : Bool) → v % 4 ≡ 0 → is_odd state target ≡ false → is_far_behind state v target ≡ false
     → HasVeneer v target state (veneer_bytes v target state)
 has_veneer v target true aligned even near = record { even = not_odd true target even; contents = refl }
 has_veneer v target false aligned even near =
-    let range = not_far false (v + 4 + ahead false) (target + middle false) near in
+    let range = not_far false (v + 4 + pc_offset false) (target + bias false) near in
     let whole = not_odd false target even in
-    let to : ℕ = total target (middle false) (v + 4 + ahead false) in
+    let to : ℕ = total target (bias false) (v + 4 + pc_offset false) in
     record {
       aligned = aligned;
       field = (to / 4 + 2 ^ 23) % 2 ^ 24;
@@ -173,8 +173,8 @@ way_veneer p region t at old more less v home state there whole sound =
     let far : Bool = is_far_way t at old more less v (ByVeneer home state) (target_in p home) in
     let one = none_of Malformed bad (unless OutOfReach far None) here in
     let two = none_of OutOfReach far None one.1 in
-    has_veneer v goal state whole (or_parts (is_odd state goal) (is_odd t (total v (middle t) (at + ahead t))) one.0).0
-    (or_parts (is_far t (at + ahead t) (v + middle t)) (is_far_behind state v goal) two.0).1
+    has_veneer v goal state whole (or_parts (is_odd state goal) (is_odd t (total v (bias t) (at + pc_offset t))) one.0).0
+    (or_parts (is_far t (at + pc_offset t) (v + bias t)) (is_far_behind state v goal) two.0).1
 
 pub veneer_law : VeneerLaw
 veneer_law p values region base area a home state v g =

@@ -13,7 +13,7 @@ use Rattle.aof_object.specs.declared.records.Area.{Area}
 use Rattle.aof_object.specs.declared.records.Object.{Object}
 use Rattle.aof_object.specs.declared.records.Reloc.{Reloc}
 use Rattle.patch_model.specs.Fields.{Kind, Byte, Half, Word, Branch, Field, Values, field_of, kind_of, is_relative, is_by_symbol, number_named, is_same_kind, directives, added, taken, size_of, number_in}
-use Rattle.patch_model.specs.Patched.{total, span, middle, ahead, is_branch, Way, Directly, ByVeneer, way_of}
+use Rattle.patch_model.specs.Patched.{total, biased_displacement, bias, pc_offset, is_branch, Way, Directly, ByVeneer, way_of}
 use Rattle.link_model.specs.declared.placing.PlacedArea.{PlacedArea}
 use Rattle.link_model.specs.declared.placing.Placement.{Placement}
 use Rattle.link_model.specs.declared.selection.Linked.{Linked}
@@ -66,23 +66,23 @@ is_odd thumb displacement = not (displacement % unit thumb == 0)
 
 -- by what the branch at an address holds and what is added and taken; `veneer` is the address of the one it goes by
 abbrev pub has_bad_way : Bool → ℕ → ℕ → ℕ → ℕ → ℕ → Way → ℕ → Bool
-has_bad_way thumb at old added subtracted veneer Directly target = is_odd thumb (total (span thumb old) added subtracted)
+has_bad_way thumb at old added subtracted veneer Directly target = is_odd thumb (total (biased_displacement thumb old) added subtracted)
 has_bad_way thumb at old added subtracted veneer (ByVeneer home state) target =
-    is_odd state target || is_odd thumb (total veneer (middle thumb) (at + ahead thumb))
+    is_odd state target || is_odd thumb (total veneer (bias thumb) (at + pc_offset thumb))
 
--- the distance from one number to another is no span
+-- the distance from one number to another is no displacement
 abbrev pub is_far : Bool → ℕ → ℕ → Bool
-is_far thumb from to = nat_lt to from || nat_le (from + 2 * middle thumb) to
+is_far thumb from to = nat_lt to from || nat_le (from + 2 * bias thumb) to
 
 -- a veneer to ARM code branches from its second word to the target
 abbrev pub is_far_behind : Bool → ℕ → ℕ → Bool
 is_far_behind true veneer target = false
-is_far_behind false veneer target = is_far false (veneer + 4 + ahead false) (target + middle false)
+is_far_behind false veneer target = is_far false (veneer + 4 + pc_offset false) (target + bias false)
 
 abbrev pub is_far_way : Bool → ℕ → ℕ → ℕ → ℕ → ℕ → Way → ℕ → Bool
-is_far_way thumb at old added subtracted veneer Directly target = is_far thumb subtracted (span thumb old + added)
+is_far_way thumb at old added subtracted veneer Directly target = is_far thumb subtracted (biased_displacement thumb old + added)
 is_far_way thumb at old added subtracted veneer (ByVeneer home state) target =
-    is_far thumb (at + ahead thumb) (veneer + middle thumb) || is_far_behind state veneer target
+    is_far thumb (at + pc_offset thumb) (veneer + bias thumb) || is_far_behind state veneer target
 
 -- ---- the flaw of a relocation
 

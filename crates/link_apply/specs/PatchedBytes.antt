@@ -8,21 +8,21 @@ use Rattle.sdt_word.specs.Numbers.{bits}
 use Rattle.aof_object.specs.declared.records.Area.{Area}
 use Rattle.aof_object.specs.declared.records.Reloc.{Reloc}
 use Rattle.patch_model.specs.Fields.{Kind, Branch, Field, Values, field_of, directives, added, taken, size_of, number_in}
-use Rattle.patch_model.specs.Patched.{total, span, middle, ahead, Way, Directly, ByVeneer, way_of}
+use Rattle.patch_model.specs.Patched.{total, biased_displacement, bias, pc_offset, Way, Directly, ByVeneer, way_of}
 use Rattle.link_model.specs.declared.placing.Placement.{Placement}
 use Rattle.link_apply.specs.Flaws.{veneer_of}
 
 -- ---- one field
 
 -- a branch with another displacement, which is counted from the least one
-abbrev pub with_span : Bool → ℕ → ℕ → ℕ
-with_span false word to = word / 2 ^ 24 * 2 ^ 24 + (to / 4 + 2 ^ 23) % 2 ^ 24
-with_span true word to =
+abbrev pub with_displacement : Bool → ℕ → ℕ → ℕ
+with_displacement false word to = word / 2 ^ 24 * 2 ^ 24 + (to / 4 + 2 ^ 23) % 2 ^ 24
+with_displacement true word to =
     bits word 11 5 * 2 ^ 11 + (to / 2 + 2 ^ 21) % 2 ^ 22 / 2 ^ 11 + (bits word 27 5 * 2 ^ 11 + (to / 2 + 2 ^ 21) % 2 ^ 11) * 2 ^ 16
 
 abbrev pub turned : Bool → ℕ → ℕ → ℕ → ℕ → ℕ → Way → ℕ
-turned thumb at old added subtracted veneer Directly = with_span thumb old (span thumb old + added - subtracted)
-turned thumb at old added subtracted veneer (ByVeneer home state) = with_span thumb old (veneer + middle thumb - (at + ahead thumb))
+turned thumb at old added subtracted veneer Directly = with_displacement thumb old (biased_displacement thumb old + added - subtracted)
+turned thumb at old added subtracted veneer (ByVeneer home state) = with_displacement thumb old (veneer + bias thumb - (at + pc_offset thumb))
 
 -- what a field of an area in a region at a base holds
 abbrev pub number_by : Placement → Values → ℕ → ℕ → List ℕ → Field → Kind → List Reloc → ℕ
@@ -58,4 +58,4 @@ patched_bytes p values region base a = patched_from p values region base a 0 a.b
 abbrev pub veneer_bytes : ℕ → ℕ → Bool → List ℕ
 veneer_bytes v target true = bytes_of 0xE59FC000 4 ++ bytes_of 0xE12FFF1C 4 ++ bytes_of ((target + 1) % 2 ^ 32) 4
 veneer_bytes v target false =
-    bytes_of 0x4778 2 ++ bytes_of 0x46C0 2 ++ bytes_of (with_span false 0xEA000000 (total target (middle false) (v + 4 + ahead false))) 4
+    bytes_of 0x4778 2 ++ bytes_of 0x46C0 2 ++ bytes_of (with_displacement false 0xEA000000 (total target (bias false) (v + 4 + pc_offset false))) 4

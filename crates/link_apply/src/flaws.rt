@@ -4,7 +4,7 @@ ghost use Rattle.std.specs.Prelude.{◌≡◌, ◌+◌, ◌<◌, ◌^◌, ◌≤
 ghost use Rattle.link_apply.specs.Flaws.{has_bad_way, is_far, is_far_behind, is_far_way, is_odd, narrow_flaw, way_flaw};
 ghost use Rattle.link_apply.specs.Targets.{way_by};
 
-use crate::numbers::{ahead, middle, span, total};
+use crate::numbers::{bias, biased_displacement, pc_offset, total};
 use link_values::BranchTarget;
 
 /// The form, the sum of a byte or a half-word, or the distance of a branch.
@@ -59,7 +59,7 @@ fn is_too_far(thumb: bool, from: u64, to: u64) -> bool
     if to < from {
         return true;
     }
-    from + 2 * middle(thumb) <= to
+    from + 2 * bias(thumb) <= to
 }
 
 /// Of a branch that leads to what it names itself.
@@ -68,7 +68,7 @@ pub fn flaw_of_direct(thumb: bool, word: u32, added: u64, subtracted: u64) -> Op
     requires subtracted { subtracted < 2 ^ 63 }
     ensures { result ≡ way_flaw thumb 0 word added subtracted 0 (way_by None) 0 }
 {
-    let from = span(thumb, word);
+    let from = biased_displacement(thumb, word);
     if is_unaligned(thumb, total(from, added, subtracted)) {
         return Some(Flaw::Malformed);
     }
@@ -87,7 +87,7 @@ fn is_too_far_behind(thumb: bool, veneer: u64, goal: u64) -> bool
     if thumb {
         return false;
     }
-    is_too_far(false, veneer + 4 + ahead(false), goal + middle(false))
+    is_too_far(false, veneer + 4 + pc_offset(false), goal + bias(false))
 }
 
 /// Of a branch at an address that goes by a veneer.
@@ -106,10 +106,10 @@ pub fn flaw_of_detour(
     if is_unaligned(target.thumb, goal) {
         return Some(Flaw::Malformed);
     }
-    if is_unaligned(thumb, total(veneer, middle(thumb), at + ahead(thumb))) {
+    if is_unaligned(thumb, total(veneer, bias(thumb), at + pc_offset(thumb))) {
         return Some(Flaw::Malformed);
     }
-    if is_too_far(thumb, at + ahead(thumb), veneer + middle(thumb)) {
+    if is_too_far(thumb, at + pc_offset(thumb), veneer + bias(thumb)) {
         return Some(Flaw::OutOfReach);
     }
     if is_too_far_behind(target.thumb, veneer, goal) {

@@ -1,8 +1,8 @@
 //! Sums and displacements, counted without signs.
 
 ghost use Rattle.std.specs.Prelude.{◌≡◌, ◌<◌, ◌^◌};
-ghost use Rattle.patch_model.specs.Patched.{ahead as ahead_of, is_branch as reads_as_branch, middle as middle_of, span as span_of, total as total_of};
-ghost use Rattle.link_apply.specs.PatchedBytes.{with_span as spanning};
+ghost use Rattle.patch_model.specs.Patched.{pc_offset as pc_offset_of, is_branch as reads_as_branch, bias as bias_of, biased_displacement as biased_displacement_of, total as total_of};
+ghost use Rattle.link_apply.specs.PatchedBytes.{with_displacement as displaced};
 
 /// The word of a number and what is added to it and taken from it.
 pub fn total(old: u64, added: u64, subtracted: u64) -> u64
@@ -14,24 +14,24 @@ pub fn total(old: u64, added: u64, subtracted: u64) -> u64
 }
 
 /// How far behind a branch its displacement counts from.
-pub fn ahead(thumb: bool) -> u64
-    ensures value { result ≡ ahead_of thumb }
+pub fn pc_offset(thumb: bool) -> u64
+    ensures value { result ≡ pc_offset_of thumb }
     ensures bound { result < 9 }
 {
     if thumb { 4 } else { 8 }
 }
 
 /// What stands for no displacement.
-pub fn middle(thumb: bool) -> u64
-    ensures value { result ≡ middle_of thumb }
+pub fn bias(thumb: bool) -> u64
+    ensures value { result ≡ bias_of thumb }
     ensures bound { result < 2 ^ 26 }
 {
     if thumb { 0x40_0000 } else { 0x200_0000 }
 }
 
 /// The displacement of a branch, counted from the least one.
-pub fn span(thumb: bool, word: u32) -> u64
-    ensures value { result ≡ span_of thumb word }
+pub fn biased_displacement(thumb: bool, word: u32) -> u64
+    ensures value { result ≡ biased_displacement_of thumb word }
     ensures bound { result < 2 ^ 26 }
 {
     if thumb {
@@ -52,8 +52,8 @@ pub fn is_branch_word(thumb: bool, word: u32) -> bool
 }
 
 /// A branch with another displacement.
-pub fn with_span(thumb: bool, word: u32, to: u64) -> u32
-    ensures { result ≡ spanning thumb word to }
+pub fn with_displacement(thumb: bool, word: u32, to: u64) -> u32
+    ensures { result ≡ displaced thumb word to }
 {
     if thumb {
         let half = ((to / 2 % 0x40_0000 + 0x20_0000) % 0x40_0000) as u32;

@@ -7,7 +7,7 @@ ghost use Rattle.link_apply.specs.Sites.{Knows};
 
 use crate::detours::address_of;
 use crate::laying::RegionPiece;
-use crate::numbers::{ahead, middle, total, with_span};
+use crate::numbers::{bias, pc_offset, total, with_displacement};
 use crate::sites::PlacedLink;
 use link_model::PlacedVeneer;
 use link_values::AreaOffset;
@@ -33,11 +33,11 @@ fn bytes_to_arm(alloc: Global, address: u64, target: u64) -> Result<Vec<u8>, NoM
     requires target { target < 2 ^ 32 }
     ensures { IfOk result (λ bytes. bytes.items ≡ veneer_bytes address target false) }
 {
-    let to = total(target, middle(false), address + 4 + ahead(false));
+    let to = total(target, bias(false), address + 4 + pc_offset(false));
     let mut bytes = Vec::new(alloc);
     push_half(&mut bytes, 0x4778)?;
     push_half(&mut bytes, 0x46C0)?;
-    push_word(&mut bytes, with_span(false, 0xEA00_0000, to))?;
+    push_word(&mut bytes, with_displacement(false, 0xEA00_0000, to))?;
     Ok(bytes)
 }
 

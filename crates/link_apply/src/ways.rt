@@ -1,7 +1,7 @@
 //! How a branch leads to what it names.
 
 ghost use Rattle.std.specs.Prelude.{◌≡◌, ℕ, ◌+◌, ◌<◌, ◌^◌};
-ghost use Rattle.patch_model.specs.Patched.{ahead as ahead_of, middle as middle_of, span as span_of, total as total_of, way_to};
+ghost use Rattle.patch_model.specs.Patched.{pc_offset as pc_offset_of, bias as bias_of, biased_displacement as biased_displacement_of, total as total_of, way_to};
 ghost use Rattle.link_apply.specs.Starts.{AreBelow};
 ghost use Rattle.link_model.specs.declared.placing.Placement.{Placement};
 ghost use Rattle.link_apply.specs.Flaws.{goal_of, lacks_veneer, unless, veneer_of, way_flaw};
@@ -11,7 +11,7 @@ ghost use Rattle.link_apply.specs.Targets.{values_by, way_by, IsWayOf};
 
 use crate::flaws::{Flaw, flaw_of_detour, flaw_of_direct};
 use crate::judging::Sums;
-use crate::numbers::{ahead, middle, span, total, with_span};
+use crate::numbers::{bias, biased_displacement, pc_offset, total, with_displacement};
 use crate::targets::target_of;
 use link_values::{BranchTarget, SymbolValue};
 
@@ -57,14 +57,14 @@ pub fn turned_word(
     ensures { result ≡ turned thumb at word sums.added sums.subtracted veneer (way_by target) }
 {
     if target.is_none() {
-        return with_span(
+        return with_displacement(
             thumb,
             word,
-            (span(thumb, word) + sums.added).saturating_sub(sums.subtracted),
+            (biased_displacement(thumb, word) + sums.added).saturating_sub(sums.subtracted),
         );
     }
-    let to = (veneer as u64 + middle(thumb)).saturating_sub(at + ahead(thumb));
-    with_span(thumb, word, to)
+    let to = (veneer as u64 + bias(thumb)).saturating_sub(at + pc_offset(thumb));
+    with_displacement(thumb, word, to)
 }
 
 /// The target of a branch of a word at an address, where it goes by a veneer: by the first symbol of its
@@ -81,11 +81,15 @@ pub fn target_by(
     requires at { at < 2 ^ 34 }
     requires subtracted { sums.subtracted < 2 ^ 63 }
     ensures { way_by result ≡ way_to thumb
-        (total_of (at + ahead_of thumb + span_of thumb word) 0 (middle_of thumb))
+        (total_of (at + pc_offset_of thumb + biased_displacement_of thumb word) 0 (bias_of thumb))
         sums.added sums.subtracted (values_by (λ k. 0) symbols.now) symbol }
 {
     let number = symbol?;
     let found = symbols.get(number as usize)?;
-    let reach = total(at + ahead(thumb) + span(thumb, word), 0, middle(thumb));
+    let reach = total(
+        at + pc_offset(thumb) + biased_displacement(thumb, word),
+        0,
+        bias(thumb),
+    );
     target_of(thumb, reach, sums.added, sums.subtracted, *found)
 }

@@ -6,7 +6,7 @@ ghost use Rattle.link_items.specs.LinkedItems.{items_in, items_of};
 ghost use Rattle.link_assign.specs.Shown.{shown_item};
 
 use aof_object::{Area, Object};
-use link_model::{AreaName, Named, numbered};
+use link_model::{AreaName, Named, to_u32};
 use sdt_fault::NoMemory;
 use std::alloc::Global;
 
@@ -46,7 +46,7 @@ fn push_items<'a>(
         ++ items_of object home.now 0 areas.now) }
 {
     for (k, area) in areas.iter().enumerate() {
-        push_item(items, object, home, numbered(k)?, area)?;
+        push_item(items, object, home, to_u32(k)?, area)?;
     }
     Ok(())
 }
@@ -61,7 +61,7 @@ pub fn items_of_objects<'a>(
     let mut items = Vec::new(alloc);
     for (i, object) in objects.iter().enumerate() {
         let areas = object.value.areas.as_slice();
-        push_items(&mut items, numbered(i)?, object.module.as_slice(), areas)?;
+        push_items(&mut items, to_u32(i)?, object.module.as_slice(), areas)?;
     }
     Ok(items)
 }

@@ -13,7 +13,7 @@ use Rattle.aof_object.specs.declared.records.Reloc.{Reloc}
 use Rattle.aof_object.specs.Validity.{IsValid, Holds}
 use Rattle.patch_model.specs.Fields.{Kind, Byte, Half, Word, Branch, Home, Meant, Values, field_of, kind_of, is_by_symbol, is_relative, number_named, directives, size_of, number_in}
 use Rattle.patch_model.specs.Laws.{StandsAt}
-use Rattle.patch_model.specs.Patched.{total, ByVeneer, Directly, other_state, span, middle, ahead, way_home, way_of, Veneers, AreaPatched}
+use Rattle.patch_model.specs.Patched.{total, ByVeneer, Directly, other_state, biased_displacement, bias, pc_offset, way_home, way_of, Veneers, AreaPatched}
 use Rattle.patch_model.specs.Reaches.{View, Shows}
 use Rattle.place_model.proofs.ListLemmas.{all_at}
 use Rattle.place_model.specs.Plans.{Plan, area_address, boot_address}
@@ -147,10 +147,10 @@ way_reduced boot base values a thumb r there kind alone =
     let parts = both_true (is_relative r) (is_by_symbol r && count_by (shares_field (field_of r)) a.relocs == 1) alone in
     let count = both_true (is_by_symbol r) (count_by (shares_field (field_of r)) a.relocs == 1) parts.1 in
     let sole = sole_directive a.relocs r there (eqb-true (count_by (shares_field (field_of r)) a.relocs) 1 count.1) in
-    let from : ℕ = (field_of r).place + ahead thumb + span thumb (number_in a.bytes (field_of r)) in
+    let from : ℕ = (field_of r).place + pc_offset thumb + biased_displacement thumb (number_in a.bytes (field_of r)) in
     let m : Meant = values.symbol (number_named r) in
     ap (λ (rs : List Reloc). way_of base values a.bytes (field_of r) thumb rs) sole
     ∙ alone_way base values a.bytes thumb r kind parts.0 count.0
-    ∙ home_reduced boot thumb (total (base + from) 0 (middle thumb)) base m m.home
+    ∙ home_reduced boot thumb (total (base + from) 0 (bias thumb)) base m m.home
     ∙ sym (alone_way base (reduced_values boot values) a.bytes thumb r kind parts.0 count.0)
     ∙ sym (ap (λ (rs : List Reloc). way_of base (reduced_values boot values) a.bytes (field_of r) thumb rs) sole)

@@ -10,7 +10,7 @@ use Rattle.aof_object.specs.declared.records.Object.{Object}
 use Rattle.aof_object.specs.declared.records.Reloc.{Reloc}
 use Rattle.aof_object.specs.declared.records.Symbol.{Symbol}
 use Rattle.patch_model.specs.Fields.{Kind, Byte, Half, Word, Branch, Field, Home, Meant, Values, field_of, kind_of, is_relative, is_by_symbol, number_named, is_thumb_label, mark_in, is_same_kind, is_field, directives, added, taken, size_of, number_in}
-use Rattle.patch_model.specs.Patched.{total, Directly, ByVeneer, other_state, is_branch, span, middle, ahead, first_symbol, way_home, way_to, way_of}
+use Rattle.patch_model.specs.Patched.{total, Directly, ByVeneer, other_state, is_branch, biased_displacement, bias, pc_offset, first_symbol, way_home, way_to, way_of}
 use Rattle.patch_model.proofs.BranchLemmas.{branch_test}
 use Rattle.patch_model.proofs.SumLemmas.{is_own}
 use Rattle.link_model.specs.declared.selection.Definition.{Definition}
@@ -88,16 +88,16 @@ home_same base_at thumb base from d m n (Some h) (Some g) (home, state, number) 
 -- a branch with one relocation
 pub alone_way : (base : ℕ) (values : Values) (bytes : List ℕ) (thumb : Bool) (r : Reloc) → kind_of r ≡ Branch thumb → is_relative r ≡ true → is_by_symbol r ≡ true
     → way_of base values bytes (field_of r) thumb (r ∷ [])
-    ≡ way_home thumb (total (base + ((field_of r).place + ahead thumb + span thumb (number_in bytes (field_of r)))) 0 (middle thumb))
+    ≡ way_home thumb (total (base + ((field_of r).place + pc_offset thumb + biased_displacement thumb (number_in bytes (field_of r)))) 0 (bias thumb))
     ((values.symbol (number_named r)).number + 0 + 0) (base + 0) (values.symbol (number_named r)) (values.symbol (number_named r)).home
 alone_way base values bytes thumb r kind relative named =
-    let from : base + (field_of r).place + ahead thumb + span thumb (number_in bytes (field_of r)) ≡ base + ((field_of r).place + ahead thumb + span thumb (number_in bytes (field_of r))) =
-    add_three base (field_of r).place (ahead thumb) (span thumb (number_in bytes (field_of r))) in
+    let from : base + (field_of r).place + pc_offset thumb + biased_displacement thumb (number_in bytes (field_of r)) ≡ base + ((field_of r).place + pc_offset thumb + biased_displacement thumb (number_in bytes (field_of r))) =
+    add_three base (field_of r).place (pc_offset thumb) (biased_displacement thumb (number_in bytes (field_of r))) in
     let more : added values (r ∷ []) ≡ (values.symbol (number_named r)).number + 0 + 0 =
     λ i. cond (named i) (values.symbol (number_named r)).number (values.base (number_named r)) + mark_in (kind i) (is_relative r) (is_by_symbol r) (is_thumb_label (values.symbol (number_named r))) + 0 in
     let less : taken base (r ∷ []) ≡ base + 0 = (λ i. base * flag (relative i) + 0) ∙ times_one base in
     let symbol : first_symbol (r ∷ []) ≡ Some (number_named r) = λ i. cond (named i) (Some (number_named r)) None in
-    λ i. way_to thumb (total (from i) 0 (middle thumb)) (more i) (less i) values (symbol i)
+    λ i. way_to thumb (total (from i) 0 (bias thumb)) (more i) (less i) values (symbol i)
   where
     add_three : (a b c d : ℕ) → a + b + c + d ≡ a + (b + c + d)
     add_three a b c d = omega arith
@@ -180,11 +180,11 @@ ways_law l numbers base_at region a area r thumb there kind alone room branch =
     let apart = values_apart l a.object in
     let values = values_of l numbers base_at a.object in
     let base = base_at a.object a.area in
-    let from = (field_of r).place + ahead thumb + span thumb (number_in area.bytes (field_of r)) in
+    let from = (field_of r).place + pc_offset thumb + biased_displacement thumb (number_in area.bytes (field_of r)) in
     let way : way_of 0 apart area.bytes (field_of r) thumb (directives area.relocs (field_of r)) ≡ way_of base values area.bytes (field_of r) thumb (directives area.relocs (field_of r)) =
     ap (λ (rs : List Reloc). way_of 0 apart area.bytes (field_of r) thumb rs) sole
     ∙ alone_way 0 apart area.bytes thumb r kind parts.0 count.0
-    ∙ sym (home_same base_at thumb base from (middle thumb) (values.symbol (number_named r)) (apart.symbol (number_named r)) (values.symbol (number_named r)).home (apart.symbol (number_named r)).home
+    ∙ sym (home_same base_at thumb base from (bias thumb) (values.symbol (number_named r)) (apart.symbol (number_named r)) (values.symbol (number_named r)).home (apart.symbol (number_named r)).home
     (moved l numbers base_at a.object (number_named r)))
     ∙ sym (alone_way base values area.bytes thumb r kind parts.0 count.0)
     ∙ sym (ap (λ (rs : List Reloc). way_of base values area.bytes (field_of r) thumb rs) sole) in

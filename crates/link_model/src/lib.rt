@@ -10,6 +10,6 @@ mod selection;
 pub use crate::images::{Aif, Image, ImageKind, LoadRegion};
 pub use crate::laws::{linked_law, veneers_law};
 pub use crate::placing::{
-    AreaName, Assigned, PlacedArea, PlacedVeneer, Placement, Region, Veneer, numbered,
+    AreaName, Assigned, PlacedArea, PlacedVeneer, Placement, Region, Veneer, to_u32,
 };
 pub use crate::selection::{Definition, Linked, LinkedEntry, Named};

@@ -6,7 +6,7 @@ ghost use Rattle.std.specs.Prelude.{◌≡◌, IfOk};
 use sdt_fault::{List, NoMemory, Text};
 
 /// The number of an object, an area or a region. No memory holds so many that it needs more bits.
-pub fn numbered(place: usize) -> Result<u32, NoMemory>
+pub fn to_u32(place: usize) -> Result<u32, NoMemory>
     ensures { IfOk result (λ number. number ≡ place) }
 {
     if place > u32::MAX as usize {

@@ -56,11 +56,11 @@ module _ (l : Link) (p : Placement) (i : ℕ) (os : List (Named Object)) (o : Na
   divided : unmovable_from l p i (drop i os) ≡ its ++ others
   divided = ap (unmovable_from l p i) (item os i o h e) ∙ ap (λ n. its ++ unmovable_from l p n (drop (i + 1) os)) (next i)
 
-  numbered : (n : ℕ) → n ≡ i → slice_get (unmovable_in l p o n 0 o.value.areas) 0 ≡ slice_get its 0
-  numbered n e = ap (λ m. slice_get (unmovable_in l p o m 0 o.value.areas) 0) e
+  to_u32 : (n : ℕ) → n ≡ i → slice_get (unmovable_in l p o n 0 o.value.areas) 0 ≡ slice_get its 0
+  to_u32 n e = ap (λ m. slice_get (unmovable_in l p o m 0 o.value.areas) 0) e
 
   pub object_met : (n : ℕ) → n ≡ i → (found : Option Refusal) (r : Refusal) → found ≡ slice_get (unmovable_in l p o n 0 o.value.areas) 0 → found ≡ Some r → slice_get (unmovable_from l p i (drop i os)) 0 ≡ Some r
-  object_met n of found r is some = ap (λ xs. slice_get xs 0) divided ∙ joined_met its others r (sym (is ∙ numbered n of) ∙ some)
+  object_met n of found r is some = ap (λ xs. slice_get xs 0) divided ∙ joined_met its others r (sym (is ∙ to_u32 n of) ∙ some)
 
   pub object_passed : (n : ℕ) → n ≡ i → (found : Option Refusal) → found ≡ slice_get (unmovable_in l p o n 0 o.value.areas) 0 → ((r : Refusal) → found ≡ Some r → ⊥) → slice_get (unmovable_from l p i (drop i os)) 0 ≡ slice_get others 0
-  object_passed n of found is never = ap (λ xs. slice_get xs 0) divided ∙ joined_passed its others (sym (is ∙ numbered n of) ∙ none_left found never)
+  object_passed n of found is never = ap (λ xs. slice_get xs 0) divided ∙ joined_passed its others (sym (is ∙ to_u32 n of) ∙ none_left found never)

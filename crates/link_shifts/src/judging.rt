@@ -14,7 +14,7 @@ use crate::balances::{Balance, Spot, balance_at, balances_of, spot_of};
 use crate::moving::{Image, names_moving};
 use aof_object::{Area, FieldKind, Object, Reloc};
 use indexmap::IndexMap;
-use link_model::{Linked, Named, Placement, numbered};
+use link_model::{Linked, Named, Placement, to_u32};
 use link_values::{area_bases, base_at, gathered, region_numbers};
 use sdt_fault::NoMemory;
 use sdt_fault::refusal::Refusal;
@@ -179,7 +179,7 @@ fn refusal_of_object(
         (link_of image.now.linked.now) image.now.placement.now named.now object 0 named.now.value.areas) 0) }
 {
     for (k, area) in named.value.areas.as_slice().iter().enumerate() {
-        let number = numbered(k)?;
+        let number = to_u32(k)?;
         if let Some(refusal) = refusal_in(alloc, image, named, object, number, area)? {
             return Ok(Some(refusal));
         }
@@ -193,7 +193,7 @@ pub fn refusal_of(alloc: Global, image: &Image<'_>) -> Result<Option<Refusal>, N
     ensures { IfOk result (λ found. found ≡ not_relocatable image.now.linked.now image.now.placement.now) }
 {
     for (i, named) in image.linked.objects.as_slice().iter().enumerate() {
-        let number = numbered(i)?;
+        let number = to_u32(i)?;
         if let Some(refusal) = refusal_of_object(alloc, image, named, number)? {
             return Ok(Some(refusal));
         }

@@ -16,7 +16,7 @@ use crate::objects::{sum, symbol_at};
 use crate::regions::{RegionSymbols, region_number, region_numbers, region_symbols};
 use aof_object::{Object, Symbol};
 use indexmap::IndexMap;
-use link_model::{Linked, Named, Placement, numbered};
+use link_model::{Linked, Named, Placement, to_u32};
 use sdt_fault::{List, NoMemory, Text};
 use std::alloc::Global;
 
@@ -209,7 +209,7 @@ fn values_of_objects(
     let mut values = Vec::new(alloc);
     for (i, object) in objects.iter().enumerate() {
         let symbols = object.value.symbols.as_slice();
-        values.push(object_values(alloc, boot, known, numbered(i)?, symbols)?)?;
+        values.push(object_values(alloc, boot, known, to_u32(i)?, symbols)?)?;
     }
     Ok(values)
 }

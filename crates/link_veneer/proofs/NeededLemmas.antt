@@ -10,7 +10,7 @@ use Rattle.aof_object.specs.declared.records.Object.{Object}
 use Rattle.aof_object.specs.declared.records.Reloc.{Reloc}
 use Rattle.aof_object.specs.declared.records.Symbol.{Symbol}
 use Rattle.patch_model.specs.Fields.{Kind, Byte, Half, Word, Branch, Home, Meant, field_of, kind_of, is_relative, is_by_symbol, number_named, number_in, directives, size_of}
-use Rattle.patch_model.specs.Patched.{total, other_state, is_branch, span, middle, ahead, Directly, ByVeneer, way_home, way_of}
+use Rattle.patch_model.specs.Patched.{total, other_state, is_branch, biased_displacement, bias, pc_offset, Directly, ByVeneer, way_home, way_of}
 use Rattle.link_model.specs.declared.placing.AreaName.{AreaName}
 use Rattle.link_model.specs.Meaning.{Meaning, Defined, OfRegion, Weak, symbol_of}
 use Rattle.link_model.specs.Members.{Link}
@@ -68,9 +68,9 @@ way_led region thumb x d m (Some h) low home = by (other_state thumb m.thumb)
     by false = refl
     by true = ap (λ (o : ℕ). Some (record { region = region; area = record { object = h.object; area = h.area }; offset = o; thumb = m.thumb })) offset
 
-middle_low : (thumb : Bool) → middle thumb ≤ 2 ^ 32
-middle_low true = omega arith
-middle_low false = omega arith
+bias_low : (thumb : Bool) → bias thumb ≤ 2 ^ 32
+bias_low true = omega arith
+bias_low false = omega arith
 
 -- ---- a relocation
 
@@ -86,7 +86,7 @@ no_branch l region a area r h = none_as (kind_of r) l region a.object area r h
 -- a branch that has its field alone, where one stands
 way_there : (l : Link) (region object : ℕ) (area : Area) (r : Reloc) (thumb : Bool) → kind_of r ≡ Branch thumb → IsIn area.relocs r → is_alone area.relocs r ≡ true
     → veneer_by region (way_of 0 (values_apart l object) area.bytes (field_of r) thumb (directives area.relocs (field_of r)))
-    ≡ option_and_then (veneer_to region thumb ((field_of r).place + (ahead thumb + span thumb (word_in area.bytes (field_of r).place) + (2 ^ 32 - middle thumb)))) (target_of ((values_apart l object).symbol (number_named r)))
+    ≡ option_and_then (veneer_to region thumb ((field_of r).place + (pc_offset thumb + biased_displacement thumb (word_in area.bytes (field_of r).place) + (2 ^ 32 - bias thumb)))) (target_of ((values_apart l object).symbol (number_named r)))
 way_there l region object area r thumb kind there alone =
     let parts = both_true (is_relative r) (is_by_symbol r && count_by (shares_field (field_of r)) area.relocs == 1) alone in
     let rest = both_true (is_by_symbol r) (count_by (shares_field (field_of r)) area.relocs == 1) parts.1 in
@@ -95,13 +95,13 @@ way_there l region object area r thumb kind there alone =
     let m = values.symbol (number_named r) in
     let place = (field_of r).place in
     let word : number_in area.bytes (field_of r) ≡ word_in area.bytes place = ap (λ (k : Kind). number_of (take (size_of k) (drop place area.bytes))) kind in
-    let from = place + ahead thumb + span thumb (word_in area.bytes place) in
-    let far : from + (2 ^ 32 - middle thumb) ≡ place + (ahead thumb + span thumb (word_in area.bytes place) + (2 ^ 32 - middle thumb)) =
-    three place (ahead thumb) (span thumb (word_in area.bytes place)) (2 ^ 32 - middle thumb) in
+    let from = place + pc_offset thumb + biased_displacement thumb (word_in area.bytes place) in
+    let far : from + (2 ^ 32 - bias thumb) ≡ place + (pc_offset thumb + biased_displacement thumb (word_in area.bytes place) + (2 ^ 32 - bias thumb)) =
+    three place (pc_offset thumb) (biased_displacement thumb (word_in area.bytes place)) (2 ^ 32 - bias thumb) in
     ap (λ (rs : List Reloc). veneer_by region (way_of 0 values area.bytes (field_of r) thumb rs)) sole
     ∙ ap (veneer_by region) (alone_way 0 values area.bytes thumb r kind parts.0 rest.0)
-    ∙ ap (λ (w : ℕ). veneer_by region (way_home thumb (total (0 + (place + ahead thumb + span thumb w)) 0 (middle thumb)) (m.number + 0 + 0) (0 + 0) m m.home)) word
-    ∙ way_led region thumb from (middle thumb) m m.home (middle_low thumb) (at_home l object (number_named r))
+    ∙ ap (λ (w : ℕ). veneer_by region (way_home thumb (total (0 + (place + pc_offset thumb + biased_displacement thumb w)) 0 (bias thumb)) (m.number + 0 + 0) (0 + 0) m m.home)) word
+    ∙ way_led region thumb from (bias thumb) m m.home (bias_low thumb) (at_home l object (number_named r))
     ∙ ap (λ (n : ℕ). option_and_then (veneer_to region thumb n) (target_of m)) far
   where
     three : (a b c d : ℕ) → a + b + c + d ≡ a + (b + c + d)
@@ -122,7 +122,7 @@ branch_there l region object area r thumb kind there alone =
   where
     by : (b : Bool) → cond b (veneer_by region (way_of 0 (values_apart l object) area.bytes (field_of r) thumb (directives area.relocs (field_of r)))) None
         ≡ option_and_then (λ distance. option_and_then (veneer_to region thumb distance) (target_of ((values_apart l object).symbol (number_named r))))
-        (cond b (Some ((field_of r).place + (ahead thumb + span thumb (word_in area.bytes (field_of r).place) + (2 ^ 32 - middle thumb)))) None)
+        (cond b (Some ((field_of r).place + (pc_offset thumb + biased_displacement thumb (word_in area.bytes (field_of r).place) + (2 ^ 32 - bias thumb)))) None)
     by false = refl
     by true = way_there l region object area r thumb kind there alone
 

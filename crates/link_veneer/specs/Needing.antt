@@ -6,7 +6,7 @@ use Rattle.std.specs.Option.{option_and_then}
 use Rattle.sdt_word.specs.Bytes.{word_in}
 use Rattle.aof_object.specs.declared.records.Reloc.{Reloc}
 use Rattle.patch_model.specs.Fields.{field_of, number_named}
-use Rattle.patch_model.specs.Patched.{ahead, is_branch, middle, other_state, span}
+use Rattle.patch_model.specs.Patched.{pc_offset, is_branch, bias, other_state, biased_displacement}
 use Rattle.link_model.specs.declared.placing.Veneer.{Veneer}
 use Rattle.link_model.specs.Members.{Link}
 use Rattle.link_model.specs.Veneers.{is_same, values_apart}
@@ -17,7 +17,7 @@ use Rattle.link_veneer.specs.Targets.{target_of}
 abbrev pub led_from : List ℕ → Bool → ℕ → Option ℕ
 led_from bytes thumb at =
     if nat_le (at + 4) (length bytes) && is_branch thumb (word_in bytes at) then
-    Some (at + (ahead thumb + span thumb (word_in bytes at) + (2 ^ 32 - middle thumb)))
+    Some (at + (pc_offset thumb + biased_displacement thumb (word_in bytes at) + (2 ^ 32 - bias thumb)))
     else None
 
 abbrev pub veneer_to : ℕ → Bool → ℕ → BranchTarget → Option Veneer

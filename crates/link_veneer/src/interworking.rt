@@ -13,7 +13,7 @@ use crate::fields::marks_of;
 use crate::needing::needed;
 use aof_object::{Area, Object, Reloc, Symbol};
 use indexmap::IndexMap;
-use link_model::{AreaName, Linked, Named, Veneer, numbered};
+use link_model::{AreaName, Linked, Named, Veneer, to_u32};
 use link_values::{Defined, area_at, symbol_at};
 use sdt_fault::NoMemory;
 use sdt_fault::refusal::Refusal;
@@ -106,7 +106,7 @@ fn refusal_in_object(
     for (k, area) in areas.iter().enumerate() {
         let name = AreaName {
             object,
-            area: numbered(k)?,
+            area: to_u32(k)?,
         };
         let refusal = refusal_in_area(alloc, linked, index, name, area)?;
         if refusal.is_some() {
@@ -127,7 +127,7 @@ pub fn first_refusal(
 {
     for (i, object) in linked.objects.as_slice().iter().enumerate() {
         let areas = object.value.areas.as_slice();
-        let refusal = refusal_in_object(alloc, linked, index, numbered(i)?, areas)?;
+        let refusal = refusal_in_object(alloc, linked, index, to_u32(i)?, areas)?;
         if refusal.is_some() {
             return Ok(refusal);
         }

@@ -1,7 +1,7 @@
 //! The veneers that relocations need.
 
 ghost use Rattle.std.specs.Prelude.{◌≡◌, ◌+◌, ◌-◌, ◌^◌, ◌<◌, Some, OnOk, IfSome};
-ghost use Rattle.patch_model.specs.Patched.{ahead, is_branch as reads_as_branch, middle, span};
+ghost use Rattle.patch_model.specs.Patched.{pc_offset, is_branch as reads_as_branch, bias, biased_displacement};
 ghost use Rattle.link_model.specs.Members.{link_of};
 ghost use Rattle.link_model.specs.Veneers.{needed_by, needed_in, IsIn};
 ghost use Rattle.link_veneer.specs.Fields.{AreMarks};
@@ -30,7 +30,7 @@ fn is_branch_word(thumb: bool, word: u32) -> bool
 
 /// How far behind the branch its target is, for a branch at an address, counted from 2^32 below.
 fn reach(thumb: bool, word: u32) -> u64
-    ensures value { result ≡ ahead thumb + span thumb word + (2 ^ 32 - middle thumb) }
+    ensures value { result ≡ pc_offset thumb + biased_displacement thumb word + (2 ^ 32 - bias thumb) }
     ensures bound { result < 2 ^ 33 }
 {
     if thumb {

@@ -13,7 +13,7 @@ ghost use Rattle.link_veneer.specs.Planning.{planned_veneers};
 use crate::interworking::first_refusal;
 use crate::needing::{add_area, add_one};
 use indexmap::{IndexMap, IndexSet};
-use link_model::{AreaName, Assigned, Linked, LinkedEntry, Veneer, numbered};
+use link_model::{AreaName, Assigned, Linked, LinkedEntry, Veneer, to_u32};
 use link_values::{Defined, area_at, index_definitions};
 use sdt_fault::answer::Fault;
 use sdt_fault::{List, NoMemory};
@@ -94,7 +94,7 @@ fn add_regions(
         (link_of linked.now) 0 regions.now)) }
 {
     for (k, names) in regions.iter().enumerate() {
-        add_region(alloc, linked, index, needs, numbered(k)?, names.as_slice())?;
+        add_region(alloc, linked, index, needs, to_u32(k)?, names.as_slice())?;
     }
     Ok(())
 }

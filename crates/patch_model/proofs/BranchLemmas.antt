@@ -11,7 +11,7 @@ use Rattle.arm_isa.specs.ArmRows.{ReadsArm}
 use Rattle.arm_isa.specs.declared.instr.ArmInstr.TheVariants as arm
 use Rattle.thumb_isa.specs.ThumbRows.{ReadsThumb}
 use Rattle.thumb_isa.specs.declared.instr.ThumbInstr.TheVariants as thumb
-use Rattle.patch_model.specs.Patched.{IsBranch, is_branch, SameBranch, span, middle, ahead}
+use Rattle.patch_model.specs.Patched.{IsBranch, is_branch, SameBranch, biased_displacement, bias, pc_offset}
 use Rattle.patch_model.specs.Laws.{BranchLaw, TestLaw}
 use Rattle.patch_model.specs.Reaches.{View, Shows, ShowsHalf, BranchesTo}
 
@@ -36,17 +36,17 @@ reads_arm c l d h = grind arith
 arm_stays : (c : Condition) (l : Bool) (d old new : ℕ) → ReadsArm old (arm.Branch c l d) → new < 2 ^ 32 → SameBranch false old new → ReadsArm new (arm.Branch c l (new % 2 ^ 24))
 arm_stays c l d old new reads small same = grind arith
 
-pub span_arm : (a w : ℕ) → (a + 8 + sign_extended (w % 2 ^ 24) 24 * 4 + 2 ^ 25) % 2 ^ 32 ≡ (a + 8 + span false w) % 2 ^ 32
-span_arm a w = grind arith
+pub displacement_arm : (a w : ℕ) → (a + 8 + sign_extended (w % 2 ^ 24) 24 * 4 + 2 ^ 25) % 2 ^ 32 ≡ (a + 8 + biased_displacement false w) % 2 ^ 32
+displacement_arm a w = grind arith
 
-span_pair : (a w : ℕ) → (a + 4 + sign_extended (bits w 0 11 * 2 ^ 11 + bits w 16 11) 22 * 2 + 2 ^ 22) % 2 ^ 32 ≡ (a + 4 + span true w) % 2 ^ 32
-span_pair a w = grind arith
+displacement_pair : (a w : ℕ) → (a + 4 + sign_extended (bits w 0 11 * 2 ^ 11 + bits w 16 11) 22 * 2 + 2 ^ 22) % 2 ^ 32 ≡ (a + 4 + biased_displacement true w) % 2 ^ 32
+displacement_pair a w = grind arith
 
-arm_span : (a w : ℕ) → (a + sign_extended w 24 * 4 + middle false) % 2 ^ 32 ≡ (a + span false w) % 2 ^ 32
-arm_span a w = grind arith
+arm_displacement : (a w : ℕ) → (a + sign_extended w 24 * 4 + bias false) % 2 ^ 32 ≡ (a + biased_displacement false w) % 2 ^ 32
+arm_displacement a w = grind arith
 
-pair_span : (a w : ℕ) → (a + sign_extended (bits w 0 11 * 2 ^ 11 + bits w 16 11) 22 * 2 + middle true) % 2 ^ 32 ≡ (a + span true w) % 2 ^ 32
-pair_span a w = grind arith
+pair_displacement : (a w : ℕ) → (a + sign_extended (bits w 0 11 * 2 ^ 11 + bits w 16 11) 22 * 2 + bias true) % 2 ^ 32 ≡ (a + biased_displacement true w) % 2 ^ 32
+pair_displacement a w = grind arith
 
 pair_high : (old new : ℕ) → new < 2 ^ 32 → IsBranch true old → SameBranch true old new → ReadsThumb (new % 2 ^ 16) (thumb.BranchLink false (bits new 0 11))
 pair_high old new small branch same = grind arith
@@ -54,10 +54,10 @@ pair_high old new small branch same = grind arith
 pair_low : (old new : ℕ) → new < 2 ^ 32 → IsBranch true old → SameBranch true old new → ReadsThumb (new / 2 ^ 16) (thumb.BranchLink true (bits new 16 11))
 pair_low old new small branch same = grind arith
 
-pub arm_same : (old new other : ℕ) → new < 2 ^ 32 → other < 2 ^ 32 → new / 2 ^ 24 ≡ other / 2 ^ 24 → span false new ≡ span false other → new ≡ other
+pub arm_same : (old new other : ℕ) → new < 2 ^ 32 → other < 2 ^ 32 → new / 2 ^ 24 ≡ other / 2 ^ 24 → biased_displacement false new ≡ biased_displacement false other → new ≡ other
 arm_same old new other n o same e = omega arith
 
-pub pair_same : (new other : ℕ) → new < 2 ^ 32 → other < 2 ^ 32 → bits new 11 5 ≡ bits other 11 5 → bits new 27 5 ≡ bits other 27 5 → span true new ≡ span true other → new ≡ other
+pub pair_same : (new other : ℕ) → new < 2 ^ 32 → other < 2 ^ 32 → bits new 11 5 ≡ bits other 11 5 → bits new 27 5 ≡ bits other 27 5 → biased_displacement true new ≡ biased_displacement true other → new ≡ other
 pair_same new other n o high low e = omega arith
 
 -- ---- bytes
@@ -99,14 +99,14 @@ arm_reads w small branch =
     (c.0, l.0, subst Reads number (reads_arm c.0 l.0 (w % 2 ^ 24) (omega arith)))
 
 pub leads_to : (view : View) (t : Bool) (a w target : ℕ) → Shows view a (bytes_of w 4) → w < 2 ^ 32 → IsBranch t w
-    → (a + ahead t + span t w) % 2 ^ 32 ≡ (target + middle t) % 2 ^ 32 → BranchesTo view t a target
+    → (a + pc_offset t + biased_displacement t w) % 2 ^ 32 ≡ (target + bias t) % 2 ^ 32 → BranchesTo view t a target
 leads_to view false a w target shows small branch e =
     let r = arm_reads w small branch in
-    let s = span_arm a w in
+    let s = displacement_arm a w in
     record { condition = r.0; link = r.1; field = w % 2 ^ 24; word = w; shows = shows; reads = r.2; leads = omega arith }
 leads_to view true a w target shows small branch e =
     let h = shows_word view a w shows in
-    let s = span_pair a w in
+    let s = displacement_pair a w in
     inl (record {
       first = bits w 0 11;
       second = bits w 16 11;
@@ -125,4 +125,4 @@ branch_stays false old new branch same = (omega (arith, branch.0, same), omega (
 branch_stays true old new branch same = (same.0 ∙ branch.0, same.1 ∙ branch.1)
 
 pub branch_law : BranchLaw
-branch_law = record { leads = leads_to; arm_span = arm_span; pair_span = pair_span; arm_stays = arm_stays; pair_stays = λ old new small branch same. (pair_high old new small branch same, pair_low old new small branch same) }
+branch_law = record { leads = leads_to; arm_displacement = arm_displacement; pair_displacement = pair_displacement; arm_stays = arm_stays; pair_stays = λ old new small branch same. (pair_high old new small branch same, pair_low old new small branch same) }

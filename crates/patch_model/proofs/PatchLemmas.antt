@@ -11,7 +11,7 @@ use Rattle.sdt_word.specs.declared.ranges.Range32.{Range32}
 use Rattle.aof_object.specs.declared.records.Area.{Area}
 use Rattle.aof_object.specs.declared.records.Reloc.{Reloc}
 use Rattle.patch_model.specs.Fields.{Kind, Byte, Half, Word, Branch, Home, Meant, Values, field_of, directives, added, taken, size_of, number_in}
-use Rattle.patch_model.specs.Patched.{total, span, middle, ahead, Veneers, Way, Directly, ByVeneer, first_symbol, other_state, way_home, way_to, LeadsAt, Leads, Turned, AddsUp, IsOutside, AreaPatched}
+use Rattle.patch_model.specs.Patched.{total, biased_displacement, bias, pc_offset, Veneers, Way, Directly, ByVeneer, first_symbol, other_state, way_home, way_to, LeadsAt, Leads, Turned, AddsUp, IsOutside, AreaPatched}
 use Rattle.patch_model.specs.Laws.{OnePatched, OneObjectPatched, OutsideLaw, WordLaw, LeadsBy, PatchedBranchLaw, ReachLaw, state_of, StandsAt, state_to, StandsTo}
 use Rattle.patch_model.specs.Reaches.{View, Shows, IsVeneer, VeneersStand, Reaches}
 use Rattle.sdt_word.specs.Ranges.{Covers}
@@ -82,13 +82,13 @@ shows_part view base xs n p within bytes shows =
     subst Part (part_is xs n p within bytes) front.0
 
 leads_by : (view : View) (veneers : Veneers) (t : Bool) (a old new more less : ℕ) (way : Way) → Shows view a (bytes_of new 4) → new < 2 ^ 32
-    → Turned t (a + ahead t) veneers old new more less way → LeadsBy view veneers t a old more less way
+    → Turned t (a + pc_offset t) veneers old new more less way → LeadsBy view veneers t a old more less way
 leads_by view veneers t a old new more less Directly shows small turned =
     let e = turned.leads in
-    leads_to view t a new (total (a + ahead t + span t old) more (middle t + less)) shows small (branch_stays t old new turned.branch turned.rest) (omega arith)
+    leads_to view t a new (total (a + pc_offset t + biased_displacement t old) more (bias t + less)) shows small (branch_stays t old new turned.branch turned.rest) (omega arith)
 leads_by view veneers t a old new more less (ByVeneer target state) shows small turned = by_veneer (veneers target state) refl turned.leads
   where
-    by_veneer : (o : Option ℕ) → veneers target state ≡ o → LeadsAt t (a + ahead t) new o → LeadsBy view veneers t a old more less (ByVeneer target state)
+    by_veneer : (o : Option ℕ) → veneers target state ≡ o → LeadsAt t (a + pc_offset t) new o → LeadsBy view veneers t a old more less (ByVeneer target state)
     by_veneer None e leads = absurd leads
     by_veneer (Some v) e leads = (v, e, leads_to view t a new v shows small (branch_stays t old new turned.branch turned.rest) (ap (λ n. n % 2 ^ 32) leads))
 
@@ -106,7 +106,7 @@ patched_branch_law relocs old base values veneers new k r t view patched there i
     let turned = subst Adds is_branch (patched.fields k r there) in
     leads_by view veneers t (base + (field_of r).place) (word_in old (field_of r).place) (word_in new (field_of r).place) (added values (directives relocs (field_of r)))
     (taken base (directives relocs (field_of r)))
-    (way_to t (total (base + (field_of r).place + ahead t + span t (word_in old (field_of r).place)) 0 (middle t))
+    (way_to t (total (base + (field_of r).place + pc_offset t + biased_displacement t (word_in old (field_of r).place)) 0 (bias t))
     (added values (directives relocs (field_of r))) (taken base (directives relocs (field_of r))) values (first_symbol (directives relocs (field_of r))))
     (shows_part view base new 4 (field_of r).place within patched.bytes shows) small turned
 
@@ -144,12 +144,12 @@ covered (r ∷ rs) i = by_place (cases_lt i (field_of r).place) (cases_lt i ((fi
 
 -- ---- at most one
 
-at_once : (t : Bool) (from new other : ℕ) (o : Option ℕ) → LeadsAt t from new o → LeadsAt t from other o → span t new ≡ span t other
+at_once : (t : Bool) (from new other : ℕ) (o : Option ℕ) → LeadsAt t from new o → LeadsAt t from other o → biased_displacement t new ≡ biased_displacement t other
 at_once t from new other None n m = absurd n
 at_once t from new other (Some v) n m = omega arith
 
 span_once : (t : Bool) (from : ℕ) (veneers : Veneers) (old new other more less : ℕ) (way : Way)
-    → Leads t from veneers old new more less way → Leads t from veneers old other more less way → span t new ≡ span t other
+    → Leads t from veneers old new more less way → Leads t from veneers old other more less way → biased_displacement t new ≡ biased_displacement t other
 span_once t from veneers old new other more less Directly n m = omega arith
 span_once t from veneers old new other more less (ByVeneer target state) n m = at_once t from new other (veneers target state) n m
 
@@ -167,8 +167,8 @@ adds_once Byte at values veneers old new other more less symbol small low n m = 
 adds_once Half at values veneers old new other more less symbol small low n m = n.1 ∙ sym m.1
 adds_once Word at values veneers old new other more less symbol small low n m = n ∙ sym m
 adds_once (Branch t) at values veneers old new other more less symbol small low n m =
-    turned_once t (at + ahead t) veneers old new other more less
-    (way_to t (total (at + ahead t + span t old) 0 (middle t)) more less values symbol) small low n m
+    turned_once t (at + pc_offset t) veneers old new other more less
+    (way_to t (total (at + pc_offset t + biased_displacement t old) 0 (bias t)) more less values symbol) small low n m
 
 in_field : (xs ys : List ℕ) (n p i : ℕ) → p ≤ i → i < p + n → take n (drop p xs) ≡ take n (drop p ys) → get_or xs i 0 ≡ get_or ys i 0
 in_field xs ys n p i from below e =
@@ -221,9 +221,9 @@ target_address start offset number a s d more less e = omega arith
 
 reach_state : (view : View) (region : Range32) (veneers : Veneers) (t state : Bool) (a old more less goal : ℕ) (target : Home)
     → ((v : ℕ) → veneers target state ≡ Some v → Covers region v × IsVeneer view v goal state)
-    → goal ≡ total (a + ahead t + span t old) more (middle t + less)
+    → goal ≡ total (a + pc_offset t + biased_displacement t old) more (bias t + less)
     → LeadsBy view veneers t a old more less (if other_state t state then ByVeneer target state else Directly)
-    → Reaches view region t a (total (a + ahead t + span t old) more (middle t + less)) state
+    → Reaches view region t a (total (a + pc_offset t + biased_displacement t old) more (bias t + less)) state
 reach_state view region veneers true true a old more less goal target stand e leads = inl (leads, refl)
 reach_state view region veneers false false a old more less goal target stand e leads = inl (leads, refl)
 reach_state view region veneers true false a old more less goal target stand e (v, there, leads) =
@@ -237,18 +237,18 @@ reach_state view region veneers false true a old more less goal target stand e (
 
 reach_home : (view : View) (region : Range32) (area_at : ℕ → ℕ → ℕ) (veneers : Veneers) (t : Bool) (a old more less : ℕ) (m : Meant) (home : Option Home)
     → VeneersStand view region area_at veneers → StandsAt area_at m home
-    → LeadsBy view veneers t a old more less (way_home t (total (a + ahead t + span t old) 0 (middle t)) more less m home)
-    → Reaches view region t a (total (a + ahead t + span t old) more (middle t + less)) (state_of t m home)
+    → LeadsBy view veneers t a old more less (way_home t (total (a + pc_offset t + biased_displacement t old) 0 (bias t)) more less m home)
+    → Reaches view region t a (total (a + pc_offset t + biased_displacement t old) more (bias t + less)) (state_of t m home)
 reach_home view region area_at veneers t a old more less m None stand at leads = inl (leads, refl)
 reach_home view region area_at veneers t a old more less m (Some h) stand at leads =
-    let target : Home = record { object = h.object; area = h.area; offset = total (h.offset + total (a + ahead t + span t old) 0 (middle t)) more (less + m.number) } in
+    let target : Home = record { object = h.object; area = h.area; offset = total (h.offset + total (a + pc_offset t + biased_displacement t old) 0 (bias t)) more (less + m.number) } in
     reach_state view region veneers t m.thumb a old more less ((area_at h.object h.area + target.offset) % 2 ^ 32) target (λ v there. stand target m.thumb v there)
-    (target_address (area_at h.object h.area) h.offset m.number (a + ahead t) (span t old) (middle t) more less at) leads
+    (target_address (area_at h.object h.area) h.offset m.number (a + pc_offset t) (biased_displacement t old) (bias t) more less at) leads
 
 reach_symbol : (view : View) (region : Range32) (area_at : ℕ → ℕ → ℕ) (values : Values) (veneers : Veneers) (t : Bool) (a old more less : ℕ) (symbol : Option ℕ)
     → VeneersStand view region area_at veneers → StandsTo area_at values symbol
-    → LeadsBy view veneers t a old more less (way_to t (total (a + ahead t + span t old) 0 (middle t)) more less values symbol)
-    → Reaches view region t a (total (a + ahead t + span t old) more (middle t + less)) (state_to t values symbol)
+    → LeadsBy view veneers t a old more less (way_to t (total (a + pc_offset t + biased_displacement t old) 0 (bias t)) more less values symbol)
+    → Reaches view region t a (total (a + pc_offset t + biased_displacement t old) more (bias t + less)) (state_to t values symbol)
 reach_symbol view region area_at values veneers t a old more less None stand at leads = inl (leads, refl)
 reach_symbol view region area_at values veneers t a old more less (Some n) stand at leads =
     reach_home view region area_at veneers t a old more less (values.symbol n) (values.symbol n).home stand at leads

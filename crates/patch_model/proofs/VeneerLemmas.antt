@@ -7,8 +7,8 @@ use Rattle.arm_isa.specs.declared.instr.ArmInstr.TheVariants as arm
 use Rattle.thumb_isa.specs.ThumbRows.{ReadsThumb}
 use Rattle.thumb_isa.specs.declared.instr.ThumbInstr.TheVariants as thumb
 use Rattle.thumb_isa.specs.declared.instr.HighOperation.TheVariants as high
-use Rattle.patch_model.specs.Patched.{span, middle, ahead}
-use Rattle.patch_model.proofs.BranchLemmas.{span_arm}
+use Rattle.patch_model.specs.Patched.{biased_displacement, bias, pc_offset}
+use Rattle.patch_model.proofs.BranchLemmas.{displacement_arm}
 use Rattle.patch_model.specs.Laws.{VeneerLaw}
 use Rattle.patch_model.specs.Reaches.{View, Shows, VeneerToThumb, VeneerToArm, IsVeneer, HasVeneer}
 
@@ -51,12 +51,12 @@ to_thumb view v target even shows =
     }
 
 to_arm : (view : View) (v field target : ℕ) → v % 4 ≡ 0 → Shows view v (bytes_of 0x4778 2 ++ bytes_of 0x46C0 2 ++ bytes_of (0xEA000000 + field) 4) → field < 2 ^ 24
-    → (v + 4 + ahead false + span false (0xEA000000 + field)) % 2 ^ 32 ≡ (target + middle false) % 2 ^ 32 → VeneerToArm view v target
+    → (v + 4 + pc_offset false + biased_displacement false (0xEA000000 + field)) % 2 ^ 32 ≡ (target + bias false) % 2 ^ 32 → VeneerToArm view v target
 to_arm view v field target aligned shows small leads =
     let first = shows_parts view v (bytes_of 0x4778 2 ++ bytes_of 0x46C0 2) (bytes_of (0xEA000000 + field) 4) shows in
     let second = shows_parts view v (bytes_of 0x4778 2) (bytes_of 0x46C0 2) first.0 in
     let low : (0xEA000000 + field) % 2 ^ 24 ≡ field = omega arith in
-    let s = span_arm (v + 4) (0xEA000000 + field) in
+    let s = displacement_arm (v + 4) (0xEA000000 + field) in
     let t = rw low at s in
     record {
       aligned = aligned;
@@ -78,8 +78,8 @@ reads view v target true bytes shows has = let Here : List ℕ → Type 0 = λ l
 reads view v target false bytes shows has =
     let Here : List ℕ → Type 0 = λ l. Shows view v l in to_arm view v has.field target has.aligned (subst Here has.contents shows) has.fits has.leads
 
-field_once : (v target f g : ℕ) → f < 2 ^ 24 → g < 2 ^ 24 → (v + 4 + ahead false + span false (0xEA000000 + f)) % 2 ^ 32 ≡ (target + middle false) % 2 ^ 32
-    → (v + 4 + ahead false + span false (0xEA000000 + g)) % 2 ^ 32 ≡ (target + middle false) % 2 ^ 32 → f ≡ g
+field_once : (v target f g : ℕ) → f < 2 ^ 24 → g < 2 ^ 24 → (v + 4 + pc_offset false + biased_displacement false (0xEA000000 + f)) % 2 ^ 32 ≡ (target + bias false) % 2 ^ 32
+    → (v + 4 + pc_offset false + biased_displacement false (0xEA000000 + g)) % 2 ^ 32 ≡ (target + bias false) % 2 ^ 32 → f ≡ g
 field_once v target f g hf hg e d = omega arith
 
 once : (v target : ℕ) (state : Bool) (bytes other : List ℕ) → HasVeneer v target state bytes → HasVeneer v target state other → bytes ≡ other

@@ -11,7 +11,7 @@ use Rattle.aof_object.specs.declared.records.Object.{Object}
 use Rattle.aof_object.specs.declared.records.Reloc.{Reloc}
 use Rattle.sdt_word.specs.declared.ranges.Range32.{Range32}
 use Rattle.patch_model.specs.Fields.{Word, Branch, Field, Home, Meant, Values, field_of, kind_of, directives, added, taken}
-use Rattle.patch_model.specs.Patched.{total, IsBranch, is_branch, SameBranch, span, middle, ahead, Veneers, Way, Directly, ByVeneer, first_symbol, way_to, IsOutside, AreaPatched, Patched}
+use Rattle.patch_model.specs.Patched.{total, IsBranch, is_branch, SameBranch, biased_displacement, bias, pc_offset, Veneers, Way, Directly, ByVeneer, first_symbol, way_to, IsOutside, AreaPatched, Patched}
 use Rattle.patch_model.specs.Reaches.{View, Shows, BranchesTo, IsVeneer, HasVeneer, VeneersStand, Reaches}
 
 -- ---- bytes
@@ -58,12 +58,12 @@ abbrev pub TestLaw : Type 0
 TestLaw = (thumb : Bool) (w : ℕ) → Decides (is_branch thumb w) (IsBranch thumb w)
 
 pub record BranchLaw : Type 0 where
-  -- bytes that read as a branch lead where its span says
+  -- bytes that read as a branch lead where its displacement says
   pub leads : (view : View) (thumb : Bool) (a w target : ℕ) → Shows view a (bytes_of w 4) → w < 2 ^ 32 → IsBranch thumb w
-      → (a + ahead thumb + span thumb w) % 2 ^ 32 ≡ (target + middle thumb) % 2 ^ 32 → BranchesTo view thumb a target
-  -- a span as two's complement
-  pub arm_span : (a w : ℕ) → (a + sign_extended w 24 * 4 + middle false) % 2 ^ 32 ≡ (a + span false w) % 2 ^ 32
-  pub pair_span : (a w : ℕ) → (a + sign_extended (bits w 0 11 * 2 ^ 11 + bits w 16 11) 22 * 2 + middle true) % 2 ^ 32 ≡ (a + span true w) % 2 ^ 32
+      → (a + pc_offset thumb + biased_displacement thumb w) % 2 ^ 32 ≡ (target + bias thumb) % 2 ^ 32 → BranchesTo view thumb a target
+  -- a displacement as two's complement
+  pub arm_displacement : (a w : ℕ) → (a + sign_extended w 24 * 4 + bias false) % 2 ^ 32 ≡ (a + biased_displacement false w) % 2 ^ 32
+  pub pair_displacement : (a w : ℕ) → (a + sign_extended (bits w 0 11 * 2 ^ 11 + bits w 16 11) 22 * 2 + bias true) % 2 ^ 32 ≡ (a + biased_displacement true w) % 2 ^ 32
   -- a patched branch is the same instruction with another field
   pub arm_stays : (condition : Condition) (link : Bool) (field old new : ℕ) → ReadsArm old (arm.Branch condition link field) → new < 2 ^ 32
       → SameBranch false old new → ReadsArm new (arm.Branch condition link (new % 2 ^ 24))
@@ -72,7 +72,7 @@ pub record BranchLaw : Type 0 where
 
 -- in a view: to what the old branch names with its directives, or to the veneer
 abbrev pub LeadsBy : View → Veneers → Bool → ℕ → ℕ → ℕ → ℕ → Way → Type 0
-LeadsBy view veneers thumb a old more less Directly = BranchesTo view thumb a (total (a + ahead thumb + span thumb old) more (middle thumb + less))
+LeadsBy view veneers thumb a old more less Directly = BranchesTo view thumb a (total (a + pc_offset thumb + biased_displacement thumb old) more (bias thumb + less))
 LeadsBy view veneers thumb a old more less (ByVeneer target state) = (v : ℕ) × (veneers target state ≡ Some v) × BranchesTo view thumb a v
 
 -- where a patched branch leads, in a view that shows the area's bytes
@@ -82,7 +82,7 @@ PatchedBranchLaw =
     → AreaPatched relocs old base values veneers new → slice_get relocs k ≡ Some r → kind_of r ≡ Branch thumb → Shows view base new
     → LeadsBy view veneers thumb (base + (field_of r).place) (word_in old (field_of r).place) (added values (directives relocs (field_of r)))
     (taken base (directives relocs (field_of r)))
-    (way_to thumb (total (base + (field_of r).place + ahead thumb + span thumb (word_in old (field_of r).place)) 0 (middle thumb))
+    (way_to thumb (total (base + (field_of r).place + pc_offset thumb + biased_displacement thumb (word_in old (field_of r).place)) 0 (bias thumb))
     (added values (directives relocs (field_of r))) (taken base (directives relocs (field_of r))) values (first_symbol (directives relocs (field_of r))))
 
 -- the state in which a branch of a state reaches a symbol: that of a symbol in an area, and else the branch's own
@@ -112,8 +112,8 @@ ReachLaw =
     → AreaPatched relocs old base values veneers new → slice_get relocs k ≡ Some r → kind_of r ≡ Branch thumb → Shows view base new
     → VeneersStand view region area_at veneers → StandsTo area_at values (first_symbol (directives relocs (field_of r)))
     → Reaches view region thumb (base + (field_of r).place)
-    (total (base + (field_of r).place + ahead thumb + span thumb (word_in old (field_of r).place)) (added values (directives relocs (field_of r)))
-    (middle thumb + taken base (directives relocs (field_of r))))
+    (total (base + (field_of r).place + pc_offset thumb + biased_displacement thumb (word_in old (field_of r).place)) (added values (directives relocs (field_of r)))
+    (bias thumb + taken base (directives relocs (field_of r))))
     (state_to thumb values (first_symbol (directives relocs (field_of r))))
 
 -- ---- veneers

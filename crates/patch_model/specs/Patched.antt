@@ -31,19 +31,19 @@ is_branch false w = nat_lt (bits w 28 4) 15 && bits w 25 3 == 5
 is_branch true w = bits w 11 5 == 30 && bits w 27 5 == 31
 
 -- the displacement of a branch, counted from the least one
-abbrev pub span : Bool → ℕ → ℕ
-span false w = (bits w 0 24 + 2 ^ 23) % 2 ^ 24 * 4
-span true w = (bits w 0 11 * 2 ^ 11 + bits w 16 11 + 2 ^ 21) % 2 ^ 22 * 2
+abbrev pub biased_displacement : Bool → ℕ → ℕ
+biased_displacement false w = (bits w 0 24 + 2 ^ 23) % 2 ^ 24 * 4
+biased_displacement true w = (bits w 0 11 * 2 ^ 11 + bits w 16 11 + 2 ^ 21) % 2 ^ 22 * 2
 
 -- what stands for no displacement
-abbrev pub middle : Bool → ℕ
-middle false = 2 ^ 25
-middle true = 2 ^ 22
+abbrev pub bias : Bool → ℕ
+bias false = 2 ^ 25
+bias true = 2 ^ 22
 
 -- how far behind a branch its displacement counts from
-abbrev pub ahead : Bool → ℕ
-ahead false = 8
-ahead true = 4
+abbrev pub pc_offset : Bool → ℕ
+pc_offset false = 8
+pc_offset true = 4
 
 -- all but the displacement
 abbrev pub SameBranch : Bool → ℕ → ℕ → Type 0
@@ -83,16 +83,16 @@ way_to thumb reach more less values (Some k) = way_home thumb reach more less (v
 -- how the branch of a field leads that stands in an area at a base, by its directives
 abbrev pub way_of : ℕ → Values → List ℕ → Field → Bool → List Reloc → Way
 way_of base values old f thumb rs =
-    way_to thumb (total (base + f.place + ahead thumb + span thumb (number_in old f)) 0 (middle thumb)) (added values rs) (taken base rs) values (first_symbol rs)
+    way_to thumb (total (base + f.place + pc_offset thumb + biased_displacement thumb (number_in old f)) 0 (bias thumb)) (added values rs) (taken base rs) values (first_symbol rs)
 
 -- a branch whose displacement counts from an address leads to another, if there is one
 abbrev pub LeadsAt : Bool → ℕ → ℕ → Option ℕ → Type 0
 LeadsAt thumb from new None = ⊥
-LeadsAt thumb from new (Some address) = from + span thumb new ≡ address + middle thumb
+LeadsAt thumb from new (Some address) = from + biased_displacement thumb new ≡ address + bias thumb
 
 -- the new branch leads to what the old one names with its directives, or to the veneer of that
 abbrev pub Leads : Bool → ℕ → Veneers → ℕ → ℕ → ℕ → ℕ → Way → Type 0
-Leads thumb from veneers old new more less Directly = span thumb new + less ≡ span thumb old + more
+Leads thumb from veneers old new more less Directly = biased_displacement thumb new + less ≡ biased_displacement thumb old + more
 Leads thumb from veneers old new more less (ByVeneer target state) = LeadsAt thumb from new (veneers target state)
 
 pub record Turned (thumb : Bool) (from : ℕ) (veneers : Veneers) (old new more less : ℕ) (way : Way) : Type 0 where
@@ -108,8 +108,8 @@ AddsUp Byte at values veneers old new more less symbol = Fits 8 (total old more 
 AddsUp Half at values veneers old new more less symbol = Fits 16 (total old more less) × (new ≡ total old more less % 2 ^ 16)
 AddsUp Word at values veneers old new more less symbol = new ≡ total old more less
 AddsUp (Branch thumb) at values veneers old new more less symbol =
-    Turned thumb (at + ahead thumb) veneers old new more less
-    (way_to thumb (total (at + ahead thumb + span thumb old) 0 (middle thumb)) more less values symbol)
+    Turned thumb (at + pc_offset thumb) veneers old new more less
+    (way_to thumb (total (at + pc_offset thumb + biased_displacement thumb old) 0 (bias thumb)) more less values symbol)
 
 abbrev pub IsPatched : ℕ → Values → Veneers → List ℕ → List ℕ → Field → List Reloc → Type 0
 IsPatched base values veneers old new f rs =

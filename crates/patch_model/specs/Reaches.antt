@@ -13,7 +13,7 @@ use Rattle.thumb_isa.specs.ThumbRows.{ReadsThumb}
 use Rattle.thumb_isa.specs.declared.instr.ThumbInstr.TheVariants as thumb
 use Rattle.thumb_isa.specs.declared.instr.HighOperation.TheVariants as high
 use Rattle.patch_model.specs.Fields.{Home}
-use Rattle.patch_model.specs.Patched.{Veneers, span, middle, ahead}
+use Rattle.patch_model.specs.Patched.{Veneers, biased_displacement, bias, pc_offset}
 
 -- what is seen of memory
 abbrev pub View : Type 0
@@ -114,7 +114,7 @@ pub record HasArmVeneer (v target : ℕ) (bytes : List ℕ) : Type 0 where
   pub field : ℕ
   pub fits : field < 2 ^ 24
   pub contents : bytes ≡ bytes_of 0x4778 2 ++ bytes_of 0x46C0 2 ++ bytes_of (0xEA000000 + field) 4
-  pub leads : (v + 4 + ahead false + span false (0xEA000000 + field)) % 2 ^ 32 ≡ (target + middle false) % 2 ^ 32
+  pub leads : (v + 4 + pc_offset false + biased_displacement false (0xEA000000 + field)) % 2 ^ 32 ≡ (target + bias false) % 2 ^ 32
 
 -- the bytes of a veneer to Thumb code
 pub record HasThumbVeneer (target : ℕ) (bytes : List ℕ) : Type 0 where

@@ -12,7 +12,7 @@ use Rattle.boot_code.specs.Startup.{table_list, zeros}
 use Rattle.boot_code.specs.Words.{boot_list}
 use Rattle.byte_maps.specs.Maps.{bytes_of_words}
 use Rattle.patch_model.specs.Fields.{Home, Values, field_of}
-use Rattle.patch_model.specs.Patched.{ahead, middle, total}
+use Rattle.patch_model.specs.Patched.{pc_offset, bias, total}
 use Rattle.place_model.specs.declared.scatter.ScatterLoad.{ScatterLoad}
 use Rattle.place_model.proofs.ListLemmas.{all_at, all_filter_map, all_indexed, all_map}
 use Rattle.link_model.specs.declared.placing.PlacedArea.{PlacedArea}
@@ -24,7 +24,7 @@ use Rattle.link_model.specs.Members.{Link, objects_in}
 use Rattle.link_model.specs.RegionValues.{area_of}
 use Rattle.link_values.specs.Placed.{values_in}
 use Rattle.link_apply.specs.Laws as law
-use Rattle.link_apply.specs.PatchedBytes.{byte_by, has_byte, patched_bytes, patched_from, patched_number, veneer_bytes, with_span}
+use Rattle.link_apply.specs.PatchedBytes.{byte_by, has_byte, patched_bytes, patched_from, patched_number, veneer_bytes, with_displacement}
 use Rattle.link_apply.specs.Placed.{target_in}
 use Rattle.link_apply.specs.RegionBytes.{Piece, area_piece, area_pieces, bytes_from, copy_rows, entry_of, laid, region_bytes, regions_bytes, startup_list, startup_piece, veneer_piece, veneer_pieces, zero_rows}
 use Rattle.armlink_core.specs.Images.{bytes_in, loads_from}
@@ -81,7 +81,7 @@ three_numbers a b c j k n = joined (bytes_of a j ++ bytes_of b k) (bytes_of c n)
 
 are_of_veneer : (v target : ℕ) (thumb : Bool) → OfBytes (veneer_bytes v target thumb)
 are_of_veneer v target true = three_numbers 0xE59FC000 0xE12FFF1C ((target + 1) % 2 ^ 32) 4 4 4
-are_of_veneer v target false = three_numbers 0x4778 0x46C0 (with_span false 0xEA000000 (total target (middle false) (v + 4 + ahead false))) 2 2 4
+are_of_veneer v target false = three_numbers 0x4778 0x46C0 (with_displacement false 0xEA000000 (total target (bias false) (v + 4 + pc_offset false))) 2 2 4
 
 abbrev OfPiece : Piece → Type 0
 OfPiece q = OfBytes q.1

@@ -16,7 +16,7 @@ use Rattle.source_model.specs.declared.codes.ThumbCode.TheVariants.{One, Pair}
 use Rattle.asm_model.specs.declared.statements.Statement.{Statement}
 use Rattle.patch_model.specs.Fields.{Word as WordField, Branch as BranchField, Values, field_of, is_thumb_label, number_named, directives, added, taken}
 use Rattle.patch_model.specs.Laws.{StandsAt, state_of, state_to}
-use Rattle.patch_model.specs.Patched.{total, span, middle, ahead, SameBranch, Veneers, first_symbol, AreaPatched}
+use Rattle.patch_model.specs.Patched.{total, biased_displacement, bias, pc_offset, SameBranch, Veneers, first_symbol, AreaPatched}
 use Rattle.patch_model.specs.Reaches.{View, Shows, ShowsWord, VeneersStand, Reaches}
 use Rattle.patch_model.proofs.BranchLemmas.{branch_law}
 use Rattle.patch_model.proofs.PatchLemmas.{outside_law, word_law, reach_law, part_lt, shows_part}
@@ -111,13 +111,13 @@ module _ (ss : List Statement) (area : ℕ) (a : Area) (values : Values) (view :
   module _ (region : Range32) (area_at : ℕ → ℕ → ℕ) (stand : VeneersStand view region area_at veneers) (homes : (k : ℕ) → StandsAt area_at (values.symbol k) (values.symbol k).home) where
     branch_reaches : (thumb : Bool) (at n : ℕ) (r : Reloc) → IsRelocOf a.relocs r → RelocIs r at (BranchField thumb) true true n
         → Reaches view region thumb (values.base area + at)
-        (total (values.base area + at + ahead thumb + span thumb (word_in a.bytes at)) (added values (r ∷ [])) (middle thumb + taken (values.base area) (r ∷ [])))
+        (total (values.base area + at + pc_offset thumb + biased_displacement thumb (word_in a.bytes at)) (added values (r ∷ [])) (bias thumb + taken (values.base area) (r ∷ [])))
         (state_of thumb (values.symbol n) (values.symbol n).home)
     branch_reaches thumb at n r i is =
         let k = reloc_place a.relocs r i in
         let To : ℕ → List Reloc → Type 0 = λ p ds.
         Reaches view region thumb (values.base area + p)
-        (total (values.base area + p + ahead thumb + span thumb (word_in a.bytes p)) (added values ds) (middle thumb + taken (values.base area) ds))
+        (total (values.base area + p + pc_offset thumb + biased_displacement thumb (word_in a.bytes p)) (added values ds) (bias thumb + taken (values.base area) ds))
         (state_to thumb values (first_symbol ds)) in
         let law = reach_law a.relocs a.bytes (values.base area) values veneers out k.0 r thumb view region area_at there.patched k.1 is.kind_is there.shows stand
         (stands_to area_at values homes (first_symbol (directives a.relocs (field_of r)))) in
@@ -126,7 +126,7 @@ module _ (ss : List Statement) (area : ℕ) (a : Area) (values : Values) (view :
         let symbol : first_symbol (r ∷ []) ≡ Some n =
         ap (λ b. cond b (Some (number_named r)) None) is.by_symbol_is ∙ ap Some is.number in
         subst (λ (o : Option ℕ). Reaches view region thumb (values.base area + at)
-        (total (values.base area + at + ahead thumb + span thumb (word_in a.bytes at)) (added values (r ∷ [])) (middle thumb + taken (values.base area) (r ∷ [])))
+        (total (values.base area + at + pc_offset thumb + biased_displacement thumb (word_in a.bytes at)) (added values (r ∷ [])) (bias thumb + taken (values.base area) (r ∷ [])))
         (state_to thumb values o)) symbol here
 
     linked : (at : ℕ) (c : Condition) (link : Bool) (d : ℕ) (name : List ℕ) → StandsIn (source_of ss) area (at, Instruction (instr.Branch c link d) (Some name))
@@ -153,14 +153,14 @@ module _ (ss : List Statement) (area : ℕ) (a : Area) (values : Values) (view :
             let k = reloc_place a.relocs r own in
             let rest = subst (λ (p : ℕ). SameBranch false (word_in a.bytes p) (word_in out p)) is.place
             (same_branch a.relocs a.bytes (values.base area) values veneers out k.0 r false there.patched k.1 is.kind_is) in
-            let law = branch_law.arm_span 0 w in
+            let law = branch_law.arm_displacement 0 w in
             let low = extended_low w d known.1 in
-            let sum = subst (λ s. (0 + s * 4 + 2 ^ 25) % 2 ^ 32 ≡ (0 + span false w) % 2 ^ 32) low law in
-            let span_is = subst (λ v. (0 + sign_extended d 24 * 4 + 2 ^ 25) % 2 ^ 32 ≡ (0 + span false v) % 2 ^ 32) (sym same) sum in
+            let sum = subst (λ s. (0 + s * 4 + 2 ^ 25) % 2 ^ 32 ≡ (0 + biased_displacement false w) % 2 ^ 32) low law in
+            let displacement_is = subst (λ v. (0 + sign_extended d 24 * 4 + 2 ^ 25) % 2 ^ 32 ≡ (0 + biased_displacement false v) % 2 ^ 32) (sym same) sum in
             let more = bare (added values (r ∷ [])) (values.symbol n).number (adds values (values.base area) r (BranchField false) true true n is) in
             let less = own_base (values.base area) (taken (values.base area) (r ∷ [])) (takes values (values.base area) r (BranchField false) true true n is) in
-            let target = target_sum (values.base area) at (span false (word_in a.bytes at)) (added values (r ∷ [])) (taken (values.base area) (r ∷ []))
-            (values.symbol n).number (sign_extended d 24) span_is more less in
+            let target = target_sum (values.base area) at (biased_displacement false (word_in a.bytes at)) (added values (r ∷ [])) (taken (values.base area) (r ∷ []))
+            (values.symbol n).number (sign_extended d 24) displacement_is more less in
             record {
               field = word_in out at % 2 ^ 24;
               reads = record {
@@ -197,13 +197,13 @@ module _ (ss : List Statement) (area : ℕ) (a : Area) (values : Values) (view :
             (same_branch a.relocs a.bytes (values.base area) values veneers out k.0 r true there.patched k.1 is.kind_is) in
             let reads = branch_law.pair_stays w new (part_lt out 4 at room there.patched.bytes) p.branch (subst (λ (v : ℕ). SameBranch true v new) same rest) in
             let halves = halves_shown view (values.base area + at) new (shows_part view (values.base area) out 4 at room there.patched.bytes there.shows) in
-            let law = branch_law.pair_span 0 w in
-            let named = subst (λ (v : ℕ). (0 + sign_extended v 22 * 2 + 2 ^ 22) % 2 ^ 32 ≡ (0 + span true w) % 2 ^ 32) p.field law in
-            let span_is = subst (λ v. (0 + sign_extended (first * 2 ^ 11 + second) 22 * 2 + 2 ^ 22) % 2 ^ 32 ≡ (0 + span true v) % 2 ^ 32) (sym same) named in
+            let law = branch_law.pair_displacement 0 w in
+            let named = subst (λ (v : ℕ). (0 + sign_extended v 22 * 2 + 2 ^ 22) % 2 ^ 32 ≡ (0 + biased_displacement true w) % 2 ^ 32) p.field law in
+            let displacement_is = subst (λ v. (0 + sign_extended (first * 2 ^ 11 + second) 22 * 2 + 2 ^ 22) % 2 ^ 32 ≡ (0 + biased_displacement true v) % 2 ^ 32) (sym same) named in
             let more = bare (added values (r ∷ [])) (values.symbol n).number (adds values (values.base area) r (BranchField true) true true n is) in
             let less = own_base (values.base area) (taken (values.base area) (r ∷ [])) (takes values (values.base area) r (BranchField true) true true n is) in
-            let target = pair_target (values.base area) at (span true (word_in a.bytes at)) (added values (r ∷ [])) (taken (values.base area) (r ∷ []))
-            (values.symbol n).number (sign_extended (first * 2 ^ 11 + second) 22) span_is more less in
+            let target = pair_target (values.base area) at (biased_displacement true (word_in a.bytes at)) (added values (r ∷ [])) (taken (values.base area) (r ∷ []))
+            (values.symbol n).number (sign_extended (first * 2 ^ 11 + second) 22) displacement_is more less in
             record {
               high = bits new 0 11;
               low = bits new 16 11;

@@ -8,7 +8,7 @@ use Rattle.sdt_word.specs.declared.ranges.Range32.{Range32}
 use Rattle.aof_object.specs.declared.records.Object.{Object}
 use Rattle.aof_object.specs.declared.records.Symbol.{Symbol}
 use Rattle.patch_model.specs.Fields.{Meant, Values}
-use Rattle.patch_model.specs.Patched.{total, span, middle, Veneers, LeadsAt}
+use Rattle.patch_model.specs.Patched.{total, biased_displacement, bias, Veneers, LeadsAt}
 use Rattle.patch_model.specs.Reaches.{View, Shows, IsVeneer, VeneersStand}
 use Rattle.patch_model.proofs.PatchLemmas.{one_patched}
 use Rattle.patch_model.proofs.VeneerLemmas.{shows_parts, veneer_law}
@@ -145,7 +145,7 @@ of_call = object (word_area 0x2202 0xEBFFFFFE 0x8F000000) far
 pub call_by_veneer : (base target : ℕ) → base % 4 ≡ 0 → (ends : base + 16 ≤ 2 ^ 32) → target % 2 ≡ 0 → target < 2 ^ 32
     → IsPlacedAndShown 0 of_call (values_by base (code_at true target)) (areas_at base target) (with_veneer base target) (around base ends) (veneers_to base target)
 call_by_veneer base target aligned ends even small =
-    let named : ℕ = (target + total (0 + total (base + 0 + 8 + span false 0xEBFFFFFE) 0 (middle false)) (target + 0 + 0) (base * 1 + 0 + target)) % 2 ^ 32 in
+    let named : ℕ = (target + total (0 + total (base + 0 + 8 + biased_displacement false 0xEBFFFFFE) 0 (bias false)) (target + 0 + 0) (base * 1 + 0 + target)) % 2 ^ 32 in
     placed_and_shown 0 base 0x2202 0xEBFFFFFE 0x8F000000 0xEBFFFFFF far (code_at true target) (areas_at base target) (with_veneer base target) (around base ends)
     (veneers_to base target) aligned (omega arith) (λ e. absurd (omega arith)) (omega arith) (λ area. refl) refl (record { start = refl; whole = refl })
     (record { branch = (lit< tt, refl); rest = refl; leads = veneer_leads base target named (omega arith) }) (parts base target).0

@@ -116,8 +116,8 @@ record AtExport (q : List ℕ) (i : ℕ) (os : List (Named Object)) (d : Definit
 behind : (q : List ℕ) (o : Named Object) (os : List (Named Object)) (own k : ℕ) (s : Symbol) → IsExport os q own k s → IsExport (o ∷ os) q (suc own) k s
 behind q o os own k s e = record { object = e.object; there = e.there; symbol = e.symbol; exported = e.exported; named = e.named }
 
-ahead : (q : List ℕ) (o : Named Object) (os : List (Named Object)) (own k : ℕ) (s : Symbol) → IsExport (o ∷ os) q (suc own) k s → IsExport os q own k s
-ahead q o os own k s e = record { object = e.object; there = e.there; symbol = e.symbol; exported = e.exported; named = e.named }
+pc_offset : (q : List ℕ) (o : Named Object) (os : List (Named Object)) (own k : ℕ) (s : Symbol) → IsExport (o ∷ os) q (suc own) k s → IsExport os q own k s
+pc_offset q o os own k s e = record { object = e.object; there = e.there; symbol = e.symbol; exported = e.exported; named = e.named }
 
 first_export : (q : List ℕ) (i : ℕ) (os : List (Named Object)) (d : Definition) → definition_of (definitions_from i (objects_in os)) q ≡ Some d → AtExport q i os d
 first_export q i [] d h = absurd cc
@@ -154,7 +154,7 @@ no_export q i (o ∷ os) h own k s e =
         let there : Some o ≡ Some e.object = e.there in
         let same : o ≡ e.object = cc in
         no_symbol q i 0 o.value.symbols none k s (ap (λ (z : Named Object). slice_get z.value.symbols k) same ∙ e.symbol) e.exported e.named
-    go (suc own) e none rest = rest own k s (ahead q o os own k s e)
+    go (suc own) e none rest = rest own k s (pc_offset q o os own k s e)
 
 -- ---- the value of a symbol
 

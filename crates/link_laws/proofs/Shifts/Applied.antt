@@ -10,7 +10,7 @@ use Rattle.sdt_word.specs.declared.ranges.Range32.{Range32}
 use Rattle.aof_object.specs.declared.records.Area.{Area}
 use Rattle.aof_object.specs.declared.records.Object.{Object}
 use Rattle.patch_model.specs.Fields.{Home}
-use Rattle.patch_model.specs.Patched.{span}
+use Rattle.patch_model.specs.Patched.{biased_displacement}
 use Rattle.patch_model.specs.Reaches.{HasVeneer}
 use Rattle.place_model.specs.declared.scatter.Kind.TheVariants as kind
 use Rattle.place_model.specs.Plans.{Contents, Planned, regions_of}
@@ -105,13 +105,13 @@ module _ (l : Linked) (p : Placement) (region : ℕ) (target : Home) (b c : ℕ)
   veneer_leads false y h =
       let same : given c false ≡ given b false =
       veneer_shifts p region target b c low there (link_of l) false ∙ shifted_none (shift_between b c) (own_shifts false) 0 (given b false) (λ i lt. refl) in
-      let leads : (y + b + 4 + 8 + span false (0xEA000000 + h.field)) % 2 ^ 32 ≡ ((x + b + target.offset) % 2 ^ 32 + 2 ^ 25) % 2 ^ 32 = h.leads ∙ ap (λ n. (n + 2 ^ 25) % 2 ^ 32) (goal_at b) in
+      let leads : (y + b + 4 + 8 + biased_displacement false (0xEA000000 + h.field)) % 2 ^ 32 ≡ ((x + b + target.offset) % 2 ^ 32 + 2 ^ 25) % 2 ^ 32 = h.leads ∙ ap (λ n. (n + 2 ^ 25) % 2 ^ 32) (goal_at b) in
       record {
         aligned = aligned_moves y b c here_4 there_4 h.aligned;
         field = h.field;
         fits = h.fits;
         contents = same ∙ h.contents;
-        leads = leads_moves y b c x target.offset (span false (0xEA000000 + h.field)) leads ∙ ap (λ n. (n + 2 ^ 25) % 2 ^ 32) (sym (goal_at c));
+        leads = leads_moves y b c x target.offset (biased_displacement false (0xEA000000 + h.field)) leads ∙ ap (λ n. (n + 2 ^ 25) % 2 ^ 32) (sym (goal_at c));
       }
 
 -- ---- a link that is made

@@ -5,11 +5,11 @@ use Rattle.std.specs.List.{AllByRecursion}
 use Rattle.std.specs.Option.{option_map, is_some}
 use Rattle.aof_object.specs.declared.records.Reloc.{Reloc}
 use Rattle.patch_model.specs.Fields.{Kind, Byte, Half, Word, Branch, Field, Home, Meant, Values, is_relative, added, taken, number_in}
-use Rattle.patch_model.specs.Patched.{total, span, middle, ahead, Way, Directly, ByVeneer, first_symbol, other_state, way_home, way_to, way_of}
+use Rattle.patch_model.specs.Patched.{total, biased_displacement, bias, pc_offset, Way, Directly, ByVeneer, first_symbol, other_state, way_home, way_to, way_of}
 use Rattle.link_model.specs.declared.placing.Placement.{Placement}
 use Rattle.link_apply.specs.Placed.{veneers_at}
 use Rattle.link_apply.specs.Flaws.{veneer_of, lacks_veneer}
-use Rattle.link_apply.specs.PatchedBytes.{with_span, turned, number_by}
+use Rattle.link_apply.specs.PatchedBytes.{with_displacement, turned, number_by}
 use Rattle.link_values.specs.Shifts.{gains, losses}
 use Rattle.link_laws.specs.AifJoins.{shift_between}
 use Rattle.link_laws.proofs.Shifts.Sums.{total_moves, gained_and_lost, IsMovedIn, added_moves, taken_moves}
@@ -77,34 +77,34 @@ module _ (moving : Reloc → Bool) (by : ℕ) (p q : Placement) (v w : Values) (
         less_moves ∙ ap (λ n. less + by * n) same
 
     abbrev reach : Bool → ℕ
-    reach thumb = base + f.place + ahead thumb + span thumb (number_in bytes f)
+    reach thumb = base + f.place + pc_offset thumb + biased_displacement thumb (number_in bytes f)
 
     pub way_moves : (thumb : Bool) → way_of (base + by) w bytes f thumb rs ≡ way_of base v bytes f thumb rs
     way_moves thumb =
-        let from : base + by + f.place + ahead thumb + span thumb (number_in bytes f) ≡ reach thumb + by = omega arith in
-        ap (λ z. way_to thumb (total z 0 (middle thumb)) (added w rs) (taken (base + by) rs) w (first_symbol rs)) from
-        ∙ ap (λ z. way_to thumb (total (reach thumb + by) 0 (middle thumb)) z (taken (base + by) rs) w (first_symbol rs)) more_moves
-        ∙ ap (λ z. way_to thumb (total (reach thumb + by) 0 (middle thumb)) (more + by * moves) z w (first_symbol rs)) even_less
-        ∙ same_way by v w image.symbols thumb (reach thumb) (middle thumb) more less (by * moves) (first_symbol rs)
+        let from : base + by + f.place + pc_offset thumb + biased_displacement thumb (number_in bytes f) ≡ reach thumb + by = omega arith in
+        ap (λ z. way_to thumb (total z 0 (bias thumb)) (added w rs) (taken (base + by) rs) w (first_symbol rs)) from
+        ∙ ap (λ z. way_to thumb (total (reach thumb + by) 0 (bias thumb)) z (taken (base + by) rs) w (first_symbol rs)) more_moves
+        ∙ ap (λ z. way_to thumb (total (reach thumb + by) 0 (bias thumb)) (more + by * moves) z w (first_symbol rs)) even_less
+        ∙ same_way by v w image.symbols thumb (reach thumb) (bias thumb) more less (by * moves) (first_symbol rs)
 
     -- a branch, by its way
     turned_moves : (thumb : Bool) (old : ℕ) (way : Way) → lacks_veneer p region way ≡ false
         → turned thumb (base + by + f.place) old (more + by * moves) (less + by * moves) (veneer_of q region way) way
         ≡ turned thumb (base + f.place) old more less (veneer_of p region way) way
     turned_moves thumb old Directly has =
-        let to : span thumb old + (more + by * moves) - (less + by * moves) ≡ span thumb old + more - less = cancelled (span thumb old) more less (by * moves) in
-        ap (with_span thumb old) to
+        let to : biased_displacement thumb old + (more + by * moves) - (less + by * moves) ≡ biased_displacement thumb old + more - less = cancelled (biased_displacement thumb old) more less (by * moves) in
+        ap (with_displacement thumb old) to
       where
         cancelled : (s a t x : ℕ) → s + (a + x) - (t + x) ≡ s + a - t
         cancelled s a t x = omega arith
     turned_moves thumb old (ByVeneer h state) has =
-        ap (λ (o : Option ℕ). with_span thumb old (unwrap_or o 0 + middle thumb - (base + by + f.place + ahead thumb))) (image.veneers region h state)
+        ap (λ (o : Option ℕ). with_displacement thumb old (unwrap_or o 0 + bias thumb - (base + by + f.place + pc_offset thumb))) (image.veneers region h state)
         ∙ go (veneers_at p region h state) has
       where
         go : (o : Option ℕ) → not (is_some o) ≡ false
-            → with_span thumb old (unwrap_or (option_map (λ y. y + by) o) 0 + middle thumb - (base + by + f.place + ahead thumb)) ≡ with_span thumb old (unwrap_or o 0 + middle thumb - (base + f.place + ahead thumb))
+            → with_displacement thumb old (unwrap_or (option_map (λ y. y + by) o) 0 + bias thumb - (base + by + f.place + pc_offset thumb)) ≡ with_displacement thumb old (unwrap_or o 0 + bias thumb - (base + f.place + pc_offset thumb))
         go None e = absurd cc
-        go (Some y) e = let to : y + by + middle thumb - (base + by + f.place + ahead thumb) ≡ y + middle thumb - (base + f.place + ahead thumb) = omega arith in ap (with_span thumb old) to
+        go (Some y) e = let to : y + by + bias thumb - (base + by + f.place + pc_offset thumb) ≡ y + bias thumb - (base + f.place + pc_offset thumb) = omega arith in ap (with_displacement thumb old) to
 
     pub total_stays : (old : ℕ) → total old (added w rs) (taken (base + by) rs) ≡ total old more less
     total_stays old = ap (λ z. total old z (taken (base + by) rs)) more_moves ∙ ap (λ z. total old (more + by * moves) z) even_less ∙ cancelled more less (by * moves)

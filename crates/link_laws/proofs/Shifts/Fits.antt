@@ -5,7 +5,7 @@ use Rattle.std.specs.Option.{option_map}
 use Rattle.aof_object.specs.declared.records.Area.{Area}
 use Rattle.aof_object.specs.declared.records.Reloc.{Reloc}
 use Rattle.patch_model.specs.Fields.{Kind, Byte, Half, Word, Branch, Field, Values, field_of, directives, added, taken, number_in}
-use Rattle.patch_model.specs.Patched.{total, Fits, SameBranch, span, ahead, Way, Directly, ByVeneer, first_symbol, way_of, LeadsAt, Leads, AddsUp}
+use Rattle.patch_model.specs.Patched.{total, Fits, SameBranch, biased_displacement, pc_offset, Way, Directly, ByVeneer, first_symbol, way_of, LeadsAt, Leads, AddsUp}
 use Rattle.link_model.specs.declared.placing.Placement.{Placement}
 use Rattle.link_apply.specs.Placed.{veneers_at}
 use Rattle.link_apply.specs.PatchedBytes.{number_by}
@@ -37,17 +37,17 @@ module _ (moving : Reloc → Bool) (b c : ℕ) (p q r : Placement) (v w u : Valu
         total_stays moving c p r v u second region base bytes f rs others even (number_in bytes f)
         ∙ sym (total_stays moving b p q v w first region base bytes f rs values even (number_in bytes f))
 
-    leads_move : (thumb : Bool) (new : ℕ) (way : Way) → Leads thumb (base + b + f.place + ahead thumb) (veneers_at q region) (number_in bytes f) new (added w rs) (taken (base + b) rs) way
-        → Leads thumb (base + c + f.place + ahead thumb) (veneers_at r region) (number_in bytes f) new (added u rs) (taken (base + c) rs) way
+    leads_move : (thumb : Bool) (new : ℕ) (way : Way) → Leads thumb (base + b + f.place + pc_offset thumb) (veneers_at q region) (number_in bytes f) new (added w rs) (taken (base + b) rs) way
+        → Leads thumb (base + c + f.place + pc_offset thumb) (veneers_at r region) (number_in bytes f) new (added u rs) (taken (base + c) rs) way
     leads_move thumb new Directly h =
-        left_over (span thumb new) (span thumb (number_in bytes f)) _ _ _ _ _ _ _ _
+        left_over (biased_displacement thumb new) (biased_displacement thumb (number_in bytes f)) _ _ _ _ _ _ _ _
         (more_moves moving b p q v w first region base bytes f rs values) (even_less moving b p q v w first region base bytes f rs values even)
         (more_moves moving c p r v u second region base bytes f rs others) (even_less moving c p r v u second region base bytes f rs others even) h
     leads_move thumb new (ByVeneer home state) h =
-        subst (LeadsAt thumb (base + c + f.place + ahead thumb) new) (sym (second.veneers region home state))
-        (go (veneers_at p region home state) (subst (LeadsAt thumb (base + b + f.place + ahead thumb) new) (first.veneers region home state) h))
+        subst (LeadsAt thumb (base + c + f.place + pc_offset thumb) new) (sym (second.veneers region home state))
+        (go (veneers_at p region home state) (subst (LeadsAt thumb (base + b + f.place + pc_offset thumb) new) (first.veneers region home state) h))
       where
-        go : (o : Option ℕ) → LeadsAt thumb (base + b + f.place + ahead thumb) new (option_map (λ y. y + b) o) → LeadsAt thumb (base + c + f.place + ahead thumb) new (option_map (λ y. y + c) o)
+        go : (o : Option ℕ) → LeadsAt thumb (base + b + f.place + pc_offset thumb) new (option_map (λ y. y + b) o) → LeadsAt thumb (base + c + f.place + pc_offset thumb) new (option_map (λ y. y + c) o)
         go None e = e
         go (Some y) e = omega (arith, e)
 
@@ -68,8 +68,8 @@ module _ (moving : Reloc → Bool) (b c : ℕ) (p q r : Placement) (v w u : Valu
           branch = h.branch;
           rest = subst (SameBranch thumb (number_in bytes f)) same h.rest;
           leads =
-              subst (λ (n : ℕ). Leads thumb (base + c + f.place + ahead thumb) (veneers_at r region) (number_in bytes f) n (added u rs) (taken (base + c) rs) (way_of (base + c) u bytes f thumb rs)) same
-              (subst (Leads thumb (base + c + f.place + ahead thumb) (veneers_at r region) (number_in bytes f) one (added u rs) (taken (base + c) rs)) way
+              subst (λ (n : ℕ). Leads thumb (base + c + f.place + pc_offset thumb) (veneers_at r region) (number_in bytes f) n (added u rs) (taken (base + c) rs) (way_of (base + c) u bytes f thumb rs)) same
+              (subst (Leads thumb (base + c + f.place + pc_offset thumb) (veneers_at r region) (number_in bytes f) one (added u rs) (taken (base + c) rs)) way
               (leads_move thumb one (way_of (base + b) w bytes f thumb rs) h.leads));
         }
 

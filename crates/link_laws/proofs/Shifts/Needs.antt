@@ -12,7 +12,7 @@ use Rattle.aof_object.specs.declared.records.Symbol.{Symbol}
 use Rattle.aof_object.specs.Checks.{left_over}
 use Rattle.aof_object.specs.Validity.{IsValid, IsEntered, head_of, heads}
 use Rattle.patch_model.specs.Fields.{Kind as FieldKind, Byte, Half, Word, Branch, Home, Values, field_of, kind_of, directives, added, taken, number_in}
-use Rattle.patch_model.specs.Patched.{total, span, middle, ahead, Directly, ByVeneer, first_symbol, other_state, way_home, way_to, way_of}
+use Rattle.patch_model.specs.Patched.{total, biased_displacement, bias, pc_offset, Directly, ByVeneer, first_symbol, other_state, way_home, way_to, way_of}
 use Rattle.place_model.proofs.ListLemmas.{all_at}
 use Rattle.link_model.specs.declared.placing.AreaName.{AreaName}
 use Rattle.link_model.specs.declared.placing.Placement.{Placement}
@@ -91,7 +91,7 @@ of_branch l region name a r v h = go (kind_of r) h
         by true some =
             let values : Values = values_apart l name.object in
             let rs : List Reloc = directives a.relocs (field_of r) in
-            of_way region thumb (total (0 + (field_of r).place + ahead thumb + span thumb (number_in a.bytes (field_of r))) 0 (middle thumb)) (added values rs) (taken 0 rs) values (first_symbol rs) v some
+            of_way region thumb (total (0 + (field_of r).place + pc_offset thumb + biased_displacement thumb (number_in a.bytes (field_of r))) 0 (bias thumb)) (added values rs) (taken 0 rs) values (first_symbol rs) v some
         by false some = absurd cc
 
 -- ---- those that are needed

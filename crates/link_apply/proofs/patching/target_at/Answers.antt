@@ -1,6 +1,6 @@
 use Rattle.std.proofs.Common.{◌≡◌, ◌+◌, sym, ap, ◌∙◌}
 use Rattle.patch_model.specs.Fields.{Field, field_of, number_in}
-use Rattle.patch_model.specs.Patched.{total, ahead, span, middle, way_to}
+use Rattle.patch_model.specs.Patched.{total, pc_offset, biased_displacement, bias, way_to}
 use Rattle.link_apply.specs.Targets.{values_by}
 use Rattle.link_apply.proofs.JudgeLemmas.{told_of}
 use Rattle.link_apply.proofs.patching.target_at.Goals as goal
@@ -16,5 +16,5 @@ returns c = λ bases number own there t branch sound.
     let less = sym told.subtracted in
     let symbol = sym told.symbol in
     c.target_by.ensures
-    ∙ (λ i. way_to (thumb i) (total (c.args.base + place i + ahead (thumb i) + span (thumb i) (word i)) 0 (middle (thumb i))) (more i) (less i)
+    ∙ (λ i. way_to (thumb i) (total (c.args.base + place i + pc_offset (thumb i) + biased_displacement (thumb i) (word i)) 0 (bias (thumb i))) (more i) (less i)
     (values_by bases c.args.symbols.now) (symbol i))

@@ -21,6 +21,6 @@ loop-k-preserved c =
     let step : needed_from l k (drop k c.args.regions.now) ≡ of k c.index-regions-k.result ++ needed_from l (k + 1) rest =
     ap (needed_from l k) here ∙ ap (λ n. of k c.index-regions-k.result ++ needed_from l n rest) next in
     let added : c.add_region.new.needs.keys ≡ with_all c.loop-k.needs.keys (of k c.index-regions-k.result) =
-    c.in_ok-add_region.ensures ∙ ap (λ n. with_all c.loop-k.needs.keys (of n c.as_slice.result.now)) c.in_ok-numbered.ensures
+    c.in_ok-add_region.ensures ∙ ap (λ n. with_all c.loop-k.needs.keys (of n c.as_slice.result.now)) c.in_ok-to_u32.ensures
     ∙ ap (λ names. with_all c.loop-k.needs.keys (of k names)) c.as_slice.ensures in
     added_more c.loop-k.needs.keys c.add_region.new.needs.keys _ (of k c.index-regions-k.result) (needed_from l (k + 1) rest) (needed_from l k (drop k c.args.regions.now)) step added c.loop-k.invariant
