@@ -5,5 +5,5 @@ use Rattle.armasm_core.proofs.building.all_started.Given as goal
 
 abbrev pub invariant-areas : goal.invariant-areas
 invariant-areas l =
-    (frames l.growing.items ≡ map frame_of (take l.area-index l.areas)) × (l.number ≡ l.area-index) × (length l.growing.items ≡ l.area-index)
-    × HoldPools l.whole l.symbols l.areas l.growing.items
+    (frames l.builds.items ≡ map frame_of (take l.area-index l.areas)) × (l.number ≡ l.area-index) × (length l.builds.items ≡ l.area-index)
+    × HoldPools l.whole l.symbols l.areas l.builds.items

@@ -26,9 +26,9 @@ lines-init c =
     let w = c.args.whole.now in
     let names = c.args.symbols.now in
     let known = c.new-registers.result in
-    let gs = c.in_ok-growing.growing.items in
-    let same : frames gs ≡ map frame_of l.areas = c.in_ok-growing.ensures.frames ∙ ap (map frame_of) c.as_slice-areas.ensures in
-    let words : HoldPools w names l.areas gs = subst (λ (xs : List LaidArea). HoldPools w names xs gs) c.as_slice-areas.ensures c.in_ok-growing.ensures.words in
+    let gs = c.in_ok-builds.builds.items in
+    let same : frames gs ≡ map frame_of l.areas = c.in_ok-builds.ensures.frames ∙ ap (map frame_of) c.as_slice-areas.ensures in
+    let words : HoldPools w names l.areas gs = subst (λ (xs : List LaidArea). HoldPools w names xs gs) c.as_slice-areas.ensures c.in_ok-builds.ensures.words in
     let grown : (statements : List Statement) → IsEmittable statements l w → IsGrown statements names c.as_slice-left.result.now known gs = λ statements j.
     subst (λ (xs : List LaidStatement). IsGrown statements names xs known gs) (sym c.as_slice-left.ensures)
     (grown_first statements l w names known gs j (λ q. ap (register_in q) c.new-registers.ensures)
@@ -43,7 +43,7 @@ lines-init c =
 
 pub returns-in-empty-clause-grown : goal.returns-in-empty-clause-grown
 returns-in-empty-clause-grown c = λ statements h.
-    grown_all statements c.args.symbols.now c.lines.left.now c.lines.registers c.lines.growing.items c.in-empty.len_below (c.lines.invariant.2 statements h)
+    grown_all statements c.args.symbols.now c.lines.left.now c.lines.registers c.lines.builds.items c.in-empty.len_below (c.lines.invariant.2 statements h)
 
 pub returns-in_err-units-in-len1-up-clause-grown : goal.returns-in_err-units-in-len1-up-clause-grown
 returns-in_err-units-in-len1-up-clause-grown c = λ statements j.
@@ -53,7 +53,7 @@ returns-in_err-units-in-len1-up-clause-grown c = λ statements j.
     let x = c.line-item.result in
     let left = c.lines.left.now in
     let known = c.lines.registers in
-    let gs = c.lines.growing.items in
+    let gs = c.lines.builds.items in
     let n = next_there statements l w names x left known gs c.in-len1-up.len_at_least c.line-item.is j (c.lines.invariant.2 statements j) in
     let p = err_from_is_err_and c.from_residual-in_err-units-in-len1-up.result c.from_residual-in_err-units-in-len1-up.ensures.1 in
     let told = c.in_err-units-in-len1-up.ensures statements n.before n.rest n.line
@@ -67,7 +67,7 @@ put_line-requires-clause-stand c =
     let w = c.args.whole.now in
     let g = c.lines.invariant.3 in
     let u = c.in_ok-units-in-len1-up.field-0 in
-    next_stands l w c.args.symbols.now c.line-item.result c.lines.left.now c.lines.registers c.lines.growing.items c.in-len1-up.len_at_least c.line-item.is g
+    next_stands l w c.args.symbols.now c.line-item.result c.lines.left.now c.lines.registers c.lines.builds.items c.in-len1-up.len_at_least c.line-item.is g
     c.lines.invariant.1 u c.as_slice.result.now c.as_slice.ensures.value
     (λ before rest line here.
     c.in_ok-units-in-len1-up.ensures g.source.source.statements before rest line
@@ -82,19 +82,19 @@ lines-preserved c =
     let left = c.lines.left.now in
     let more = take (length left - 1) (drop 1 left) in
     let known = c.lines.registers in
-    let gs = c.lines.growing.items in
+    let gs = c.lines.builds.items in
     let u = c.in_ok-units-in-len1-up.field-0 in
     let us = c.as_slice.result.now in
     let g = c.lines.invariant.3 in
     let step : (statements : List Statement) → IsEmittable statements l w → IsGrown statements names left known gs
-    → IsGrown statements names more c.give.new.known c.put_line.new.growing.items = λ statements j k.
+    → IsGrown statements names more c.give.new.known c.put_line.new.builds.items = λ statements j k.
     let n = next_there statements l w names x left known gs c.in-len1-up.len_at_least c.line-item.is j k in
     let put = c.in_ok-units-in-len1-up.ensures statements n.before n.rest n.line
     (subst (λ (areas : List LaidArea). IsHere statements areas w known n.before n.rest n.line x) (sym c.as_slice-areas.ensures) n.here) in
     let pieces = put_there statements l w names x more known gs n u us c.as_slice.ensures.value put in
     let apart = apart_there c.sources_stand_apart.ensures statements j.sound j.states n.before n.rest n.line x.place.area
     (pieces_put x.place.offset us) n.here.parts n.here.line.place.area pieces in
-    grown_more statements l w names x more known c.give.new.known gs c.put_line.new.growing.items n u us c.as_slice.ensures.value put
+    grown_more statements l w names x more known c.give.new.known gs c.put_line.new.builds.items n u us c.as_slice.ensures.value put
     (c.in_ok-put_line-in-len1-up.ensures.more (things_so_far (source_of statements) n.before (n.line ∷ n.rest)) n.builders apart)
     c.in_ok-give-in-len1-up.ensures in (
       (said_first left x c.lines.invariant.0 c.in-len1-up.len_at_least c.line-item.is).1,

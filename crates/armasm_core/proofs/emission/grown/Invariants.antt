@@ -7,9 +7,9 @@ use Rattle.armasm_core.proofs.emission.grown.Given as goal
 
 abbrev pub invariant-lines : goal.invariant-lines
 invariant-lines l =
-    AllLaidSaid l.left × (frames l.growing.items ≡ map frame_of l.layout.areas)
-    × ((statements : List Statement) → IsEmittable statements l.layout l.whole → IsGrown statements l.symbols l.left l.registers l.growing.items)
-    × GrowsOn l.layout l.whole l.symbols l.left l.registers l.growing.items
+    AllLaidSaid l.left × (frames l.builds.items ≡ map frame_of l.layout.areas)
+    × ((statements : List Statement) → IsEmittable statements l.layout l.whole → IsGrown statements l.symbols l.left l.registers l.builds.items)
+    × GrowsOn l.layout l.whole l.symbols l.left l.registers l.builds.items
 
 abbrev pub decreases-lines : goal.decreases-lines
 decreases-lines l = length l.left
