@@ -26,13 +26,13 @@ grow-requires-clause-stand c =
 
 pub returns-clause-frames : goal.returns-clause-frames
 returns-clause-frames c =
-    set_frames c.args.builds.now.items c.in-Some.area c.index_mut.result.now c.grow.new.builds c.index_mut.ensures.value c.grow.ensures.frame
+    set_frames c.args.builds.now.items c.in-Some.area c.index_mut.result.now c.grow.new.build c.index_mut.ensures.value c.grow.ensures.frame
 
 pub returns-clause-more : goal.returns-clause-more
 returns-clause-more c =
     on_ok_weaker c.grow.result
     (λ grows held old apart.
-    builders_put c.args.symbols.now held c.args.builds.now.items c.in-Some.area c.index_mut.result.now c.grow.new.builds c.args.place.now.area
+    builders_put c.args.symbols.now held c.args.builds.now.items c.in-Some.area c.index_mut.result.now c.grow.new.build c.args.place.now.area
     (pieces_put c.args.place.now.offset c.args.units.now) c.in-Some.is
     (take_less c.args.symbols.now c.args.builds.now.items c.args.place.now.area c.in-Some.area
     (pieces_put c.args.place.now.offset c.args.units.now) c.in-Some.is c.requires.stand) c.index_mut.ensures.value old apart grows)
