@@ -4,7 +4,7 @@ use Rattle.std.specs.Prelude.{◌↔◌, IsTrue, if◌then◌else◌}
 use Rattle.std.proofs.lemmas.List.{length-drop, length-append}
 use Rattle.sdt_word.specs.Bytes.{word_in}
 use Rattle.sdt_word.proofs.BytesLemmas.{number_of-bytes_of}
-use Rattle.byte_maps.specs.Maps.{bytes_of_words}
+use Rattle.boot_code.specs.Maps.{bytes_of_words}
 use Rattle.link_model.specs.declared.images.Image.{Image}
 use Rattle.aif_image.specs.Checks.{Check, Long, Plain, Relocates, Enters, Sized, Mode32, HasSizes, Holds, IsCall, IsNop}
 use Rattle.aif_image.specs.Files.{IsAif, WrittenLaw, aif_file, call_from, can_move, first_words, header_words, loaded, mover_bytes, parts_size, ro_size, rw_size, zero_size}

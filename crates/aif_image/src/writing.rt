@@ -3,7 +3,7 @@
 ghost use Rattle.std.specs.Prelude.{◌≡◌, ◌<◌, ◌+◌, ◌^◌, ◌++◌, IfOk, OnOk, drop};
 ghost use Rattle.std.specs.List.{AllByRecursion};
 ghost use Rattle.sdt_word.specs.Bytes.{bytes_of};
-ghost use Rattle.byte_maps.specs.Maps.{bytes_of_words};
+ghost use Rattle.boot_code.specs.Maps.{bytes_of_words};
 ghost use Rattle.aif_image.specs.Files as files;
 
 use boot_code::{relocator_words, zero_words};

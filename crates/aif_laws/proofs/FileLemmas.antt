@@ -7,7 +7,7 @@ use Rattle.base_lemmas.proofs.BaseLemmas.{all_append}
 use Rattle.sdt_word.specs.declared.ranges.Range32.{Range32}
 use Rattle.boot_code.specs.Startup.{zeros}
 use Rattle.boot_code.specs.Words.{relocator_list, zero_list}
-use Rattle.byte_maps.specs.Maps.{bytes_of_words}
+use Rattle.boot_code.specs.Maps.{bytes_of_words}
 use Rattle.place_model.specs.Items.{Item, is_zero_initialised}
 use Rattle.place_model.specs.Plans.{Contents, Planned, Plan, RegionVeneer, areas_in, execution_size, length_of, regions_of, veneers_in}
 use Rattle.place_model.specs.Things.{Thing, Header, AnArea, AVeneer, alignment_of, gap, size_of, start_of}

@@ -3,7 +3,13 @@
 ghost use Rattle.std.specs.Prelude.{◌≡◌};
 ghost use Rattle.boot_code.specs.Aif.{AifBoots, AifIsExact, AifVeneerBoots, AifVeneerIsExact, FixedAifBoots, FixedAifIsExact, FixedAifVeneerBoots, FixedAifVeneerIsExact};
 ghost use Rattle.boot_code.specs.Laws.{StartupBoots, StartupIsExact};
+ghost use Rattle.boot_code.specs.Maps.{MapLaw};
 ghost use Rattle.boot_code.specs.Words.{ReadAs, boot_instructions, boot_list, relocator_instructions, relocator_list, zero_code, zero_instructions};
+
+/// Which bytes a map of segments has, and what follows for bytes and words that it holds.
+pub fn map_law()
+    ensures { MapLaw }
+{}
 
 /// Each word reads as the instruction that the tables print beside it.
 pub fn words_read()

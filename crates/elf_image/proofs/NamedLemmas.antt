@@ -6,7 +6,7 @@ use Rattle.std.proofs.lemmas.List.{length-append}
 use Rattle.base_lemmas.proofs.BaseLemmas.{all_append}
 use Rattle.sdt_word.specs.Bytes.{half_in, number_of, word_in}
 use Rattle.sdt_word.proofs.BytesLemmas.{number_of-bytes_of}
-use Rattle.byte_maps.specs.Maps.{bytes_of_words, map_of}
+use Rattle.boot_code.specs.Maps.{bytes_of_words, map_of}
 use Rattle.link_model.specs.declared.images.Image.{Image}
 use Rattle.elf_image.specs.declared.records.Segment.{Segment}
 use Rattle.elf_image.specs.declared.tables.Tables.{Tables}

@@ -3,7 +3,7 @@ use Rattle.std.proofs.Common.{◌≡◌, ℕ, ◌+◌, ◌*◌, ◌/◌, ◌%◌
 use Rattle.std.specs.List.{AllByRecursion}
 use Rattle.std.proofs.lemmas.List.{length-append}
 use Rattle.sdt_word.specs.Bytes.{half_in, word_in}
-use Rattle.byte_maps.specs.Maps.{bytes_of_words}
+use Rattle.boot_code.specs.Maps.{bytes_of_words}
 use Rattle.link_model.specs.declared.images.Image.{Image}
 use Rattle.elf_image.specs.declared.tables.Section.{Section}
 use Rattle.elf_image.specs.declared.tables.SectionKind.{SectionKind}

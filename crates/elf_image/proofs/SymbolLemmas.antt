@@ -5,7 +5,7 @@ use Rattle.std.proofs.lemmas.List.{length-append}
 use Rattle.std.proofs.Math.Seq.{drop-append_seam, take-append_seam}
 use Rattle.sdt_word.specs.Bytes.{number_of, word_in}
 use Rattle.sdt_word.proofs.BytesLemmas.{number_of-bytes_of}
-use Rattle.byte_maps.specs.Maps.{bytes_of_words}
+use Rattle.boot_code.specs.Maps.{bytes_of_words}
 use Rattle.link_model.specs.declared.images.Image.{Image}
 use Rattle.elf_image.specs.declared.tables.Binding.{Binding}
 use Rattle.elf_image.specs.declared.tables.Binding.TheVariants as binding

@@ -8,8 +8,8 @@ use Rattle.base_lemmas.proofs.BaseLemmas.{all_append}
 use Rattle.sdt_word.specs.Bytes.{half_in, word_in}
 use Rattle.sdt_word.proofs.BytesLemmas.{number_of-bytes_of}
 use Rattle.chunk_file.specs.Reading.{EachStands}
-use Rattle.byte_maps.specs.Maps as maps
-use Rattle.byte_maps.specs.Maps.{bytes_of_words, map_of}
+use Rattle.boot_code.specs.Maps as maps
+use Rattle.boot_code.specs.Maps.{bytes_of_words, map_of}
 use Rattle.link_model.specs.declared.images.Image.{Image}
 use Rattle.link_model.specs.declared.images.LoadRegion.{LoadRegion}
 use Rattle.elf_image.specs.declared.records.Segment.{Segment}

@@ -4,8 +4,8 @@
 use Rattle.std.specs.Prelude.{◌≡◌, ℕ, ◌+◌, ◌-◌, ◌*◌, ◌%◌, ◌^◌, ◌<◌, ◌≤◌, List, [], ◌∷◌, ◌++◌, length, map, take, drop, replicate}
 use Rattle.std.specs.List.{AllByRecursion, flat_map}
 use Rattle.boot_code.specs.Boots.{ByteMap}
-use Rattle.byte_maps.specs.Maps as maps
-use Rattle.byte_maps.specs.Maps.{bytes_of_words, map_of}
+use Rattle.boot_code.specs.Maps as maps
+use Rattle.boot_code.specs.Maps.{bytes_of_words, map_of}
 use Rattle.chunk_file.specs.Reading.{EachStands}
 use Rattle.link_model.specs.declared.images.Image.{Image}
 use Rattle.link_model.specs.declared.images.LoadRegion.{LoadRegion}

@@ -4,7 +4,7 @@
 -- order, from a whole word on, and that a section has all permissions, is this project's.
 use Rattle.std.specs.Prelude.{◌≡◌, ℕ, ◌+◌, ◌-◌, ◌*◌, ◌/◌, List, [], ◌∷◌, ◌++◌, length, map, replicate, if◌then◌else◌, Bool, true, false}
 use Rattle.std.specs.List.{flat_map}
-use Rattle.byte_maps.specs.Maps.{bytes_of_words, map_of}
+use Rattle.boot_code.specs.Maps.{bytes_of_words, map_of}
 use Rattle.link_model.specs.declared.images.Image.{Image}
 use Rattle.link_model.specs.declared.images.LoadRegion.{LoadRegion}
 use Rattle.elf_image.specs.declared.tables.Binding.{Binding}

@@ -1,7 +1,7 @@
 //! Writing with names: the file of a linked image with sections and symbols.
 
 ghost use Rattle.std.specs.Prelude.{◌≡◌, ◌<◌, ◌≤◌, ◌+◌, ◌-◌, ◌*◌, ◌^◌, ◌++◌, ◌∷◌, [], IfOk, OnOk, length, replicate};
-ghost use Rattle.byte_maps.specs.Maps.{bytes_of_words};
+ghost use Rattle.boot_code.specs.Maps.{bytes_of_words};
 ghost use Rattle.elf_image.specs.Files as files;
 ghost use Rattle.elf_image.specs.Tables as tables;
 

@@ -1,7 +1,7 @@
 //! Writing: the file of a linked image.
 
 ghost use Rattle.std.specs.Prelude.{◌≡◌, ◌<◌, ◌≤◌, ◌+◌, ◌^◌, ◌++◌, IfOk, OnOk, length};
-ghost use Rattle.byte_maps.specs.Maps.{bytes_of_words};
+ghost use Rattle.boot_code.specs.Maps.{bytes_of_words};
 ghost use Rattle.elf_image.specs.Files as files;
 
 use link_model::{Image, LoadRegion};

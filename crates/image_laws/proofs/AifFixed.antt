@@ -10,7 +10,7 @@ use Rattle.boot_code.specs.Aif.{IsHeader, IsFixedLoadable, HasVeneer, shifted_fi
 use Rattle.boot_code.specs.Boots.{ByteMap, Boots, covers}
 use Rattle.boot_code.specs.Startup.{HasWords, zeros}
 use Rattle.boot_code.proofs.AifImage.{fixed_aif_boots, fixed_aif_veneer_boots}
-use Rattle.byte_maps.specs.Maps.{bytes_of_words}
+use Rattle.boot_code.specs.Maps.{bytes_of_words}
 use Rattle.place_model.specs.Items.{Item}
 use Rattle.place_model.specs.Plans.{Contents, Plan}
 use Rattle.image_model.specs.AifFiles.{parts_size, zero_size, header_words, fixed_aif, aif_plan}

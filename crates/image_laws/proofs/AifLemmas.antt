@@ -15,7 +15,7 @@ use Rattle.arm7_model.proofs.MemoryLemmas.{load-same}
 use Rattle.boot_code.specs.Aif.{HasCode, IsHeader, shifted_file}
 use Rattle.boot_code.specs.Startup.{HasWords, zeros}
 use Rattle.boot_code.specs.Words.{zero_code, zero_list}
-use Rattle.byte_maps.specs.Maps.{bytes_of_words}
+use Rattle.boot_code.specs.Maps.{bytes_of_words}
 use Rattle.place_model.specs.declared.scatter.Kind.{Kind}
 use Rattle.place_model.specs.declared.scatter.Kind.TheVariants as kind
 use Rattle.place_model.specs.Faults.{first_told, rootless, overfull, judged, overlap, copy_conflict, image_bytes, too_large, aif_too_large, not_writable, as_overlap, as_conflict}

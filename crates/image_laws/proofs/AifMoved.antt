@@ -14,7 +14,7 @@ use Rattle.boot_code.specs.Startup.{HasWords, zeros}
 use Rattle.boot_code.specs.Words.{zero_list, relocator_list}
 use Rattle.boot_code.proofs.ViewLemmas.{apart_store}
 use Rattle.arm7_model.proofs.MemoryLemmas.{store-in}
-use Rattle.byte_maps.specs.Maps.{bytes_of_words}
+use Rattle.boot_code.specs.Maps.{bytes_of_words}
 use Rattle.place_model.specs.Items.{Item}
 use Rattle.place_model.specs.Plans.{Contents, length_of, Plan}
 use Rattle.image_model.specs.AifFiles.{size_in, call_from, parts_size, zero_size, header_words, with_header, shifted_offsets, offsets_of, parts_bytes, relocatable_aif, aif_plan}

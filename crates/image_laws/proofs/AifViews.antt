@@ -11,7 +11,7 @@ use Rattle.arm7_model.proofs.MemoryLemmas.{store-in}
 use Rattle.boot_code.specs.Boots.{ByteMap}
 use Rattle.boot_code.specs.Startup.{zeros}
 use Rattle.boot_code.proofs.ViewLemmas.{covers-true, apart_store, length-zeros, get_or-zeros}
-use Rattle.byte_maps.specs.Maps.{Holds}
+use Rattle.boot_code.specs.Maps.{Holds}
 use Rattle.place_model.specs.Items.{Item}
 use Rattle.place_model.specs.Plans.{Contents, Planned, length_of, zero_base_of, zero_length_of, execution_size, Plan}
 use Rattle.image_model.specs.AifFiles.{parts_size, zero_size, with_header, parts_bytes, aif_plan}

@@ -9,8 +9,8 @@ use Rattle.sdt_word.specs.declared.ranges.Range32.{Range32}
 use Rattle.boot_code.specs.Boots.{ByteMap, moved, zeroed}
 use Rattle.boot_code.specs.Startup.{zeros}
 use Rattle.boot_code.proofs.ViewLemmas.{length-zeros, get_or-zeros}
-use Rattle.byte_maps.specs.Maps.{Segment, map_of, Holds}
-use Rattle.byte_maps.proofs.MapLemmas.{shown, front, back}
+use Rattle.boot_code.specs.Maps.{Segment, map_of, Holds}
+use Rattle.boot_code.proofs.MapLemmas.{shown, front, back}
 use Rattle.place_model.specs.declared.scatter.Kind.{Kind}
 use Rattle.place_model.specs.declared.scatter.ScatterLoad.{ScatterLoad}
 use Rattle.place_model.specs.declared.scatter.ScatterRegion.{ScatterRegion}

@@ -11,8 +11,8 @@ use Rattle.boot_code.specs.Words.{boot_list}
 use Rattle.boot_code.specs.Boots.{ByteMap, AllCopies, AllParts, AreApart, CopyPlaced, ZeroPlaced, OffLater, InOrder, Places, HoldsWords, covers, moved, zeroed}
 use Rattle.boot_code.specs.Laws.{written_by}
 use Rattle.boot_code.proofs.ViewLemmas.{covers-inside}
-use Rattle.byte_maps.specs.Maps.{Holds, bytes_of_words}
-use Rattle.byte_maps.proofs.MapLemmas.{words}
+use Rattle.boot_code.specs.Maps.{Holds, bytes_of_words}
+use Rattle.boot_code.proofs.MapLemmas.{words}
 use Rattle.place_model.specs.Plans.{Planned, length_of, zero_base_of, zero_length_of, execution_size, is_root, is_copied, is_cleared, copy_row, zero_row}
 use Rattle.place_model.specs.Faults.{shared, execution_span, source_span, target_span}
 use Rattle.place_model.specs.Laws.{IsWholeRegion}

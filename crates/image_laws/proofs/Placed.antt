@@ -11,8 +11,8 @@ use Rattle.boot_code.specs.Startup.{table_list, zeros}
 use Rattle.boot_code.specs.Words.{boot_list}
 use Rattle.boot_code.proofs.BootPlaces.{startup_boots}
 use Rattle.boot_code.proofs.ViewLemmas.{length-zeros, get_or-zeros}
-use Rattle.byte_maps.specs.Maps.{Segment, Holds, map_of, bytes_of_words}
-use Rattle.byte_maps.proofs.MapLemmas.{front, back}
+use Rattle.boot_code.specs.Maps.{Segment, Holds, map_of, bytes_of_words}
+use Rattle.boot_code.proofs.MapLemmas.{front, back}
 use Rattle.place_model.specs.declared.scatter.Kind.TheVariants as kind
 use Rattle.place_model.specs.declared.scatter.Scatter.{Scatter}
 use Rattle.place_model.specs.Things.{Startup, size_of, gap, extent}

@@ -7,7 +7,7 @@ use Rattle.base_lemmas.proofs.BaseLemmas.{both_true, neither, same}
 use Rattle.boot_code.specs.declared.rows.CopyRow.{CopyRow}
 use Rattle.boot_code.specs.Boots.{covers, moved, zeroed}
 use Rattle.boot_code.proofs.ViewLemmas.{covers-false, covers-off}
-use Rattle.byte_maps.specs.Maps.{Segment, map_of}
+use Rattle.boot_code.specs.Maps.{Segment, map_of}
 use Rattle.place_model.specs.declared.scatter.Choice.TheVariants as choice
 use Rattle.place_model.specs.declared.scatter.ScatterBase.TheVariants.{At, Plus}
 use Rattle.place_model.specs.declared.scatter.Kind.{Kind}

@@ -8,7 +8,7 @@ use Rattle.arm7_model.specs.Memory.{Board}
 use Rattle.arm7_model.specs.Registers.{State, IsStatus, register, has_mode, mode_named, bank_in, mode_in, is_thumb}
 use Rattle.boot_code.specs.Boots.{ByteMap, CanStart, Boots, BootsIn}
 use Rattle.boot_code.specs.Laws.{written_by}
-use Rattle.byte_maps.specs.Maps.{Segment, has, map_of}
+use Rattle.boot_code.specs.Maps.{Segment, has, map_of}
 use Rattle.place_model.specs.declared.scatter.Choice.TheVariants as choice
 use Rattle.place_model.specs.declared.scatter.Kind.TheVariants as kind
 use Rattle.place_model.specs.declared.scatter.Scatter.{Scatter}

@@ -7,8 +7,8 @@ use Rattle.base_lemmas.proofs.BaseLemmas.{neither}
 use Rattle.boot_code.specs.Boots.{ByteMap, covers}
 use Rattle.boot_code.specs.Startup.{zeros}
 use Rattle.boot_code.proofs.ViewLemmas.{length-zeros, get_or-zeros, covers-true, covers-false, covers-inside, covers-off}
-use Rattle.byte_maps.specs.Maps.{Segment, has, map_of, Holds}
-use Rattle.byte_maps.proofs.MapLemmas.{domain, shown, front, back}
+use Rattle.boot_code.specs.Maps.{Segment, has, map_of, Holds}
+use Rattle.boot_code.proofs.MapLemmas.{domain, shown, front, back}
 use Rattle.place_model.specs.Things.{Thing, alignment_of, size_of, gap, start_of, extent, stood}
 use Rattle.place_model.specs.Plans.{Planned, length_of, zero_base_of, zero_length_of, execution_size, end_of, Plan, regions_of}
 use Rattle.place_model.specs.Faults.{shared, standing, execution_span, execution_meeting}

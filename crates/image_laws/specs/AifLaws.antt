@@ -3,7 +3,7 @@ use Rattle.std.specs.Prelude.{◌≡◌, ◌≢◌, ℕ, ◌+◌, ◌-◌, ◌%�
 use Rattle.sdt_word.specs.declared.ranges.Range32.{Range32}
 use Rattle.boot_code.specs.Aif.{IsHeader, IsRelocatable, ShowsImage, IsFixedLoadable, shifted_file, file_at, aif_bound}
 use Rattle.boot_code.specs.Boots.{ByteMap, Boots, covers}
-use Rattle.byte_maps.specs.Maps.{Holds, bytes_of_words}
+use Rattle.boot_code.specs.Maps.{Holds, bytes_of_words}
 use Rattle.place_model.specs.declared.scatter.Kind.TheVariants as kind
 use Rattle.place_model.specs.Assignment.{AreAssigned}
 use Rattle.place_model.specs.Faults.{place_refusal}

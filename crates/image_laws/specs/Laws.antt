@@ -4,7 +4,7 @@ use Rattle.std.specs.List.{list_any, AllByRecursion}
 use Rattle.sdt_word.specs.declared.ranges.Range32.{Range32}
 use Rattle.boot_code.specs.Boots.{ByteMap, Boots, Places, covers, moved, zeroed}
 use Rattle.boot_code.specs.Laws.{bound_of, written_by}
-use Rattle.byte_maps.specs.Maps.{Segment, map_of, Holds}
+use Rattle.boot_code.specs.Maps.{Segment, map_of, Holds}
 use Rattle.place_model.specs.declared.scatter.Kind.{Kind}
 use Rattle.place_model.specs.declared.scatter.Kind.TheVariants as kind
 use Rattle.place_model.specs.declared.scatter.Scatter.{Scatter}

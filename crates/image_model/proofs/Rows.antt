@@ -4,7 +4,7 @@ use Rattle.std.specs.Prelude.{codes, map}
 use Rattle.sdt_word.specs.Bytes.{bytes_of}
 use Rattle.boot_code.specs.Boots.{ByteMap}
 use Rattle.boot_code.specs.Words.{boot_list, zero_list, relocator_list}
-use Rattle.byte_maps.specs.Maps.{bytes_of_words}
+use Rattle.boot_code.specs.Maps.{bytes_of_words}
 use Rattle.place_model.specs.declared.scatter.Kind.TheVariants as kind
 use Rattle.place_model.specs.Plans.{Contents, plan_of}
 use Rattle.place_model.proofs.Rows.{area, code, contents, plan, copy_and_zero, three_areas, over_source, with_words, hello, hello_areas}

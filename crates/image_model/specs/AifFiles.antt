@@ -5,7 +5,7 @@ use Rattle.std.specs.List.{flat_map}
 use Rattle.std.specs.Option.{option_map}
 use Rattle.boot_code.specs.Boots.{ByteMap}
 use Rattle.boot_code.specs.Words.{zero_list, relocator_list}
-use Rattle.byte_maps.specs.Maps.{bytes_of_words}
+use Rattle.boot_code.specs.Maps.{bytes_of_words}
 use Rattle.place_model.specs.declared.scatter.Kind.TheVariants as kind
 use Rattle.place_model.specs.Plans.{Contents, Planned, length_of, execution_size, Plan, regions_of, plan_of}
 use Rattle.image_model.specs.Regions.{Given, Filling, region_bytes, filled}

@@ -5,7 +5,7 @@ use Rattle.std.specs.List.{AllByRecursion}
 use Rattle.patch_model.specs.Fields.{Home}
 use Rattle.boot_code.specs.Startup.{table_list, zeros}
 use Rattle.boot_code.specs.Words.{boot_list}
-use Rattle.byte_maps.specs.Maps.{bytes_of_words}
+use Rattle.boot_code.specs.Maps.{bytes_of_words}
 use Rattle.place_model.specs.Things.{Thing, Header, AnArea, AVeneer, Startup, alignment_of, size_of, gap, start_of}
 use Rattle.place_model.specs.Plans.{Planned, Plan, regions_of, copies_of, parts_of}
 

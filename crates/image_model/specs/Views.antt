@@ -4,7 +4,7 @@ use Rattle.std.specs.Prelude.{◌≡◌, ℕ, ◌+◌, ◌<◌, Bool, List, [], 
 use Rattle.std.specs.List.{flat_map, list_any, AllByRecursion}
 use Rattle.boot_code.specs.Boots.{ByteMap, covers}
 use Rattle.boot_code.specs.Startup.{zeros}
-use Rattle.byte_maps.specs.Maps.{Segment, map_of, Holds}
+use Rattle.boot_code.specs.Maps.{Segment, map_of, Holds}
 use Rattle.place_model.specs.Plans.{Planned, length_of, zero_base_of, zero_length_of, execution_size, PlannedLoad, load_size, Plan, regions_of}
 use Rattle.image_model.specs.Regions.{Filling, region_bytes}
 

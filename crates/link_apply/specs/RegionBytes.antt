@@ -9,7 +9,7 @@ use Rattle.boot_code.specs.declared.rows.CopyRow.{CopyRow}
 use Rattle.boot_code.specs.declared.rows.ZeroRow.{ZeroRow}
 use Rattle.boot_code.specs.Startup.{table_list, zeros}
 use Rattle.boot_code.specs.Words.{boot_list}
-use Rattle.byte_maps.specs.Maps.{bytes_of_words}
+use Rattle.boot_code.specs.Maps.{bytes_of_words}
 use Rattle.link_model.specs.declared.placing.PlacedArea.{PlacedArea}
 use Rattle.link_model.specs.declared.placing.PlacedVeneer.{PlacedVeneer}
 use Rattle.link_model.specs.declared.placing.Placement.{Placement}

@@ -4,7 +4,7 @@ ghost use Rattle.std.specs.Prelude.{◌≡◌, ◌<◌, ◌∷◌, ◌++◌, ◌
 ghost use Rattle.std.specs.List.{AllByRecursion};
 ghost use Rattle.sdt_word.specs.Numbers.{flag};
 ghost use Rattle.boot_code.specs.Startup.{table_list};
-ghost use Rattle.byte_maps.specs.Maps.{bytes_of_words};
+ghost use Rattle.boot_code.specs.Maps.{bytes_of_words};
 ghost use Rattle.link_model.specs.Members.{link_of};
 ghost use Rattle.link_apply.specs.Applied.{IsRegionWithin};
 ghost use Rattle.link_apply.specs.Pieces.{startup_region_piece};

@@ -9,7 +9,7 @@ use Rattle.aof_object.specs.declared.records.Object.{Object}
 use Rattle.aof_object.specs.Validity.{IsValid}
 use Rattle.boot_code.specs.Aif.{file_at, aif_bound}
 use Rattle.boot_code.specs.Boots.{ByteMap, Boots, covers}
-use Rattle.byte_maps.specs.Maps.{bytes_of_words}
+use Rattle.boot_code.specs.Maps.{bytes_of_words}
 use Rattle.place_model.specs.declared.scatter.Kind.{Kind}
 use Rattle.place_model.specs.declared.scatter.Kind.TheVariants as kind
 use Rattle.place_model.specs.Plans.{Contents, Plan}

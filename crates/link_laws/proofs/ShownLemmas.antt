@@ -13,7 +13,7 @@ use Rattle.aof_object.specs.declared.records.Object.{Object}
 use Rattle.boot_code.specs.Boots.{ByteMap}
 use Rattle.boot_code.specs.Startup.{zeros}
 use Rattle.boot_code.proofs.ViewLemmas.{length-zeros, get_or-zeros}
-use Rattle.byte_maps.specs.Maps.{Holds}
+use Rattle.boot_code.specs.Maps.{Holds}
 use Rattle.patch_model.specs.Fields.{Home, Values}
 use Rattle.patch_model.specs.Patched.{other_state, AreaPatched}
 use Rattle.patch_model.specs.Reaches.{Shows, IsVeneer, VeneersStand}

@@ -15,7 +15,7 @@ use Rattle.aof_object.specs.Validity.{Holds as HoldsArea, IsValid}
 use Rattle.boot_code.specs.Startup.{table_list, zeros}
 use Rattle.boot_code.specs.Words.{boot_list}
 use Rattle.boot_code.proofs.ViewLemmas.{length-zeros}
-use Rattle.byte_maps.specs.Maps.{bytes_of_words}
+use Rattle.boot_code.specs.Maps.{bytes_of_words}
 use Rattle.patch_model.specs.Fields.{Home}
 use Rattle.patch_model.specs.Patched.{AreaPatched}
 use Rattle.patch_model.specs.Reaches.{HasVeneer}

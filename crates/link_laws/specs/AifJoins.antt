@@ -9,7 +9,7 @@ use Rattle.place_model.specs.Plans.{Contents, Planned, length_of, zero_length_of
 use Rattle.place_model.specs.Things.{Stood, stood}
 use Rattle.boot_code.specs.Aif.{ShowsImage, BootsAif, aif_bound}
 use Rattle.boot_code.specs.Boots.{ByteMap}
-use Rattle.byte_maps.specs.Maps.{Holds, bytes_of_words}
+use Rattle.boot_code.specs.Maps.{Holds, bytes_of_words}
 use Rattle.place_model.specs.Items.{Item}
 use Rattle.image_model.specs.AifFiles.{parts_size, zero_size, with_header, offsets_of, relocatable_aif, aif_plan}
 use Rattle.image_model.specs.Regions.{Given, Filling, region_bytes, filled}

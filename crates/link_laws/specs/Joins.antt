@@ -10,7 +10,7 @@ use Rattle.aof_object.specs.Validity.{IsValid}
 use Rattle.boot_code.specs.Boots.{Boots}
 use Rattle.boot_code.specs.Laws.{bound_of, written_by}
 use Rattle.boot_code.specs.Startup.{zeros}
-use Rattle.byte_maps.specs.Maps.{Segment, map_of}
+use Rattle.boot_code.specs.Maps.{Segment, map_of}
 use Rattle.place_model.specs.declared.scatter.Kind.{Kind}
 use Rattle.place_model.specs.declared.scatter.Kind.TheVariants as kind
 use Rattle.place_model.specs.declared.scatter.Scatter.{Scatter}

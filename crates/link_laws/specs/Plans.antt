@@ -9,7 +9,7 @@ use Rattle.aof_object.specs.declared.records.Symbol.{Symbol}
 use Rattle.aof_object.specs.Checks.{is_exported}
 use Rattle.aof_object.specs.Flags.{is_weak}
 use Rattle.boot_code.specs.Boots.{ByteMap, HoldsWord}
-use Rattle.byte_maps.specs.Maps.{bytes_of_words}
+use Rattle.boot_code.specs.Maps.{bytes_of_words}
 use Rattle.patch_model.specs.Fields.{Meant, Values}
 use Rattle.place_model.specs.declared.scatter.Kind.{Kind}
 use Rattle.place_model.specs.declared.scatter.Kind.TheVariants as kind

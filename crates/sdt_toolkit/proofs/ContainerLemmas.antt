@@ -11,7 +11,7 @@ use Rattle.chunk_file.specs.Reading.{EachStands}
 use Rattle.aof_object.specs.declared.records.Object.{Object}
 use Rattle.boot_code.specs.Aif.{file_at}
 use Rattle.boot_code.specs.Boots.{ByteMap, Boots}
-use Rattle.byte_maps.specs.Maps.{Segment, map_of}
+use Rattle.boot_code.specs.Maps.{Segment, map_of}
 use Rattle.scatter_text.specs.Laws.{ReadingLaw}
 use Rattle.place_model.specs.declared.scatter.Kind.{Kind}
 use Rattle.place_model.specs.declared.scatter.Kind.TheVariants as kind

@@ -10,7 +10,7 @@ use Rattle.aof_object.specs.declared.records.Object.{Object}
 use Rattle.aof_object.specs.declared.records.Reloc.{Reloc}
 use Rattle.boot_code.specs.Startup.{table_list, zeros}
 use Rattle.boot_code.specs.Words.{boot_list}
-use Rattle.byte_maps.specs.Maps.{bytes_of_words}
+use Rattle.boot_code.specs.Maps.{bytes_of_words}
 use Rattle.patch_model.specs.Fields.{Home, Values, field_of}
 use Rattle.patch_model.specs.Patched.{pc_offset, bias, total}
 use Rattle.place_model.specs.declared.scatter.ScatterLoad.{ScatterLoad}

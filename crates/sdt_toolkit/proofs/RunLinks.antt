@@ -9,7 +9,7 @@ use Rattle.boot_code.specs.declared.rows.ZeroRow.{ZeroRow}
 use Rattle.boot_code.specs.Boots.{Places}
 use Rattle.boot_code.specs.Laws.{bound_of, written_by}
 use Rattle.boot_code.specs.Startup.{copied_words, zeroed_words}
-use Rattle.byte_maps.specs.Maps.{Segment, map_of}
+use Rattle.boot_code.specs.Maps.{Segment, map_of}
 use Rattle.scatter_text.specs.Validity.{IsValidLoad}
 use Rattle.scatter_text.specs.Validity as valid
 use Rattle.place_model.specs.declared.scatter.Kind.TheVariants as kind

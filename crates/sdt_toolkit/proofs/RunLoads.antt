@@ -8,7 +8,7 @@ use Rattle.arm7_model.proofs.MemoryLemmas.{below_or_not, bytes-store, store-abov
 use Rattle.arm7_bus.specs.Seats.{has_access}
 use Rattle.boot_code.specs.Boots.{covers}
 use Rattle.boot_code.proofs.ViewLemmas.{covers-true}
-use Rattle.byte_maps.specs.Maps.{Segment, map_of}
+use Rattle.boot_code.specs.Maps.{Segment, map_of}
 use Rattle.chunk_file.specs.Grammar.{AreBytes}
 use Rattle.link_model.specs.declared.images.LoadRegion.{LoadRegion}
 use Rattle.bin_image.specs.Files.{map_load}

@@ -15,7 +15,7 @@ use Rattle.arm7_core.specs.Resets.{IsReset}
 use Rattle.arm7_transfers.specs.Boards.{board_of, over}
 use Rattle.arm7_transfers.specs.Ready.{IsReady}
 use Rattle.boot_code.specs.Boots.{ByteMap, CanStart}
-use Rattle.byte_maps.specs.Maps.{map_of}
+use Rattle.boot_code.specs.Maps.{map_of}
 use Rattle.chunk_file.specs.Grammar.{AreBytes}
 use Rattle.place_model.proofs.ListLemmas.{all_map}
 use Rattle.link_model.specs.declared.images.Image.{Image}

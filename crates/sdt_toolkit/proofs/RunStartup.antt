@@ -21,7 +21,7 @@ use Rattle.arm7_transfers.specs.Frames.{stored_to}
 use Rattle.arm7_transfers.specs.Served.{served}
 use Rattle.boot_code.specs.Boots.{AreOrdinary, BootSteps, ByteMap, InRanges}
 use Rattle.boot_code.specs.Safety.{AreSafe, IsSafe, IsSafeAccess, Lies}
-use Rattle.byte_maps.specs.Maps.{map_of}
+use Rattle.boot_code.specs.Maps.{map_of}
 use Rattle.link_model.specs.declared.images.Image.{Image}
 use Rattle.run_laws.specs.Devices.{AreOffDevices, address, lines_for}
 use Rattle.run_laws.specs.Steps.{AreUsed, Print, StoresAreUsed, given_by}

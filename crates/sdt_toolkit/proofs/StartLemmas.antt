@@ -11,7 +11,7 @@ use Rattle.boot_code.specs.declared.rows.CopyRow.{CopyRow}
 use Rattle.boot_code.specs.declared.rows.ZeroRow.{ZeroRow}
 use Rattle.boot_code.specs.Boots.{ByteMap, Boots, moved, zeroed}
 use Rattle.boot_code.specs.Laws.{bound_of, written_by}
-use Rattle.byte_maps.specs.Maps.{Segment, map_of}
+use Rattle.boot_code.specs.Maps.{Segment, map_of}
 use Rattle.scatter_text.specs.Laws.{ReadingLaw}
 use Rattle.scatter_text.specs.Reading.{scatter_of}
 use Rattle.scatter_text.specs.Validity.{IsValidLoad}

@@ -5,7 +5,7 @@ use Rattle.std.specs.Prelude.{◌≡◌, ℕ, ◌+◌, true, false, List}
 use Rattle.sdt_word.specs.Numbers.{flag}
 use Rattle.boot_code.specs.Aif.{file_at}
 use Rattle.boot_code.specs.Boots.{ByteMap, Boots}
-use Rattle.byte_maps.specs.Maps.{map_of}
+use Rattle.boot_code.specs.Maps.{map_of}
 use Rattle.link_model.specs.declared.images.Image.{Image}
 use Rattle.bin_image.specs.Fields.{lacks}
 use Rattle.bin_image.specs.Files as load

@@ -8,7 +8,7 @@ use Rattle.boot_code.specs.declared.rows.ZeroRow.{ZeroRow}
 use Rattle.boot_code.specs.Aif.{ShowsImage, aif_bound, file_at}
 use Rattle.boot_code.specs.Boots.{ByteMap, moved, zeroed}
 use Rattle.boot_code.specs.Laws.{bound_of}
-use Rattle.byte_maps.specs.Maps.{map_of}
+use Rattle.boot_code.specs.Maps.{map_of}
 use Rattle.place_model.specs.declared.scatter.Kind.{Kind}
 use Rattle.place_model.specs.declared.scatter.Kind.TheVariants as kind
 use Rattle.place_model.specs.Assignment.{description}

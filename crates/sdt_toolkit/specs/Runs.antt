@@ -22,7 +22,7 @@ use Rattle.run_laws.specs.Devices.{AreOffDevices, lines_for, touches_of}
 use Rattle.run_laws.specs.Steps.{AreMade, steps_made}
 use Rattle.run_opening.specs.declared.image.Image.{Image as RunImage}
 use Rattle.boot_code.specs.Boots.{BootSteps, Boots, ByteMap}
-use Rattle.byte_maps.specs.Maps.{map_of}
+use Rattle.boot_code.specs.Maps.{map_of}
 use Rattle.link_model.specs.declared.images.Image.{Image}
 use Rattle.chunk_file.specs.Grammar.{AreBytes}
 use Rattle.bin_image.specs.Fields.{lacks}

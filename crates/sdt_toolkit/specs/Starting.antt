@@ -10,7 +10,7 @@ use Rattle.aof_object.specs.Validity.{IsValid}
 use Rattle.boot_code.specs.Aif.{BootsAif, file_at}
 use Rattle.boot_code.specs.Boots.{ByteMap, Boots, covers}
 use Rattle.boot_code.specs.Laws.{written_by}
-use Rattle.byte_maps.specs.Maps.{Segment, map_of}
+use Rattle.boot_code.specs.Maps.{Segment, map_of}
 use Rattle.aif_image.specs.Files.{aif_file, parts_size, zero_size}
 use Rattle.link_model.specs.declared.images.Image.{Image}
 use Rattle.link_model.specs.declared.selection.Named.{Named}

@@ -5,8 +5,8 @@ use Rattle.std.specs.List.{AllByRecursion}
 use Rattle.std.proofs.lemmas.Bool.{and_from, and_parts, le-leb, leb-true, lt-ltb, ltb-true, false_from_ne_true}
 use Rattle.std.proofs.lemmas.List.{length-take-le, length-drop, append-nil, length-replicate, map-append, get_or_append_left, get_or-append-add}
 use Rattle.sdt_word.specs.Bytes.{word_in}
-use Rattle.byte_maps.specs.Maps as maps
-use Rattle.byte_maps.specs.Maps.{has, map_of}
+use Rattle.boot_code.specs.Maps as maps
+use Rattle.boot_code.specs.Maps.{has, map_of}
 use Rattle.arm7_model.specs.Memory.{Bytes, store}
 use Rattle.arm7_model.proofs.MemoryLemmas.{below_or_not, store-above, store-below, store-in}
 use Rattle.elf_image.specs.declared.records.Elf.{Elf}

@@ -6,7 +6,7 @@ use Rattle.base_lemmas.proofs.BaseLemmas.{all_weaker}
 use Rattle.sdt_word.specs.Numbers.{flag}
 use Rattle.sdt_word.specs.declared.ranges.Range32.{Range32}
 use Rattle.boot_code.specs.Boots.{ByteMap}
-use Rattle.byte_maps.specs.Maps.{Holds, bytes_of_words}
+use Rattle.boot_code.specs.Maps.{Holds, bytes_of_words}
 use Rattle.place_model.specs.declared.scatter.Kind.TheVariants as kind
 use Rattle.place_model.specs.Faults.{load_meeting, execution_meeting}
 use Rattle.place_model.specs.Laws.{IsWholeItem}

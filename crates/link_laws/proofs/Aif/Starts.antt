@@ -8,7 +8,7 @@ use Rattle.sdt_word.specs.declared.ranges.Range32.{Range32}
 use Rattle.boot_code.specs.Aif.{BootsAif, ShowsImage, file_at, aif_bound}
 use Rattle.boot_code.specs.Boots.{Boots, covers, ByteMap}
 use Rattle.boot_code.specs.Startup.{zeros}
-use Rattle.byte_maps.specs.Maps.{Holds, bytes_of_words}
+use Rattle.boot_code.specs.Maps.{Holds, bytes_of_words}
 use Rattle.patch_model.specs.Fields.{Home}
 use Rattle.place_model.specs.declared.scatter.Kind.TheVariants as kind
 use Rattle.place_model.specs.Plans.{Contents, Planned, length_of, execution_size, Plan, regions_of}

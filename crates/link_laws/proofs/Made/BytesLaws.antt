@@ -4,7 +4,7 @@ use Rattle.std.specs.List.{flat_map, AllByRecursion}
 use Rattle.std.proofs.lemmas.List.{map-append}
 use Rattle.base_lemmas.proofs.BaseLemmas.{all_back}
 use Rattle.sdt_word.specs.declared.ranges.Range32.{Range32}
-use Rattle.byte_maps.specs.Maps.{Segment}
+use Rattle.boot_code.specs.Maps.{Segment}
 use Rattle.place_model.specs.declared.scatter.Kind.{Kind}
 use Rattle.place_model.specs.declared.scatter.Kind.TheVariants as kind
 use Rattle.place_model.specs.declared.scatter.ScatterLoad.{ScatterLoad}

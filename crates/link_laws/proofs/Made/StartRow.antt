@@ -3,7 +3,7 @@
 use Rattle.std.proofs.Common.{◌≡◌, List, [], ◌∷◌, refl, None}
 use Rattle.boot_code.specs.Boots.{Boots}
 use Rattle.boot_code.specs.Laws.{bound_of, written_by}
-use Rattle.byte_maps.specs.Maps.{Segment, map_of}
+use Rattle.boot_code.specs.Maps.{Segment, map_of}
 use Rattle.place_model.specs.declared.scatter.Choice.TheVariants as choice
 use Rattle.place_model.specs.declared.scatter.Kind.{Kind}
 use Rattle.place_model.specs.declared.scatter.Kind.TheVariants as kind

@@ -11,8 +11,8 @@ use Rattle.aof_object.specs.declared.records.Entry.{Entry}
 use Rattle.aof_object.specs.Checks.{left_over}
 use Rattle.aof_object.specs.Validity.{IsValid, IsEntered, head_of, heads}
 use Rattle.boot_code.specs.Boots.{ByteMap, HoldsWord}
-use Rattle.byte_maps.specs.Maps.{Holds, bytes_of_words}
-use Rattle.byte_maps.proofs.MapLemmas.{back, front}
+use Rattle.boot_code.specs.Maps.{Holds, bytes_of_words}
+use Rattle.boot_code.proofs.MapLemmas.{back, front}
 use Rattle.place_model.specs.declared.scatter.Kind.{Kind}
 use Rattle.place_model.specs.declared.scatter.Kind.TheVariants as kind
 use Rattle.place_model.specs.Plans.{Plan}

@@ -11,7 +11,7 @@ use Rattle.boot_code.specs.Aif.{ShowsImage, marked, moved_image, started_image, 
 use Rattle.boot_code.specs.Boots.{ByteMap}
 use Rattle.boot_code.specs.Startup.{zeros}
 use Rattle.boot_code.specs.Words.{zero_list, relocator_list}
-use Rattle.byte_maps.specs.Maps.{bytes_of_words}
+use Rattle.boot_code.specs.Maps.{bytes_of_words}
 use Rattle.place_model.specs.declared.scatter.Kind.TheVariants as kind
 use Rattle.place_model.specs.Items.{Item, is_zero_initialised}
 use Rattle.place_model.specs.Laws.{IsWholeRegion}

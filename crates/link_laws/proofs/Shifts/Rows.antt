@@ -6,7 +6,7 @@ use Rattle.sdt_fault.specs.declared.refusal.Refusal.TheVariants.{NotRelocatable,
 use Rattle.aof_object.specs.declared.records.Area.{Area}
 use Rattle.aof_object.specs.declared.records.Reloc.{Reloc}
 use Rattle.aof_object.specs.declared.records.Symbol.{Symbol}
-use Rattle.byte_maps.specs.Maps.{bytes_of_words}
+use Rattle.boot_code.specs.Maps.{bytes_of_words}
 use Rattle.image_model.specs.AifFiles.{offsets_of, relocatable_aif, aif_plan}
 use Rattle.place_model.specs.Plans.{Contents}
 use Rattle.link_model.specs.declared.placing.Placement.{Placement}

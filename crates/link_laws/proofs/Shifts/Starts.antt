@@ -12,7 +12,7 @@ use Rattle.boot_code.specs.Boots.{ByteMap}
 use Rattle.boot_code.specs.Startup.{HasWords}
 use Rattle.boot_code.specs.Words.{relocator_list}
 use Rattle.boot_code.proofs.AifImage.{aif_boots, aif_veneer_boots}
-use Rattle.byte_maps.specs.Maps.{bytes_of_words}
+use Rattle.boot_code.specs.Maps.{bytes_of_words}
 use Rattle.place_model.specs.declared.scatter.Kind.TheVariants as kind
 use Rattle.place_model.specs.Items.{Item}
 use Rattle.place_model.specs.Plans.{Plan}

@@ -1,5 +1,5 @@
 use Rattle.std.proofs.Common.{◌≡◌, ◌++◌, drop}
-use Rattle.byte_maps.specs.Maps.{bytes_of_words}
+use Rattle.boot_code.specs.Maps.{bytes_of_words}
 use Rattle.elf_image.proofs.writing.push_words.Given as goal
 
 abbrev pub invariant-loop-word : goal.invariant-loop-word

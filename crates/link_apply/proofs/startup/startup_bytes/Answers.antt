@@ -1,7 +1,7 @@
 use Rattle.std.proofs.Common.{◌++◌, sym, ap, ◌∙◌}
 use Rattle.boot_code.specs.Startup.{table_list}
 use Rattle.boot_code.specs.Words.{boot_list}
-use Rattle.byte_maps.specs.Maps.{bytes_of_words}
+use Rattle.boot_code.specs.Maps.{bytes_of_words}
 use Rattle.link_model.specs.Members.{link_of}
 use Rattle.link_apply.specs.RegionBytes.{copy_rows, entry_of, zero_rows}
 use Rattle.link_apply.proofs.StartupLemmas.{table_same, words_append}

@@ -6,7 +6,7 @@ use Rattle.std.proofs.lemmas.List.{get_or_append_left, get_or-append-add}
 use Rattle.sdt_word.specs.Bytes.{bytes_of}
 use Rattle.boot_code.specs.Boots.{ByteMap, HoldsWords}
 use Rattle.boot_code.proofs.ViewLemmas.{covers-inside}
-use Rattle.byte_maps.specs.Maps.{Segment, has, map_of, Holds, bytes_of_words, IsOff, MapLaw}
+use Rattle.boot_code.specs.Maps.{Segment, has, map_of, Holds, bytes_of_words, IsOff, MapLaw}
 
 -- ---- segments
 
