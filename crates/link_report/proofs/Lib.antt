@@ -1,0 +1,4 @@
+mod MemberLemmas
+mod OrderingLemmas
+mod Rows
+mod ValueLemmas
