@@ -47,11 +47,7 @@ fn push_need<'a>(needs: &mut Vec<Need<'a>>, by: u32, symbol: &'a Symbol) -> Resu
     Ok(())
 }
 
-fn push_needs<'a>(
-    needs: &mut Vec<Need<'a>>,
-    by: u32,
-    symbols: &'a [Symbol],
-) -> Result<(), NoMemory>
+fn push_needs<'a>(needs: &mut Vec<Need<'a>>, by: u32, symbols: &'a [Symbol]) -> Result<(), NoMemory>
     ensures { OnOk result (map shown_need needs.new.items
         ≡ map shown_need needs.old.items ++ flat_map (members.need_in by) symbols.now) }
 {

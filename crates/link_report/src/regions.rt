@@ -231,12 +231,7 @@ fn has_header(kind: &Kind) -> bool
     }
 }
 
-fn push_header(
-    out: &mut Vec<u8>,
-    kind: &Kind,
-    number: u32,
-    region: &Region,
-) -> Result<(), NoMemory>
+fn push_header(out: &mut Vec<u8>, kind: &Kind, number: u32, region: &Region) -> Result<(), NoMemory>
     ensures { OnOk result (out.new.items ≡ out.old.items ++ texts.header_text kind.now number region.now) }
 {
     if !has_header(kind) {

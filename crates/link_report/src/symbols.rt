@@ -87,11 +87,7 @@ fn symbol_state(area: Option<&Area>, value: SymbolValue) -> &'static [u8]
     b"-"
 }
 
-fn push_symbol(
-    out: &mut Vec<u8>,
-    objects: &[Named<Object>],
-    listed: Listed,
-) -> Result<(), NoMemory>
+fn push_symbol(out: &mut Vec<u8>, objects: &[Named<Object>], listed: Listed) -> Result<(), NoMemory>
     ensures { OnOk result (out.new.items ≡ out.old.items ++ symbols.symbol_line objects.now (shown listed.entry)) }
 {
     let area = area_of_home(objects, listed.value.home);
@@ -141,4 +137,3 @@ pub fn push_symbols(
     let values = symbol_values(alloc, linked, placement, bases)?;
     push_valued(alloc, out, linked, values.as_slice())
 }
-
