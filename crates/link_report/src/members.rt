@@ -166,5 +166,6 @@ pub fn push_members(
     let index = index_definitions(alloc, linked.definitions.as_slice())?;
     let needs = needs_of(alloc, objects)?;
     let firsts = first_needs(alloc, &index, needs.as_slice())?;
-    push_found(out, objects, &firsts, given)
+    push_found(out, objects, &firsts, given)?;
+    Ok(())
 }

@@ -135,5 +135,6 @@ pub fn push_symbols(
     ensures { OnOk result (out.new.items ≡ out.old.items ++ symbols.symbols_text linked.now placement.now) }
 {
     let values = symbol_values(alloc, linked, placement, bases)?;
-    push_valued(alloc, out, linked, values.as_slice())
+    push_valued(alloc, out, linked, values.as_slice())?;
+    Ok(())
 }
