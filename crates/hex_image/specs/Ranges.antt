@@ -8,6 +8,8 @@ use Rattle.hex_image.specs.Images.{end_of}
 -- pieces with one of its ranges holds of some piece. None is empty, and no two meet.
 pub record AreEnds (pieces : List Piece) (ends : ℕ → Option ℕ) : Type 0 where
   pub all : (test : Piece → Bool) → ((p : Piece) → ends p.base ≡ Some (end_of p) → test p ≡ false) → list_any test pieces ≡ false
-  pub only : (base end : ℕ) → ends base ≡ Some end → (test : Piece → Bool) → ((p : Piece) → p.base ≡ base → end_of p ≡ end → test p ≡ true) → list_any test pieces ≡ true
+  pub only :
+      (base end : ℕ) → ends base ≡ Some end
+      → (test : Piece → Bool) → ((p : Piece) → p.base ≡ base → end_of p ≡ end → test p ≡ true) → list_any test pieces ≡ true
   pub some : (base end : ℕ) → ends base ≡ Some end → base < end
   pub apart : (base end other last : ℕ) → ends base ≡ Some end → ends other ≡ Some last → base < other → end ≤ other

@@ -1,7 +1,7 @@
 -- The texts that are written: a line feed behind each record, digits in upper case. Which records there are, in which order
 -- and how long, is this project's; each is one of its form (Intel, Hexadecimal Object File Format Specification; Motorola,
 -- M68000 Family Programmer's Reference Manual, S-Record Output Format).
-use Rattle.std.specs.Prelude.{ℕ, ◌+◌, ◌-◌, ◌/◌, ◌%◌, ◌^◌, ◌==◌, if◌then◌else◌, sum, List, [], ◌∷◌, ◌++◌, length, Option, Some, None}
+use Rattle.std.specs.Prelude.{◌≡◌, ℕ, ◌+◌, ◌-◌, ◌/◌, ◌%◌, ◌^◌, ◌==◌, if◌then◌else◌, sum, List, [], ◌∷◌, ◌++◌, length, Option, Some, None}
 use Rattle.std.specs.List.{flat_map}
 use Rattle.hex.specs.Hex.{encode_upper}
 use Rattle.hex_image.specs.declared.records.Burn.{Burn}
@@ -51,6 +51,10 @@ ihex_rows known (p ∷ ps) = row_records known p ++ ihex_rows (Some (p.base / 2 
 -- their text, behind records whose upper half is known
 abbrev pub ihex_rest : Option ℕ → List Piece → List ℕ
 ihex_rest known ps = flat_map ihex_line (ihex_rows known ps)
+
+-- a text with the records of some pieces behind it, whatever pieces follow
+abbrev pub GoesOn : Option ℕ → List ℕ → List Piece → List ℕ → Option ℕ → Type 0
+GoesOn known text ps longer last = (more : List Piece) → longer ++ ihex_rest last more ≡ text ++ ihex_rest known (ps ++ more)
 
 -- the start, and the end
 abbrev pub ihex_end : ℕ → List ℕ

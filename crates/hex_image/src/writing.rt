@@ -1,10 +1,8 @@
 //! The texts of records that are written.
 
-ghost use Rattle.std.specs.Prelude.{◌≡◌, ◌+◌, ◌-◌, ◌*◌, ◌%◌, ◌^◌, ◌<◌, ◌≤◌, ◌++◌, ◌∷◌, [], IfOk, OnOk, None, length, take, drop, sum};
-ghost use Rattle.std.specs.Prelude.{List as Items};
+ghost use Rattle.std.specs.Prelude.{◌≡◌, ◌+◌, ◌^◌, ◌<◌, ◌≤◌, ◌++◌, ◌∷◌, [], IfOk, OnOk, None, length, take, drop};
 ghost use Rattle.std.specs.List.{AllByRecursion, flat_map};
 ghost use Rattle.hex.specs.Hex.{encode_upper};
-ghost use Rattle.hex_image.specs.declared.records.Piece.{Piece};
 ghost use Rattle.hex_image.specs.Digits as digits;
 ghost use Rattle.hex_image.specs.Images as images;
 ghost use Rattle.hex_image.specs.Writing as writing;
@@ -96,7 +94,7 @@ fn push_ihex_piece(
     piece: &Piece,
 ) -> Result<Option<u16>, NoMemory>
     requires { piece.now.base + length piece.now.bytes ≤ 2 ^ 32 }
-    ensures { IfOk result (λ last. (more : Items Piece) → out.new.items ++ writing.ihex_rest last more ≡ out.old.items ++ writing.ihex_rest known (writing.rows piece.now.base piece.now.bytes ++ more)) }
+    ensures { IfOk result (writing.GoesOn known out.old.items (writing.rows piece.now.base piece.now.bytes) out.new.items) }
 {
     let mut known = known;
     let mut at = u64::from(piece.base);
