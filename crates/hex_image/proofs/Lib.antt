@@ -6,5 +6,6 @@ pub mod RecordLemmas
 pub mod BackLemmas
 pub mod ToldLemmas
 pub mod ReadLemmas
+pub mod FaultLemmas
 pub mod RoundTrip
 pub mod Rows

@@ -23,7 +23,7 @@ open_of : (e : Bool) → cond e (Some Order) None ≡ None → e ≡ false
 open_of true h = absurd (cc)
 open_of false h = refl
 
-shut : (e : Bool) → e ≡ false → cond e (Some Order) None ≡ None
+pub shut : (e : Bool) → e ≡ false → cond e (Some Order) None ≡ None
 shut true h = absurd (cc)
 shut false h = refl
 
@@ -274,10 +274,10 @@ record Found (form : Form) (s : State) (ls : List (List ℕ)) (b : Burn) : Type 
   spelled : map (said form) ls ≡ each_ok items
   tells : Tells s items b
 
-abbrev burn : List Piece → ℕ → Burn
+abbrev pub burn : List Piece → ℕ → Burn
 burn ps a = record { pieces = ps; start = a }
 
-abbrev whole_by : ℕ → State → Bool → Reading
+abbrev pub whole_by : ℕ → State → Bool → Reading
 whole_by n s e = cond e (Ok (burn s.pieces s.start)) (Err (n, Order))
 
 found_end : (form : Form) (n : ℕ) (s : State) (b : Burn) (e : Bool) → s.ended ≡ e → whole_by n s e ≡ Ok b → Found form s [] b

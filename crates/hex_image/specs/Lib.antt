@@ -9,4 +9,5 @@ pub mod Readers
 pub mod Writing
 pub mod Reads
 pub mod Laws
+pub mod Faults
 pub mod Examples

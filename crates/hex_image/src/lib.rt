@@ -10,7 +10,7 @@ mod records;
 mod srec;
 mod writing;
 
-pub use crate::laws::{ihex_law, srec_law, worked_examples};
+pub use crate::laws::{first_fault_law, ihex_law, srec_law, worked_examples};
 pub use crate::reading::{read_ihex, read_srec};
 pub use crate::records::{Burn, Piece};
 pub use crate::writing::{write_ihex, write_srec};
