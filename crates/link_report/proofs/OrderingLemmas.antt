@@ -10,7 +10,7 @@ use Rattle.std.proofs.lemmas.Cmp.{nat_cmp_total}
 use Rattle.std.proofs.lemmas.List.Sorted.{sorted_far, ranks_by}
 use Rattle.link_report.specs.declared.symbols.Listed.{Listed}
 use Rattle.link_report.specs.Shown.{shown}
-use Rattle.link_report.specs.Symbols.{Exported, put_in, by_value}
+use Rattle.link_report.specs.Symbols.{put_in, by_value}
 
 -- ---- a stable sort by any order
 

@@ -1,8 +1,7 @@
 -- The lines of a report and what their fields are made of: eight upper-case hexadecimal digits, states, and the names of
 -- objects and areas as they are. This project's.
-use Rattle.std.specs.Prelude.{ℕ, ◌+◌, ◌%◌, ◌^◌, ◌==◌, Bool, false, if◌then◌else◌, List, [], ◌∷◌, ◌++◌, slice_get, codes, Option, Some, None}
+use Rattle.std.specs.Prelude.{ℕ, ◌+◌, ◌%◌, ◌^◌, Bool, if◌then◌else◌, List, ◌++◌, slice_get, codes, Option, Some, None}
 use Rattle.std.specs.List.{join_with_byte}
-use Rattle.sdt_word.specs.Numbers.{bit}
 use Rattle.sdt_fault.specs.Digits.{hexadecimal_places}
 use Rattle.aof_object.specs.declared.records.Area.{Area}
 use Rattle.aof_object.specs.declared.records.Object.{Object}

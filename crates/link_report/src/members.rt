@@ -4,7 +4,6 @@ ghost use Rattle.std.specs.Prelude.{◌≡◌, ℕ, ◌++◌, map, Some, OnOk, I
 ghost use Rattle.std.specs.List.{flat_map};
 ghost use Rattle.std.specs.Option.{option_map};
 ghost use Rattle.link_model.specs.Chosen.{is_needed};
-ghost use Rattle.link_values.specs.Index.{IsIndexOf};
 ghost use Rattle.link_report.specs.Members as members;
 ghost use Rattle.link_report.specs.Shown.{AreFirsts, first_in, is_answered, shown_need};
 

@@ -2,7 +2,7 @@
 
 ghost use Rattle.std.specs.Prelude.{◌≡◌, ◌++◌, OnOk, IfOk, true, false};
 ghost use Rattle.std.specs.Option.{option_copied};
-ghost use Rattle.place_model.specs.Assignment.{description, plain_load};
+ghost use Rattle.place_model.specs.Assignment.{description};
 ghost use Rattle.link_model.specs.RegionValues as model;
 ghost use Rattle.link_values.specs.Bases.{AreBases};
 ghost use Rattle.link_items.specs.LinkedItems.{has_header};

@@ -3,7 +3,6 @@
 ghost use Rattle.std.specs.Prelude.{◌≡◌, ◌++◌, map, OnOk, IfOk};
 ghost use Rattle.std.specs.List.{flat_map};
 ghost use Rattle.std.specs.Option.{option_copied, option_map};
-ghost use Rattle.link_model.specs.Members.{link_of};
 ghost use Rattle.link_values.specs.Bases.{AreBases};
 ghost use Rattle.link_values.specs.Values.{home as home_of, meant};
 ghost use Rattle.link_report.specs.Shown.{shown, valued};
