@@ -10,12 +10,12 @@ use Rattle.link_values.specs.Values.{AreValues}
 use Rattle.link_report.specs.Shown.{valued}
 use Rattle.link_report.specs.Symbols.{Exported, exported}
 
-valued_one : (d : Definition) (m n : Meant) → m ≡ n → the Exported (record { definition = d; value = m }) ≡ record { definition = d; value = n }
-valued_one d m n e = rw e refl
+abbrev with_value : Definition → Meant → Exported
+with_value d m = record { definition = d; value = m }
 
 pub all_valued : (l : Linked) (p : Placement) (values : List (List SymbolValue)) → AreValues (link_of l) p values
     → (ds : List Definition) → map (valued values) ds ≡ map (exported l p) ds
 all_valued l p values h [] = refl
 all_valued l p values h (d ∷ ds) =
-    ap (λ e. e ∷ map (valued values) ds) (valued_one d _ _ (h d.object d.symbol))
+    ap (λ e. e ∷ map (valued values) ds) (ap (with_value d) (h d.object d.symbol))
     ∙ ap (λ es. exported l p d ∷ es) (all_valued l p values h ds)

@@ -32,8 +32,9 @@ is_by object (Some d) = d.object == object
 abbrev pub answers : List Definition → ℕ → Need → Bool
 answers ds object n = is_by object (definition_of ds n.name)
 
-abbrev pub first_need : Linked → ℕ → Option Need
-first_need l object = find (answers l.definitions object) (needs_from 0 l.objects)
+-- the first that the object of a number answers
+abbrev pub first_need : List Definition → List (Named Object) → ℕ → Option Need
+first_need ds os object = find (answers ds object) (needs_from 0 os)
 
 -- ---- lines
 
@@ -51,4 +52,4 @@ members_from all first given object [] = []
 members_from all first given object (o ∷ os) = member_at all first given object o.name ++ members_from all first given (suc object) os
 
 abbrev pub members_text : Linked → ℕ → List ℕ
-members_text l given = members_from l.objects (first_need l) given 0 l.objects
+members_text l given = members_from l.objects (first_need l.definitions l.objects) given 0 l.objects

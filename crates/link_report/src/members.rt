@@ -10,7 +10,7 @@ ghost use Rattle.link_report.specs.Shown.{AreFirsts, first_in, is_answered, show
 use crate::lines::{object_name, push, push_field};
 use aof_object::{Object, Symbol};
 use indexmap::IndexMap;
-use link_model::{Linked, Named, to_u32};
+use link_model::{Definition, Linked, Named, to_u32};
 use link_values::{Defined, find, index_definitions};
 use sdt_fault::NoMemory;
 use sdt_word::field;
@@ -152,6 +152,23 @@ fn push_found(
     Ok(())
 }
 
+fn push_chosen(
+    alloc: Global,
+    out: &mut Vec<u8>,
+    objects: &[Named<Object>],
+    definitions: &[Definition],
+    given: usize,
+) -> Result<(), NoMemory>
+    ensures { OnOk result (out.new.items ≡ out.old.items
+        ++ members.members_from objects.now (members.first_need definitions.now objects.now) given 0 objects.now) }
+{
+    let index = index_definitions(alloc, definitions)?;
+    let needs = needs_of(alloc, objects)?;
+    let firsts = first_needs(alloc, &index, needs.as_slice())?;
+    push_found(out, objects, &firsts, given)?;
+    Ok(())
+}
+
 /// Appends the lines of the chosen members, which stand behind so many given objects.
 pub fn push_members(
     alloc: Global,
@@ -162,9 +179,5 @@ pub fn push_members(
     ensures { OnOk result (out.new.items ≡ out.old.items ++ members.members_text linked.now given) }
 {
     let objects = linked.objects.as_slice();
-    let index = index_definitions(alloc, linked.definitions.as_slice())?;
-    let needs = needs_of(alloc, objects)?;
-    let firsts = first_needs(alloc, &index, needs.as_slice())?;
-    push_found(out, objects, &firsts, given)?;
-    Ok(())
+    push_chosen(alloc, out, objects, linked.definitions.as_slice(), given)
 }
