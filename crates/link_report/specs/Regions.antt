@@ -11,6 +11,7 @@ use Rattle.link_model.specs.declared.placing.PlacedArea.{PlacedArea}
 use Rattle.link_model.specs.declared.placing.PlacedVeneer.{PlacedVeneer}
 use Rattle.link_model.specs.declared.placing.Placement.{Placement}
 use Rattle.link_model.specs.declared.placing.Region.{Region}
+use Rattle.link_model.specs.declared.placing.Veneer.{Veneer}
 use Rattle.link_model.specs.declared.selection.Named.{Named}
 use Rattle.link_model.specs.RegionValues.{size_of}
 use Rattle.link_items.specs.LinkedItems.{has_header}
@@ -64,6 +65,10 @@ areas_text os number zeros areas = flat_map (area_in os number zeros) areas
 -- a veneer to a target in Thumb code has twelve bytes
 abbrev pub veneer_size : Bool → ℕ
 veneer_size thumb = if thumb then 12 else 8
+
+-- the last fields of its line
+abbrev pub target_text : List (Named Object) → Placement → Veneer → List ℕ
+target_text os p v = line (eight (place_of p v.area v.offset) ∷ object_name os v.area.object ∷ name_of_area (area_at os v.area) ∷ [])
 
 abbrev pub veneer_line : List (Named Object) → Placement → PlacedVeneer → List ℕ
 veneer_line os p v =

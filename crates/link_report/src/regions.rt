@@ -1,6 +1,6 @@
 //! Load regions, execution regions, and what stands in them.
 
-ghost use Rattle.std.specs.Prelude.{◌≡◌, ◌++◌, OnOk, IfOk, true, false};
+ghost use Rattle.std.specs.Prelude.{◌≡◌, ◌∷◌, ◌++◌, OnOk, IfOk, true, false};
 ghost use Rattle.std.specs.Option.{option_copied};
 ghost use Rattle.place_model.specs.Assignment.{description};
 ghost use Rattle.link_model.specs.RegionValues as model;
@@ -12,7 +12,7 @@ use crate::lines::{
     attributes_of, name_of_area, object_name, place_of, push, push_eight, push_field, state_word,
 };
 use aof_object::{Area, Object};
-use link_model::{Named, PlacedArea, PlacedVeneer, Placement, Region, to_u32};
+use link_model::{Named, PlacedArea, PlacedVeneer, Placement, Region, Veneer, to_u32};
 use link_values::{AreaBases, area_at, sum};
 use place_model::{Kind, ScatterLoad};
 use sdt_fault::NoMemory;
@@ -166,6 +166,23 @@ fn veneer_size(thumb: bool) -> u64
     if thumb { 12 } else { 8 }
 }
 
+/// Appends the last fields of a veneer's line, which tell of its target.
+fn push_target(
+    out: &mut Vec<u8>,
+    objects: &[Named<Object>],
+    placement: &Placement,
+    bases: &AreaBases,
+    veneer: Veneer,
+) -> Result<(), NoMemory>
+    requires { AreBases placement.now bases.now }
+    ensures { OnOk result (out.new.items ≡ out.old.items ++ (32 ∷ texts.target_text objects.now placement.now veneer)) }
+{
+    push_eight(out, place_of(bases, veneer.area, veneer.offset))?;
+    push_field(out, object_name(objects, veneer.area.object))?;
+    push_field(out, name_of_area(area_at(objects, veneer.area)))?;
+    push(out, b"\n")
+}
+
 fn push_veneer(
     out: &mut Vec<u8>,
     objects: &[Named<Object>],
@@ -181,10 +198,7 @@ fn push_veneer(
     push_eight(out, u64::from(placed.address))?;
     push_eight(out, veneer_size(veneer.thumb))?;
     push_field(out, state_word(veneer.thumb))?;
-    push_eight(out, place_of(bases, veneer.area, veneer.offset))?;
-    push_field(out, object_name(objects, veneer.area.object))?;
-    push_field(out, name_of_area(area_at(objects, veneer.area)))?;
-    push(out, b"\n")
+    push_target(out, objects, placement, bases, veneer)
 }
 
 /// Appends the line of a veneer, if it stands in the region of a number.
@@ -317,7 +331,8 @@ fn push_region(
     push_veneers(out, objects, placement, bases, number, veneers)?;
     push_start(out, placement.boot, number, region)?;
     push_zero(out, region)?;
-    push_areas(out, objects, number, true, areas)
+    push_areas(out, objects, number, true, areas)?;
+    Ok(())
 }
 
 /// Appends the lines of the execution regions, each with what stands in it. All areas are looked at for each region, of

@@ -98,7 +98,8 @@ fn push_report(
     push_members(alloc, out, linked, given)?;
     push_first(out, kind, linked, placement, &bases)?;
     push_entry(out, linked, placement, &bases)?;
-    push(out, b"end\n")
+    push(out, b"end\n")?;
+    Ok(())
 }
 
 /// Where everything of a link went that is placed: its load regions, its execution regions with what stands in them, the
