@@ -1,5 +1,5 @@
 -- How the startup code enters a generated source's program: the state is valid behind valid steps, and memory shows the view.
-use Rattle.std.proofs.Common.{◌≡◌, ℕ, zero, suc, ◌+◌, ◌*◌, ◌%◌, ◌/◌, ◌^◌, ◌<◌, ◌≤◌, ◌==◌, Bool, true, false, List, [], ◌∷◌, get_or, refl, sym, ap, ◌∙◌, subst, arith, Some}
+use Rattle.std.proofs.Common.{◌≡◌, ℕ, ◌+◌, true, false, List, [], ◌∷◌, get_or, refl, ap, ◌∙◌, arith, Some}
 use Rattle.std.specs.Prelude.{slice_index}
 use Rattle.std.proofs.lemmas.Bool.{eqb-false}
 use Rattle.sdt_word.specs.Bytes.{bytes_of, number_of, word}
@@ -14,8 +14,8 @@ use Rattle.arm7_model.proofs.MemoryLemmas.{load-same}
 use Rattle.arm7_model.proofs.TransferLemmas.{in_memory-mapped}
 use Rattle.big_entry.specs.Entries.{ProgramIsEntered}
 use Rattle.big_model.specs.Words.{code_words}
-use Rattle.big_run.specs.Runs.{HoldWords, IsEntered}
-use Rattle.boot_code.specs.Boots.{BootSteps, ByteMap, CanStart, HoldsWord, HoldsWords}
+use Rattle.big_run.specs.Runs.{HoldWords}
+use Rattle.boot_code.specs.Boots.{ByteMap, HoldsWord, HoldsWords}
 
 -- ---- states
 
