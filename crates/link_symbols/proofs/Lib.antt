@@ -1,0 +1,3 @@
+pub mod LawLemmas
+pub mod ShownLemmas
+pub mod TableLemmas
