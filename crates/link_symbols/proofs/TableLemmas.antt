@@ -168,11 +168,12 @@ low x = omega arith
 
 counted : (test : Section → Bool) (n : ℕ) (sections : List Section) (k : ℕ) → number_where test n sections ≡ Some k → k < n + length sections
 counted test n [] k h = absurd (cc)
-counted test n (s ∷ sections) k h = by_test (test s) h
+counted test n (s ∷ sections) k h = by_test (test s) (counted test (suc n) sections k) h
   where
-    by_test : (b : Bool) → cond b (Some n) (number_where test (suc n) sections) ≡ Some k → k < n + suc (length sections)
-    by_test true e = let same : n ≡ k = cc in omega (arith, same)
-    by_test false e = let r = counted test (suc n) sections k e in omega (arith, r)
+    by_test : (b : Bool) → (number_where test (suc n) sections ≡ Some k → k < suc n + length sections)
+        → cond b (Some n) (number_where test (suc n) sections) ≡ Some k → k < n + suc (length sections)
+    by_test true later e = let same : n ≡ k = cc in omega (arith, same)
+    by_test false later e = let r = later e in omega (arith, r)
 
 half_word : (sections : List Section) → length sections < 0xFEFC → (o : Option ℕ) → ((k : ℕ) → o ≡ Some k → k < 1 + length sections) → place_number (place_by o) < 2 ^ 16
 half_word sections few None h = omega arith
