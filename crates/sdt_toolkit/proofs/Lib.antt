@@ -5,14 +5,17 @@ mod AifStartLemmas
 mod AskLemmas
 mod BuildLemmas
 mod BuildLaws
+mod BuildClauses
 mod EndLemmas
 mod EndsLemmas
+mod ExactLemmas
 mod ImageLemmas
 mod InputLemmas
 mod LinkLemmas
 mod LinkOnce
 mod ReadLemmas
 mod RunBytes
+mod RunClauses
 mod RunCommands
 mod RunFiles
 mod RunHidden
