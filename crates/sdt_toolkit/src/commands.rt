@@ -41,7 +41,8 @@ fn carried_out<S: Store, K: Sink>(
     ensures sink { may_print (Ok command) ≡ false → sink.new ≡ sink.old }
     ensures commanded { Commanded (Ok command) (outside_of (S.files store.old) (S.files store.new)
         (K.bytes sink.old) (K.bytes sink.new) (S.read_faults store.old) (S.read_faults store.new)
-        (S.write_faults store.old) (S.write_faults store.new) (K.faults sink.old) (K.faults sink.new)) (seats_by base size state touched devices.old.items) (seats_by base size state touched devices.new.items) result }
+        (S.write_faults store.old) (S.write_faults store.new) (K.faults sink.old) (K.faults sink.new))
+        (seats_by base size state touched devices.old.items) (seats_by base size state touched devices.new.items) result }
 {
     match command {
         Command::Assemble { source, output } => assemble_file(alloc, store, &source, output),
@@ -77,7 +78,8 @@ pub fn command<S: Store, K: Sink>(
     ensures sink { may_print (command_of (map string_bytes words.now)) ≡ false → sink.new ≡ sink.old }
     ensures commanded { Commanded (command_of (map string_bytes words.now)) (outside_of (S.files store.old) (S.files store.new)
         (K.bytes sink.old) (K.bytes sink.new) (S.read_faults store.old) (S.read_faults store.new)
-        (S.write_faults store.old) (S.write_faults store.new) (K.faults sink.old) (K.faults sink.new)) (seats_by base size state touched devices.old.items) (seats_by base size state touched devices.new.items) result }
+        (S.write_faults store.old) (S.write_faults store.new) (K.faults sink.old) (K.faults sink.new))
+        (seats_by base size state touched devices.old.items) (seats_by base size state touched devices.new.items) result }
 {
     match read_words(alloc, words) {
         Ok(command) => carried_out(alloc, command, store, sink, devices),

@@ -44,7 +44,8 @@ pub fn run_tool<S: Store, K: Sink>(
     // What the answer says and leaves, or the first word that breaks a rule.
     ensures commanded { Commanded (command_of (map string_bytes words.now)) (outside_of (S.files store.old) (S.files store.new)
         (K.bytes sink.old) (K.bytes sink.new) (S.read_faults store.old) (S.read_faults store.new)
-        (S.write_faults store.old) (S.write_faults store.new) (K.faults sink.old) (K.faults sink.new)) (seats_by base size state touched devices.old.items) (seats_by base size state touched devices.new.items) result }
+        (S.write_faults store.old) (S.write_faults store.new) (K.faults sink.old) (K.faults sink.new))
+        (seats_by base size state touched devices.old.items) (seats_by base size state touched devices.new.items) result }
     // The files of a link or a build that is done, put into memory, show what was linked and reach its entry.
     ensures headline { Headline (command_of (map string_bytes words.now)) (S.files store.old) (S.files store.new) result }
     // What `build` makes of sources is what `link` makes of the files that `asm` writes of them.
@@ -54,25 +55,30 @@ pub fn run_tool<S: Store, K: Sink>(
     // A run by the map that a link or a build left begins with the startup code's steps, which lead to the entry and touch no device.
     ensures starts { StartsAsLinked (command_of (map string_bytes words.now)) (outside_of (S.files store.old) (S.files store.new)
         (K.bytes sink.old) (K.bytes sink.new) (S.read_faults store.old) (S.read_faults store.new)
-        (S.write_faults store.old) (S.write_faults store.new) (K.faults sink.old) (K.faults sink.new)) (seats_by base size state touched devices.old.items) (seats_by base size state touched devices.new.items) result }
+        (S.write_faults store.old) (S.write_faults store.new) (K.faults sink.old) (K.faults sink.new))
+        (seats_by base size state touched devices.old.items) (seats_by base size state touched devices.new.items) result }
     // A run goes by the machine's steps, and leaves each device that none of them accesses as time alone makes it.
     ensures steps { RunsBySteps (command_of (map string_bytes words.now)) (outside_of (S.files store.old) (S.files store.new)
         (K.bytes sink.old) (K.bytes sink.new) (S.read_faults store.old) (S.read_faults store.new)
-        (S.write_faults store.old) (S.write_faults store.new) (K.faults sink.old) (K.faults sink.new)) (seats_by base size state touched devices.old.items) (seats_by base size state touched devices.new.items) result }
+        (S.write_faults store.old) (S.write_faults store.new) (K.faults sink.old) (K.faults sink.new))
+        (seats_by base size state touched devices.old.items) (seats_by base size state touched devices.new.items) result }
     // A run by the map of an image in which the interrupt kit is in force, and whose program keeps the rules, is done as the
     // run without interrupts is, with the same text.
     ensures interrupts { HidesInterrupts (command_of (map string_bytes words.now)) (outside_of (S.files store.old) (S.files store.new)
         (K.bytes sink.old) (K.bytes sink.new) (S.read_faults store.old) (S.read_faults store.new)
-        (S.write_faults store.old) (S.write_faults store.new) (K.faults sink.old) (K.faults sink.new)) (seats_by base size state touched devices.old.items) result }
+        (S.write_faults store.old) (S.write_faults store.new) (K.faults sink.old) (K.faults sink.new))
+        (seats_by base size state touched devices.old.items) result }
     // Over files that are told, where no fault is counted: a first defect is refused, and nothing else is.
     ensures exact { Exact (command_of (map string_bytes words.now)) (outside_of (S.files store.old) (S.files store.new)
         (K.bytes sink.old) (K.bytes sink.new) (S.read_faults store.old) (S.read_faults store.new)
-        (S.write_faults store.old) (S.write_faults store.new) (K.faults sink.old) (K.faults sink.new)) (seats_by base size state touched devices.old.items) result }
+        (S.write_faults store.old) (S.write_faults store.new) (K.faults sink.old) (K.faults sink.new))
+        (seats_by base size state touched devices.old.items) result }
     // Whatever was asked for: a refusal names the first defect and, as a read fault does, leaves everything as it was, and each
     // fault was counted.
     ensures ends { Ends (command_of (map string_bytes words.now)) (outside_of (S.files store.old) (S.files store.new)
         (K.bytes sink.old) (K.bytes sink.new) (S.read_faults store.old) (S.read_faults store.new)
-        (S.write_faults store.old) (S.write_faults store.new) (K.faults sink.old) (K.faults sink.new)) (seats_by base size state touched devices.old.items) (seats_by base size state touched devices.new.items) result }
+        (S.write_faults store.old) (S.write_faults store.new) (K.faults sink.old) (K.faults sink.new))
+        (seats_by base size state touched devices.old.items) (seats_by base size state touched devices.new.items) result }
     // The devices are touched by `run` alone, and the sink by commands that print.
     ensures devices { is_run (command_of (map string_bytes words.now)) ≡ false → devices.new ≡ devices.old }
     ensures sink { may_print (command_of (map string_bytes words.now)) ≡ false → sink.new ≡ sink.old }
