@@ -1,7 +1,6 @@
 -- A relocatable AIF boots from every address, and one that isn't from its own: its header's calls in
 -- turn, and the memory at the end.
 use Rattle.std.proofs.Common.{◌≡◌, ℕ, suc, ◌+◌, ◌-◌, ◌*◌, ◌/◌, ◌%◌, ◌^◌, ◌<◌, ◌≤◌, Bool, true, false, ◌==◌, ◌||◌, if◌then◌else◌, cond, List, [], ◌∷◌, length, refl, sym, ap, subst, ◌∙◌, arith, ◌⊎◌, inl, inr, Some, None, ltb-true}
-use Rattle.sdt_word.specs.Numbers.{bit}
 use Rattle.sdt_word.specs.Bytes.{bytes_of, number_of, word}
 use Rattle.sdt_word.proofs.BytesLemmas.{length-bytes_of}
 use Rattle.sdt_word.specs.declared.codes.Condition.TheVariants.{Al}
@@ -10,6 +9,7 @@ use Rattle.arm_isa.specs.ArmRows.{ReadsArm}
 use Rattle.arm7_model.specs.Memory.{Bytes, Board, store}
 use Rattle.arm7_model.specs.Registers.{State, register, is_thumb}
 use Rattle.arm7_model.proofs.Leading.{here, lasting}
+use Rattle.arm7_model.proofs.Steps.{IsQuiet}
 use Rattle.arm7_model.proofs.MemoryLemmas.{word-store_apart, load-same, store-below, store-above, store-in, below_or_not}
 use Rattle.boot_code.specs.Words.{relocator_list, relocator_instructions}
 use Rattle.boot_code.specs.Startup.{zeros, IsEntered}
@@ -30,9 +30,14 @@ reads_veneer_exchange : ReadsArm 0xE12FFF1C (BranchExchange Al 12)
 reads_veneer_exchange = grind arith
 
 -- the entry in ARM state
-entered_arm : (W : World) (g : Low) (status entry : ℕ) (m : Bytes) → entry % 2 ≡ 0 → bit status 5 ≡ 0 → IsEntered entry m (placed W g entry status m)
+entered_arm : (W : World) (g : Low) (status entry : ℕ) (m : Bytes) → entry % 2 ≡ 0 → IsQuiet status → IsEntered entry m (placed W g entry status m)
 unfolding register is_thumb
-entered_arm W g status entry m even arm_state = record { pc = omega arith; thumb = rw (arm_state, even) refl; memory = refl }
+entered_arm W g status entry m even q = record {
+  pc = omega arith;
+  thumb = rw (q.arm, even) refl;
+  memory = refl;
+  masked = record { fiq = q.fiq_masked; irq = q.irq_masked };
+}
 
 -- ---- what the calls leave alone
 
@@ -250,7 +255,7 @@ module _ (file : List ℕ) (parts zero_size b : ℕ) (written : ℕ → Bool) (v
         let (t, run, entered) = begun board (InRanges (file_at file b) view) s (b + 0) c.valid.core.visible.count (c.pc ∙ omega arith) (λ g. begins g _ _
         (clear_run b l.whole x parts zero_size e i in_view (λ y low high. ap (λ (f : Bytes). f y) same ∙ merged-in s.memory x b parts y (omega arith) (omega arith))
         (record { readable = narrowed in_view (omega arith) (omega arith); writable = λ y low high. c.writable y (l.free y low high); apart = inr (omega arith) }) enters)) in
-        booted_by (lasting steps run) (λ accesses safe. record {
+        booted_by (lasting steps run) entered.masked (λ accesses safe. record {
           pc = entered.pc;
           thumb = entered.thumb;
           shown = λ y v h. let at = shows y v h in ap (λ (f : Bytes). f y) entered.memory ∙ inside y at.0 at.1 ∙ at.2;
@@ -260,7 +265,7 @@ module _ (file : List ℕ) (parts zero_size b : ℕ) (written : ℕ → Bool) (v
 
     -- the entry in ARM state, and by a veneer
     straight : From W 0 (b + e) final (IsEntered (b + e) final)
-    straight = from W (b + e) refl (λ g status q bytes. let whole = l.whole in let e_whole = i.entry_whole in (_, here, entered_arm W g status (b + e) _ (omega arith) q.arm))
+    straight = from W (b + e) refl (λ g status q bytes. let whole = l.whole in let e_whole = i.entry_whole in (_, here, entered_arm W g status (b + e) _ (omega arith) q))
 
     by_veneer : (entry : ℕ) → HasVeneer (store x (b + parts) (zeros zero_size)) b parts e entry → From W 2 (b + e) final (IsEntered entry final)
     by_veneer entry v =

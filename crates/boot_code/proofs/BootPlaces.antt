@@ -214,7 +214,7 @@ module _ (files view : ByteMap) (written : ℕ → Bool) (copies : List CopyRow)
       let (t, run, entered) = begun board (InRanges files view) s (a + 0) c.valid.core.visible.count (c.pc ∙ omega arith)
       (λ g. startup_run boot files view written a (a + 4 * length area) copying free copies parts entry p.each_copy p.each_part p.fair
       (words-after s.memory a boot_list (table_list copies parts entry) area_words) (omega (arith, counted)) good) in
-      booted_by run (λ accesses safe. record {
+      booted_by run entered.masked (λ accesses safe. record {
         pc = entered.pc;
         thumb = entered.thumb;
         shown = λ x b h. ap (λ (m : Bytes). m x) entered.memory ∙ final x ∙ zeroed-some (moved files copies) (moved s.memory copies) parts x b (moved-some files s.memory copies x b held) (p.shows x b h);

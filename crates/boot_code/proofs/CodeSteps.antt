@@ -30,7 +30,7 @@ use Rattle.arm7_model.proofs.MemoryLemmas.{not-eq, load-same, store-below, store
 use Rattle.arm7_model.proofs.TransferLemmas.{Mapped, Writable, in_memory-mapped, loaded-word, stored-word, block_loaded-words, block_stored-words}
 use Rattle.sdt_word.proofs.NumbersLemmas.{rotated-none as rotated-zero}
 use Rattle.std.proofs.lemmas.Bool.{eqb-false}
-use Rattle.boot_code.specs.Startup.{IsEntered}
+use Rattle.boot_code.specs.Startup.{AreMasked, IsEntered}
 use Rattle.boot_code.specs.Aif.{HasCode}
 use Rattle.boot_code.specs.Words.{ReadAs}
 use Rattle.boot_code.specs.Safety.{Lies, IsSafe, AreSafe}
@@ -287,13 +287,16 @@ abbrev working : World → Low → ℕ → ℕ → ℕ → Bytes → List ℕ �
 working W g pc next status m answers = record { core = (placed W g next status m).core; memory = m; answers = answers; accesses = Fetch pc Word ∷ [] }
 
 -- after BX: pc is the entry, in the state that its bit 0 says
-entered : (W : World) (g : Low) (v status : ℕ) (m : Bytes) {entry : ℕ} {final : Bytes} → v ≡ entry → m ≡ final → entry % 4 ≢ 2
+entered : (W : World) (g : Low) (v status : ℕ) (m : Bytes) {entry : ℕ} {final : Bytes} → IsQuiet status → v ≡ entry → m ≡ final → entry % 4 ≢ 2
     → let s = status_with_thumb (v % 2) status in IsEntered entry final (placed W g (as_pc s v) s m)
 unfolding register is_thumb as_pc status_with_thumb
-entered W g v status m {entry} e same fair =
+entered W g v status m {entry} q e same fair =
     let bit_t : bit (status / 2 ^ 6 * 2 ^ 6 + entry % 2 * 2 ^ 5 + status % 2 ^ 5) 5 ≡ entry % 2 = omega arith in
-    record { pc = rw (e, bit_t) (go (entry % 2 == 1) refl); thumb = rw (e, bit_t) refl; memory = same }
+    record { pc = rw (e, bit_t) (go (entry % 2 == 1) refl); thumb = rw (e, bit_t) refl; memory = same; masked = masked }
   where
+    masked : AreMasked (let s = status_with_thumb (v % 2) status in placed W g (as_pc s v) s m)
+    masked = record { fiq = omega (arith, q.fiq_masked); irq = omega (arith, q.irq_masked) }
+
     go : (b : Bool) → (entry % 2 == 1) ≡ b → (if b then entry - entry % 2 else entry - entry % 4) ≡ entry - entry % 2
     go true h = refl
     go false h = let odd = eqb-false (entry % 2) 1 h in omega (arith, fair)
@@ -429,12 +432,12 @@ module _ {W : World} {S : Code W} {n i status : ℕ} {g : Low} {m : Bytes} {Q : 
 pub enter_0 : {W : World} {S : Code W} {i status entry : ℕ} {g : Low} {m final : Bytes} → Reads S i (BranchExchange Al 0) → g.r0 ≡ entry → m ≡ final → entry % 4 ≢ 2 → Go S 1 g i status m (IsEntered entry final)
 unfolding row_opens
 enter_0 {W} {status = status} {g = g} {m} w e same fair =
-    step [] w tt (λ good answers. let other = not-eq (g.r0 % 4) 2 (λ h. fair (ap (λ (v : ℕ). v % 4) (sym e) ∙ h)) in rw other refl) (λ good. (_, here, entered W g g.r0 status m e same fair))
+    step [] w tt (λ good answers. let other = not-eq (g.r0 % 4) 2 (λ h. fair (ap (λ (v : ℕ). v % 4) (sym e) ∙ h)) in rw other refl) (λ good. (_, here, entered W g g.r0 status m good.quiet e same fair))
 
 pub enter_12 : {W : World} {S : Code W} {i status entry : ℕ} {g : Low} {m final : Bytes} → Reads S i (BranchExchange Al 12) → g.r12 ≡ entry → m ≡ final → entry % 4 ≢ 2 → Go S 1 g i status m (IsEntered entry final)
 unfolding row_opens
 enter_12 {W} {status = status} {g = g} {m} w e same fair =
-    step [] w tt (λ good answers. let other = not-eq (g.r12 % 4) 2 (λ h. fair (ap (λ (v : ℕ). v % 4) (sym e) ∙ h)) in rw other refl) (λ good. (_, here, entered W g g.r12 status m e same fair))
+    step [] w tt (λ good answers. let other = not-eq (g.r12 % 4) 2 (λ h. fair (ap (λ (v : ℕ). v % 4) (sym e) ∙ h)) in rw other refl) (λ good. (_, here, entered W g g.r12 status m good.quiet e same fair))
 
 -- ---- the registers at the start
 

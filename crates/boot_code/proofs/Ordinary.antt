@@ -8,6 +8,7 @@ use Rattle.arm7_model.specs.Runs.{Input, AreSteps, EachStep, accesses_of, behind
 use Rattle.arm7_model.proofs.Leading.{Leads, here, on, counted}
 use Rattle.boot_code.specs.Boots.{ByteMap, InRanges, AreOrdinary, BootSteps, HasBooted}
 use Rattle.boot_code.specs.Safety.{IsSafe}
+use Rattle.boot_code.specs.Startup.{AreMasked}
 
 record Steps (board : Board) (P : List Access → Type 0) (n : ℕ) (s t : State) (inputs : List Input) (steps : List Stepped) : Type 0 where
   pub are : AreSteps board s inputs steps
@@ -33,9 +34,9 @@ steps_of (on first one ran p rest) inputs =
 
 -- what such a run has done, whatever the inputs are
 pub booted_by : {files view : ByteMap} {entry n : ℕ} {board : Board} {s t : State} → Leads board (IsSafe (InRanges files view)) n s t
-    → ((accesses : List (List Access)) → EachStep (IsSafe (InRanges files view)) accesses → HasBooted files view entry s t accesses)
+    → AreMasked t → ((accesses : List (List Access)) → EachStep (IsSafe (InRanges files view)) accesses → HasBooted files view entry s t accesses)
     → (inputs : List Input) → (steps : List Stepped) × BootSteps n files view entry board s inputs steps
-booted_by {files} {view} {entry} {s = s} run booted inputs =
+booted_by {files} {view} {entry} {s = s} run masked booted inputs =
     let (steps, r) = steps_of run inputs in (
       steps,
       record {
@@ -43,5 +44,6 @@ booted_by {files} {view} {entry} {s = s} run booted inputs =
         ordinary = r.ordinary;
         count = r.count;
         booted = subst (λ (y : State). HasBooted files view entry s y (accesses_of steps)) (sym r.end) (booted (accesses_of steps) r.each);
+        masked = subst AreMasked (sym r.end) masked;
       },
     )

@@ -13,7 +13,7 @@ use Rattle.arm7_model.specs.Runs.{Input, AreSteps, EachStep, accesses_of, behind
 use Rattle.boot_code.specs.declared.rows.CopyRow.{CopyRow}
 use Rattle.boot_code.specs.declared.rows.ZeroRow.{ZeroRow}
 use Rattle.boot_code.specs.Safety.{IsSafe}
-use Rattle.boot_code.specs.Startup.{table_list}
+use Rattle.boot_code.specs.Startup.{AreMasked, table_list}
 use Rattle.boot_code.specs.Words.{boot_list}
 
 -- some bytes at their addresses
@@ -52,12 +52,13 @@ abbrev pub AreOrdinary : List Stepped → Type 0
 AreOrdinary [] = Unit {0}
 AreOrdinary (x ∷ xs) = (x.event ≡ event.Ran) × AreOrdinary xs
 
--- these are n ordinary steps from s there
+-- these are n ordinary steps from s there, which leave interrupts masked
 pub record BootSteps (n : ℕ) (files view : ByteMap) (entry : ℕ) (board : Board) (s : State) (inputs : List Input) (steps : List Stepped) : Type 0 where
   pub are : AreSteps board s inputs steps
   pub ordinary : AreOrdinary steps
   pub count : length steps ≡ n
   pub booted : HasBooted files view entry s (behind s steps) (accesses_of steps)
+  pub masked : AreMasked (behind s steps)
 
 -- n ordinary steps lead from s there, whatever the inputs are
 abbrev pub BootsIn : ℕ → ByteMap → ByteMap → ℕ → Board → State → Type 0

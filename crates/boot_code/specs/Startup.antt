@@ -1,6 +1,7 @@
 -- The startup code's table, what it does to the memory, and how many steps it takes (this project's).
 use Rattle.std.specs.Prelude.{◌≡◌, ℕ, zero, suc, ◌+◌, ◌-◌, ◌*◌, ◌/◌, ◌%◌, ◌==◌, nat_lt, if◌then◌else◌, List, [], ◌∷◌, ◌++◌}
 use Rattle.sdt_word.specs.Bytes.{load, word}
+use Rattle.sdt_word.specs.Numbers.{bit}
 use Rattle.arm7_model.specs.Memory.{Bytes, store}
 use Rattle.arm7_model.specs.Registers.{State, register, is_thumb}
 use Rattle.boot_code.specs.declared.rows.CopyRow.{CopyRow}
@@ -74,8 +75,14 @@ zeroed_words (r ∷ rows) = r.size / 4 + zeroed_words rows
 
 -- ---- the end
 
--- the program is entered: pc is the entry, in the state that its bit 0 says, and the memory is this
+-- FIQ and IRQ are masked
+pub record AreMasked (t : State) : Type 0 where
+  pub fiq : bit t.core.cpsr 6 ≡ 1
+  pub irq : bit t.core.cpsr 7 ≡ 1
+
+-- the program is entered: pc is the entry, in the state that its bit 0 says, with interrupts masked, and the memory is this
 pub record IsEntered (entry : ℕ) (m : Bytes) (t : State) : Type 0 where
   pub pc : register t.core 15 ≡ entry - entry % 2
   pub thumb : is_thumb t.core.cpsr ≡ (entry % 2 == 1)
   pub memory : t.memory ≡ m
+  pub masked : AreMasked t
