@@ -14,6 +14,7 @@ mod InputLemmas
 mod LinkLemmas
 mod LinkOnce
 mod ReadLemmas
+mod RefusalLemmas
 mod RunBytes
 mod RunClauses
 mod RunCommands

@@ -9,10 +9,13 @@ ghost use Rattle.sdt_toolkit.specs.Exact.{Exact};
 ghost use Rattle.sdt_toolkit.specs.Headline.{Headline};
 ghost use Rattle.sdt_toolkit.specs.Interrupts.{HidesInterrupts};
 ghost use Rattle.sdt_toolkit.specs.Reads.{outside_of};
+ghost use Rattle.sdt_toolkit.specs.Refusals.{RefusalsAreTrue};
 ghost use Rattle.sdt_toolkit.specs.Runs.{RunsBySteps, StartsAsLinked};
 ghost use Rattle.tool_words.specs.Commands.{command_of};
 
 use armasm_core::laws::sources_begin;
+use link_select::{duplicate_law, undefined_law};
+use place_model::placing_law;
 use scatter_text::reading_law;
 use sdt_fault::answer::Answer;
 use sdt_outside::{Device, Sink, Store};
@@ -73,6 +76,10 @@ pub fn run_tool<S: Store, K: Sink>(
         (K.bytes sink.old) (K.bytes sink.new) (S.read_faults store.old) (S.read_faults store.new)
         (S.write_faults store.old) (S.write_faults store.new) (K.faults sink.old) (K.faults sink.new))
         (seats_by base size state touched devices.old.items) result }
+    // What a refusal of a link or a build says is so of the linked objects and of their plan, and is the first such thing.
+    ensures refusals { RefusalsAreTrue (command_of (map string_bytes words.now)) (outside_of (S.files store.old) (S.files store.new)
+        (K.bytes sink.old) (K.bytes sink.new) (S.read_faults store.old) (S.read_faults store.new)
+        (S.write_faults store.old) (S.write_faults store.new) (K.faults sink.old) (K.faults sink.new)) result }
     // Whatever was asked for: a refusal names the first defect and, as a read fault does, leaves everything as it was, and each
     // fault was counted.
     ensures ends { Ends (command_of (map string_bytes words.now)) (outside_of (S.files store.old) (S.files store.new)
@@ -87,6 +94,9 @@ pub fn run_tool<S: Store, K: Sink>(
     sources_begin();
     laws::interrupts_are_hidden();
     laws::one_asked();
+    duplicate_law();
+    undefined_law();
+    placing_law();
     laws::builds_are_links();
     laws::linked_runs_start();
     commands::command(alloc, words, store, sink, devices)

@@ -4,6 +4,7 @@ use Rattle.sdt_toolkit.proofs.BuildClauses.{builds_told}
 use Rattle.sdt_toolkit.proofs.EndsLemmas.{ends_of}
 use Rattle.sdt_toolkit.proofs.ExactLemmas.{exact_of}
 use Rattle.sdt_toolkit.proofs.HeadlineLemmas.{headline_of}
+use Rattle.sdt_toolkit.proofs.RefusalLemmas.{refusals_told}
 use Rattle.sdt_toolkit.proofs.RunClauses.{starts_told, steps_told}
 use Rattle.sdt_toolkit.proofs.RunHidden.{hides_of}
 use Rattle.tool_words.specs.Commands.{command_of}
@@ -41,3 +42,8 @@ returns-clause-starts g c = starts_told c.linked_runs_start.ensures (map string_
 
 pub returns-clause-steps : goal.returns-clause-steps
 returns-clause-steps g c = steps_told (map string_bytes c.args.words.now) _ _ _ c.command.result c.command.ensures.commanded
+
+pub returns-clause-refusals : goal.returns-clause-refusals
+returns-clause-refusals g c =
+    refusals_told c.duplicate_law.ensures c.undefined_law.ensures c.placing_law.ensures.meetings c.placing_law.ensures.told c.placing_law.ensures.selections
+    (command_of (map string_bytes c.args.words.now)) _ _ _ c.command.result c.command.ensures.commanded
