@@ -69,11 +69,11 @@ err_inj {A} r q e = cc
 -- a step fails, or what comes behind it does
 bind_err : {A B : Type 0} (x : Result A Refusal) (f : A → Result B Refusal) (r : Refusal) → (x >>= f) ≡ Err r → (x ≡ Err r) ⊎ ((y : A) × (x ≡ Ok y) × (f y ≡ Err r))
 bind_err (Ok y) f r e = inr (y, refl, e)
-bind_err {A} {B} (Err q) f r e = inl (ap (λ (z : Refusal). Err z) (err_inj {B} q r e))
+bind_err {A} {B} (Err q) f r e = inl (ap (λ (z : Refusal). Err z) (err_inj {A = B} q r e))
 
 refused_err : {A : Type 0} (o : Option Refusal) (x : A) (r : Refusal) → refused_or o x ≡ Err r → o ≡ Some r
 refused_err None x r e = absurd cc
-refused_err {A} (Some q) x r e = ap (λ (z : Refusal). Some z) (err_inj {A} q r e)
+refused_err {A} (Some q) x r e = ap (λ (z : Refusal). Some z) (err_inj {A = A} q r e)
 
 or_split : (a b : Option Refusal) (r : Refusal) → option_or a b ≡ Some r → (a ≡ Some r) ⊎ ((a ≡ None) × (b ≡ Some r))
 or_split None b r e = inr (refl, e)
@@ -237,7 +237,7 @@ areas_say law k os r e =
 
 told_err : (o : Option Refusal) (p : Plan) (r : Refusal) → told o p ≡ Err r → o ≡ Some r
 told_err None p r e = absurd cc
-told_err (Some q) p r e = ap (λ (z : Refusal). Some z) (err_inj {Placement} q r e)
+told_err (Some q) p r e = ap (λ (z : Refusal). Some z) (err_inj {A = Placement} q r e)
 
 module _ (meetings : MeetingLaw) (law : ToldLaw) (assignments : AssignmentLaw) (k : Kind) (ram : Option (List Range32)) (l : Linked) (r : Refusal) where
   assoc : {A B C : Type 0} (x : Result A Refusal) (f : A → Result B Refusal) (g : B → Result C Refusal) → ((x >>= f) >>= g) ≡ (x >>= λ a. f a >>= g)
@@ -271,7 +271,7 @@ module _ (meetings : MeetingLaw) (law : ToldLaw) (assignments : AssignmentLaw) (
 
 refused_split : {A : Type 0} (o : Option Refusal) (x : Result A Refusal) (r : Refusal) → refused o x ≡ Err r → (o ≡ Some r) ⊎ ((o ≡ None) × (x ≡ Err r))
 refused_split None x r e = inr (refl, e)
-refused_split {A} (Some q) x r e = inl (ap (λ (z : Refusal). Some z) (err_inj {A} q r e))
+refused_split {A} (Some q) x r e = inl (ap (λ (z : Refusal). Some z) (err_inj {A = A} q r e))
 
 module _ (duplicates : DuplicateLaw) (undefineds : UndefinedLaw) (regions : Option (List (List ℕ))) (os : List (Named Object)) (r : Refusal) where
   abbrev Unknown : Type 0
@@ -319,7 +319,7 @@ module _ (duplicates : DuplicateLaw) (undefineds : UndefinedLaw) (meetings : Mee
 
       go : (selection_of None os ≡ Err r) ⊎ ((l : Linked) × (selection_of None os ≡ Ok l) × (◌≡◌ {A = Result Image Refusal} (Err wrong) (Err r))) → SaysOfText text os r
       go (inl h) = (wrong, is, inl (names_say duplicates undefineds None os r h))
-      go (inr (l, at, h)) = (wrong, is, inr (l, at, sym (err_inj {Image} wrong r h)))
+      go (inr (l, at, h)) = (wrong, is, inr (l, at, sym (err_inj {A = Image} wrong r h)))
 
   abbrev Says : LinkPlacement → List ℕ → Option (List Bank) → List (Named Object) → Refusal → Type 0
   Says form text banks os r = ((k : Kind) × (ram : Option (List Range32)) × IsAskedAs form text banks k ram × SaysOfObjects k ram os r) ⊎ SaysOfText text os r
@@ -337,7 +337,7 @@ module _ (duplicates : DuplicateLaw) (undefineds : UndefinedLaw) (meetings : Mee
 
   -- a file of the image would be too long
   long_says : (fs : List OutFile) (b : Bool) (r : Refusal) → (if b then Err file_too_large else Ok fs) ≡ Err r → r ≡ file_too_large
-  long_says fs true r e = sym (err_inj {List OutFile} file_too_large r e)
+  long_says fs true r e = sym (err_inj {A = List OutFile} file_too_large r e)
   long_says fs false r e = absurd cc
 
   module _ (s : Reads) (sources : Bool) (w : LinkWords) (r : Refusal) where
@@ -347,7 +347,7 @@ module _ (duplicates : DuplicateLaw) (undefineds : UndefinedLaw) (meetings : Mee
     made_says_why : (contents : List (List ℕ)) (inputs : Result (List (Named Linkable)) Refusal) (made : Result (List OutFile) Refusal)
         → InputsAre s sources w.names (inputs_in w.placement contents) inputs → InputsMake w (text_in w.placement contents) inputs made → made ≡ Err r → Why contents
     made_says_why contents (Err q) made judged h e =
-        let same : q ≡ r = err_inj {List OutFile} q r (sym h ∙ e) in
+        let same : q ≡ r = err_inj {A = List OutFile} q r (sym h ∙ e) in
         inl (subst (λ (z : Refusal). InputsAre s sources w.names (inputs_in w.placement contents) (Err z)) same judged)
     made_says_why contents (Ok xs) made judged (image, is_image, is) e = go (bind_err image (filed w.container w.output) r (sym is ∙ e))
       where
@@ -372,7 +372,7 @@ module _ (duplicates : DuplicateLaw) (undefineds : UndefinedLaw) (meetings : Mee
     why files told asks = go (inputs_of files (files_read w)) refl (subst (λ (t : Option Files). FilesAsk t s sources w (Err r)) told asks)
       where
         go : (read : Result (List (List ℕ)) Refusal) → inputs_of files (files_read w) ≡ read → ReadAsks s sources w read (Err r) → LinkSaysWhy s files sources w r
-        go (Err q) is h = inl (is ∙ ap (λ (z : Refusal). Err z) (sym (err_inj {Outcome} r q h)))
+        go (Err q) is h = inl (is ∙ ap (λ (z : Refusal). Err z) (sym (err_inj {A = Outcome} r q h)))
         go (Ok contents) is h = inr (contents, is, asks_why contents h)
 
   -- ---- the clause of the top call
