@@ -14,8 +14,7 @@ ghost use Rattle.sdt_toolkit.specs.Runs.{RunsBySteps, StartsAsLinked};
 ghost use Rattle.tool_words.specs.Commands.{command_of};
 
 use armasm_core::laws::sources_begin;
-use link_select::{duplicate_law, undefined_law};
-use place_model::placing_law;
+use link_refusals::refusals_law;
 use scatter_text::reading_law;
 use sdt_fault::answer::Answer;
 use sdt_outside::{Device, Sink, Store};
@@ -94,9 +93,7 @@ pub fn run_tool<S: Store, K: Sink>(
     sources_begin();
     laws::interrupts_are_hidden();
     laws::one_asked();
-    duplicate_law();
-    undefined_law();
-    placing_law();
+    refusals_law();
     laws::builds_are_links();
     laws::linked_runs_start();
     commands::command(alloc, words, store, sink, devices)

@@ -44,6 +44,4 @@ pub returns-clause-steps : goal.returns-clause-steps
 returns-clause-steps g c = steps_told (map string_bytes c.args.words.now) _ _ _ c.command.result c.command.ensures.commanded
 
 pub returns-clause-refusals : goal.returns-clause-refusals
-returns-clause-refusals g c =
-    refusals_told c.duplicate_law.ensures c.undefined_law.ensures c.placing_law.ensures.meetings c.placing_law.ensures.told c.placing_law.ensures.selections
-    (command_of (map string_bytes c.args.words.now)) _ _ _ c.command.result c.command.ensures.commanded
+returns-clause-refusals g c = refusals_told c.refusals_law.ensures (command_of (map string_bytes c.args.words.now)) _ _ _ c.command.result c.command.ensures.commanded
