@@ -15,7 +15,7 @@ use crate::faults::bad_object;
 use crate::flags::AreaFlags;
 use crate::index::note_name;
 use crate::records::{Area, Reloc};
-use crate::strings::read_name;
+use crate::strings::{left_behind, read_name};
 use indexmap::IndexMap;
 use sdt_fault::answer::Fault;
 use sdt_fault::kinds::FileKind;
@@ -40,12 +40,14 @@ pub fn fault_of(alloc: Global, at: usize, flaw: Flaw) -> Fault
     bad_object(alloc, at + flaw.place as usize, flaw.kind)
 }
 
-/// The row of an area at an offset of the file. The index gets its name with its number.
+/// The row of an area at an offset of the file. The index gets its name with its number; `left` is how many bytes are left for
+/// names.
 #[tactic(auto, unfolding(crate::specs::Objects::head_at))]
 fn read_head<'a>(
     alloc: Global,
     strings: &'a [u8],
     index: &mut IndexMap<&'a [u8], u32>,
+    left: &mut usize,
     number: u32,
     at: usize,
     row: &[u8],
@@ -65,6 +67,7 @@ fn read_head<'a>(
     if let Some(flaw) = judge_area(repeated, attributes, size, count, word_at(row, 16)) {
         return Err(fault_of(alloc, at, flaw));
     }
+    *left = left_behind(*left, name)?;
     Ok(AreaHead {
         name: Text::from_slice(alloc, name)?,
         attributes,
@@ -81,6 +84,7 @@ pub fn read_rows<'a>(
     head: &[u8],
     count: u32,
     index: &mut IndexMap<&'a [u8], u32>,
+    left: &mut usize,
 ) -> Result<List<AreaHead>, Fault>
     requires empty { (q : Items ℕ) → number_in index.old q ≡ None }
     requires rows { 24 + 20 * count ≤ length head.now }
@@ -92,7 +96,7 @@ pub fn read_rows<'a>(
     let mut heads = Vec::new(alloc);
     for i in 0..count {
         let at = 24 + 20 * i as usize;
-        let area = read_head(alloc, strings, index, i, start + at, &head[at..])?;
+        let area = read_head(alloc, strings, index, left, i, start + at, &head[at..])?;
         heads.push(area)?;
     }
     Ok(List::from_vec(heads))

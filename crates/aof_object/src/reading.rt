@@ -14,6 +14,7 @@ use crate::checks::judge_entry;
 use crate::faults::bad_object;
 use crate::parts::{Parts, find_parts};
 use crate::records::{Entry, Object, Symbol};
+use crate::strings::MOST_NAMED;
 use crate::symbols::read_symbols;
 use chunk_file::{bytes_of_span, read_table};
 use indexmap::IndexMap;
@@ -63,6 +64,7 @@ fn read_heads<'a>(
     strings: &'a [u8],
     content: &[u8],
     index: &mut IndexMap<&'a [u8], u32>,
+    left: &mut usize,
 ) -> Result<List<AreaHead>, Fault>
     requires empty { (q : Items ℕ) → number_in index.old q ≡ None }
     requires rows { 24 + 20 * word_in head.now 8 ≤ length head.now }
@@ -72,7 +74,15 @@ fn read_heads<'a>(
     ensures names { IfOk result (λ heads. (q : Items ℕ) → number_in index.new q ≡ number_from 0 q (head_names heads)) }
 {
     let count = word_at(head, 8);
-    let heads = read_rows(alloc, strings, p.head.offset as usize, head, count, index)?;
+    let heads = read_rows(
+        alloc,
+        strings,
+        p.head.offset as usize,
+        head,
+        count,
+        index,
+        left,
+    )?;
     if total_of(heads.as_slice()) != content.len() {
         return Err(bad_object(alloc, p.areas.offset as usize, FileKind::Short));
     }
@@ -87,6 +97,7 @@ fn symbols_in(
     strings: &[u8],
     heads: &[AreaHead],
     index: &IndexMap<&[u8], u32>,
+    left: &mut usize,
     table: &[u8],
     count: u32,
 ) -> Result<List<Symbol>, Fault>
@@ -98,7 +109,7 @@ fn symbols_in(
     if table.len() != 16 * count as usize {
         return Err(bad_object(alloc, start, FileKind::Short));
     }
-    read_symbols(alloc, strings, heads, index, start, table, count)
+    read_symbols(alloc, strings, heads, index, left, start, table, count)
 }
 
 #[tactic(auto, unfolding(crate::specs::Objects::entry_of))]
@@ -146,7 +157,8 @@ fn object_of_parts(
 {
     count_areas(alloc, p, head, strings)?;
     let mut index = IndexMap::new(alloc);
-    let heads = read_heads(alloc, p, head, strings, content, &mut index)?;
+    let mut left = MOST_NAMED;
+    let heads = read_heads(alloc, p, head, strings, content, &mut index, &mut left)?;
     let heads = heads.as_slice();
     let count = word_at(head, 12);
     let areas = read_areas(
@@ -156,7 +168,7 @@ fn object_of_parts(
         p.areas.offset as usize,
         content,
     )?;
-    let symbols = symbols_in(alloc, p, strings, heads, &index, table, count)?;
+    let symbols = symbols_in(alloc, p, strings, heads, &index, &mut left, table, count)?;
     let entry = read_entry(alloc, p, head, heads)?;
     Ok(Object {
         areas,
@@ -180,7 +192,8 @@ fn object(alloc: Global, b: &[u8]) -> Result<Object, Fault>
 }
 
 /// The object of a file. Gives `BadChunk` and `BadObject`, with an empty file name. Takes time that is
-/// linear in the file and in the names of the record, which are found by their hashes.
+/// linear in the file and in the names of the record, which are found by their hashes. Names of more than 2^30 bytes in all, as
+/// where they share bytes of the file, count as want of memory.
 pub fn read_object(alloc: Global, b: &[u8]) -> Result<Object, Fault>
     requires { length b.now < 2 ^ 32 }
     // What is read is what the bytes say.

@@ -4,6 +4,16 @@ ghost use Rattle.std.specs.Prelude.{◌≡◌, ◌≤◌, length, take, Some, Ma
 ghost use Rattle.std.specs.Option.{option_copied};
 ghost use Rattle.aof_object.specs.Names.{terminated, name_at};
 
+use sdt_fault::NoMemory;
+
+/// The most bytes that the names of an object take up, which may share bytes of its string table.
+pub const MOST_NAMED: usize = 1 << 30;
+
+/// How many bytes are left for names behind this one.
+pub fn left_behind(left: usize, name: &[u8]) -> Result<usize, NoMemory> {
+    left.checked_sub(name.len()).ok_or(NoMemory)
+}
+
 /// How many bytes stand before the first zero byte, where there is one.
 fn end_of_name(bytes: &[u8]) -> Option<usize>
     ensures { MatchOption result (terminated bytes.now ≡ None) (λ n. (n ≤ length bytes.now) × (terminated bytes.now ≡ Some (take n bytes.now))) }

@@ -14,7 +14,7 @@ use crate::faults::bad_object;
 use crate::flags::SymbolFlags;
 use crate::index::{find_name, note_name};
 use crate::records::Symbol;
-use crate::strings::read_name;
+use crate::strings::{left_behind, read_name};
 use indexmap::IndexMap;
 use sdt_fault::answer::Fault;
 use sdt_fault::kinds::FileKind;
@@ -85,7 +85,8 @@ pub fn note_exported<'a>(
     Ok(false)
 }
 
-/// The row of a symbol at an offset of the file, whose name is taken where it is exported.
+/// The row of a symbol at an offset of the file, whose name is taken where it is exported. `left` is how many bytes are left for
+/// names.
 #[tactic(auto, unfolding(crate::specs::Objects::symbol_at))]
 fn read_symbol<'a>(
     alloc: Global,
@@ -93,6 +94,7 @@ fn read_symbol<'a>(
     heads: &[AreaHead],
     areas: &IndexMap<&[u8], u32>,
     taken: &mut IndexMap<&'a [u8], u32>,
+    left: &mut usize,
     at: usize,
     row: &[u8],
 ) -> Result<Symbol, Fault>
@@ -112,6 +114,7 @@ fn read_symbol<'a>(
     if let Some(flaw) = judge_symbol(repeated, attributes, value, told.home) {
         return Err(fault_of(alloc, at, flaw));
     }
+    *left = left_behind(*left, name)?;
     Ok(Symbol {
         name: Text::from_slice(alloc, name)?,
         attributes,
@@ -126,6 +129,7 @@ pub fn read_symbols(
     strings: &[u8],
     heads: &[AreaHead],
     areas: &IndexMap<&[u8], u32>,
+    left: &mut usize,
     start: usize,
     content: &[u8],
     count: u32,
@@ -145,6 +149,7 @@ pub fn read_symbols(
             heads,
             areas,
             &mut taken,
+            left,
             start + at,
             &content[at..],
         )?;

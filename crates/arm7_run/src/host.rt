@@ -1,6 +1,6 @@
 //! The steps of a run, and what the host does at them.
 
-ghost use Rattle.std.specs.Prelude.{◌≡◌, ◌≤◌, ◌<◌, ◌-◌, ◌^◌, ◌%◌};
+ghost use Rattle.std.specs.Prelude.{◌≡◌, ◌≤◌, ◌<◌, ◌+◌, ◌-◌, ◌^◌, ◌%◌, IfSome};
 ghost use Rattle.sdt_outside.specs.Counts.{Rose};
 ghost use Rattle.arm7_bus.specs.Buses.{IsStarted};
 ghost use Rattle.arm7_model.specs.Registers.{IsValid, register};
@@ -112,6 +112,7 @@ pub fn run_for<K: Sink>(m: &mut Machine, bus: &mut Bus, sink: &mut K, steps: u64
     requires valid { IsValid m.old.state }
     requires ready { IsReady (state_of base size state touched bus.old) }
     ensures runs { RunsInto steps m.old.state (state_of base size state touched bus.old) result.stop result.steps m.new.state (state_of base size state touched bus.new) (K.bytes sink.old) (K.bytes sink.new) (Rose (K.faults sink.old) (K.faults sink.new)) }
+    ensures few { result.steps ≤ steps }
     ensures faults { K.faults sink.old ≤ K.faults sink.new }
     ensures valid { IsValid m.new.state }
     ensures ready { IsReady (state_of base size state touched bus.new) }
@@ -131,7 +132,8 @@ pub fn run_for<K: Sink>(m: &mut Machine, bus: &mut Bus, sink: &mut K, steps: u64
 /// The end of a run behind so many steps and this turn.
 fn end_of(turned: Turn, made: u64) -> Option<RunEnd>
     requires { made < 2 ^ 64 - 1 }
-    ensures { result ≡ ended turned made }
+    ensures end { result ≡ ended turned made }
+    ensures few { IfSome result (λ end. end.steps ≤ made + 1) }
 {
     let (stop, steps) = match turned {
         Turn::On => return None,

@@ -8,11 +8,11 @@ steps-init g c = record { way = begins c.args.m.now.state _ _; faults = omega ar
 pub returns-in-Some-clause-runs : goal.returns-in-Some-clause-runs
 returns-in-Some-clause-runs g c =
     stops c.args.steps c.args.m.now.state _ _ c.steps.made c.steps.m.state _ _ _ _ _ _ _ c.make_turn-turned.result c.in-Some.end c.steps-test.true c.steps.invariant.way c.make_turn-turned.ensures.turned
-    (λ rose. omega (arith, c.steps.invariant.faults, rose)) (sym c.end_of.ensures ∙ c.in-Some.is)
+    (λ rose. omega (arith, c.steps.invariant.faults, rose)) (sym c.end_of.ensures.end ∙ c.in-Some.is)
 
 pub steps-preserved : goal.steps-preserved
 steps-preserved g c = record {
-  way = goes_on c.args.m.now.state _ _ c.steps.made c.steps.m.state _ _ _ _ _ _ c.make_turn-turned.result c.steps.invariant.way c.make_turn-turned.ensures.turned (sym c.end_of.ensures ∙ c.in_default.is);
+  way = goes_on c.args.m.now.state _ _ c.steps.made c.steps.m.state _ _ _ _ _ _ c.make_turn-turned.result c.steps.invariant.way c.make_turn-turned.ensures.turned (sym c.end_of.ensures.end ∙ c.in_default.is);
   faults = omega (arith, c.steps.invariant.faults, c.make_turn-turned.ensures.faults);
   valid = c.make_turn-turned.ensures.valid;
   ready = c.make_turn-turned.ensures.ready;
