@@ -209,14 +209,14 @@ refused_split {A} (Some q) x r e = inl (ap (λ (z : Refusal). Some z) (err_inj {
 
 module _ (duplicates : DuplicateLaw) (undefineds : UndefinedLaw) (regions : Option (List (List ℕ))) (os : List (Named Object)) (r : Refusal) where
   abbrev Unknown : Type 0
-  Unknown = FirstLacking (is_known regions (objects_in os)) os r ⊎ (entry_within os ≡ Err r)
+  Unknown = FirstLacking (is_known regions (objects_in os)) os r ⊎ (SaysUndefined (is_known regions (objects_in os)) os None × (entry_within os ≡ Err r))
 
   lacking : refused (undefined regions os) (entry_within os) ≡ Err r → Unknown
   lacking e = go (refused_split (undefined regions os) (entry_within os) r e)
     where
       go : (undefined regions os ≡ Some r) ⊎ ((undefined regions os ≡ None) × (entry_within os ≡ Err r)) → Unknown
       go (inl at) = inl (subst (SaysUndefined (is_known regions (objects_in os)) os) at (undefineds regions os))
-      go (inr (none, at)) = inr at
+      go (inr (none, at)) = inr (subst (SaysUndefined (is_known regions (objects_in os)) os) none (undefineds regions os), at)
 
   judged_says : refused (duplicate os) (refused (undefined regions os) (entry_within os)) ≡ Err r → SaysOfNames regions os r
   judged_says e = go (refused_split (duplicate os) (refused (undefined regions os) (entry_within os)) r e)

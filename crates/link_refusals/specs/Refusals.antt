@@ -21,7 +21,7 @@ use Rattle.link_items.specs.LinkedItems.{items_in}
 use Rattle.link_assign.specs.Assigning.{assignment_of}
 use Rattle.link_assign.specs.Keeping.{report_name}
 use Rattle.link_select.specs.Entries.{entered_from, only_entry}
-use Rattle.link_select.specs.Laws.{AreDefinedOnce, FirstClash, FirstLacking}
+use Rattle.link_select.specs.Laws.{AreDefinedOnce, FirstClash, FirstLacking, SaysUndefined}
 use Rattle.link_select.specs.Selection.{count_areas, count_symbols, limited, selection_of}
 use Rattle.link_select.specs.Undefined.{is_known}
 
@@ -36,7 +36,7 @@ abbrev pub SaysOfNames : Option (List (List ℕ)) → List (Named Object) → Re
 SaysOfNames regions os r =
     FirstClash os r
     ⊎ (AreDefinedOnce (objects_in os) × (FirstLacking (is_known regions (objects_in os)) os r
-    ⊎ (entry_within os ≡ Err r)))
+    ⊎ (SaysUndefined (is_known regions (objects_in os)) os None × (entry_within os ≡ Err r))))
 
 -- ---- areas: the first, in input order, that no selection matches, or that two match best
 

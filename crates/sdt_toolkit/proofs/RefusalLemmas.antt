@@ -1,7 +1,6 @@
 -- What the refusals of a link say follows from the definitions that they are told by.
 use Rattle.std.proofs.Common.{◌≡◌, ◌⊎◌, inl, inr, ℕ, ◌<◌, Bool, true, false, List, [], ◌∷◌, map, Option, Some, None, Result, Ok, Err, refl, sym, ap, subst, ◌∙◌}
 use Rattle.std.specs.Prelude.{◌==◌, slice_get, ◌↔◌}
-use Rattle.std.specs.List.{list_any}
 use Rattle.sdt_word.specs.declared.ranges.Range32.{Range32}
 use Rattle.sdt_fault.specs.declared.answer.Answer.{Answer}
 use Rattle.sdt_fault.specs.declared.answer.Answer.TheVariants as answer
@@ -45,9 +44,9 @@ use Rattle.tool_words.specs.declared.command.LinkPlacement.TheVariants as placem
 use Rattle.tool_words.specs.declared.command.LinkWords.{LinkWords}
 use Rattle.sdt_toolkit.specs.Commands.{Commanded}
 use Rattle.sdt_toolkit.specs.Inputs.{InputsAre}
-use Rattle.sdt_toolkit.specs.Links.{FilesAsk, ImageIs, InputsMake, IsAskedAs, IsRam, LinkAnswers, LinkAsks, LinksTo, ReadAsks, WordsAsk, filed, files_read, image_files, is_long, inputs_in, text_in, too_large as file_too_large, unless_long, writes_all}
+use Rattle.sdt_toolkit.specs.Links.{FilesAsk, ImageIs, InputsMake, IsAskedAs, IsRam, LinkAnswers, LinkAsks, LinksTo, ReadAsks, WordsAsk, filed, files_read, inputs_in, text_in, writes_all}
 use Rattle.sdt_toolkit.specs.Reads.{Reads, reads_of}
-use Rattle.sdt_toolkit.specs.Refusals.{IsLinkRefused, LinkSaysWhy, RefusalsAreTrue, SaysOfAreas, SaysOfLink, SaysOfObjects, SaysOfText, SaysOfVeneers}
+use Rattle.sdt_toolkit.specs.Refusals.{IsLinkRefused, IsLongImage, LinkSaysWhy, RefusalsAreTrue, SaysOfAreas, SaysOfLink, SaysOfObjects, SaysOfPlaced, SaysOfText, SaysOfVeneers}
 
 -- ---- the link
 
@@ -103,28 +102,20 @@ module _ (law : RefusalsLaw) where
       go (inl h) = (wrong, is, inl (law.names None os r h))
       go (inr (l, at, h)) = (wrong, is, inr (l, at, sym (err_inj {A = Image} wrong r h)))
 
-  abbrev Says : LinkPlacement → List ℕ → Option (List Bank) → List (Named Object) → Refusal → Type 0
-  Says form text banks os r = ((k : Kind) × (ram : Option (List Range32)) × IsAskedAs form text banks k ram × SaysOfObjects k ram os r) ⊎ SaysOfText text os r
-
   scatter_says : (file text : List ℕ) (banks : Option (List Bank)) (os : List (Named Object)) (r : Refusal) (ram : Option (List Range32)) → IsRam banks ram
-      → (read : Result Scatter Refusal) → scatter_of text ≡ read → described read ram os ≡ Err r → Says (placement.Scatter file) text banks os r
+      → (read : Result Scatter Refusal) → scatter_of text ≡ read → described read ram os ≡ Err r → SaysOfPlaced (placement.Scatter file) text banks os r
   scatter_says file text banks os r ram is_ram (Ok s) is e = inl (kind.Scatter s, ram, (s, is, refl, is_ram), objects_say (kind.Scatter s) ram os r e)
-  scatter_says file text banks os r ram is_ram (Err wrong) is e = inr (text_says text os wrong r is e)
+  scatter_says file text banks os r ram is_ram (Err wrong) is e = inr (file, refl, text_says text os wrong r is e)
 
-  image_says : (form : LinkPlacement) (text : List ℕ) (banks : Option (List Bank)) (os : List (Named Object)) (r : Refusal) (i : Result Image Refusal) → LinksTo form text banks os i → i ≡ Err r → Says form text banks os r
+  image_says : (form : LinkPlacement) (text : List ℕ) (banks : Option (List Bank)) (os : List (Named Object)) (r : Refusal) (i : Result Image Refusal) → LinksTo form text banks os i → i ≡ Err r → SaysOfPlaced form text banks os r
   image_says (placement.Scatter file) text banks os r i (ram, is_ram, is) e = scatter_says file text banks os r ram is_ram (scatter_of text) refl (sym is ∙ e)
   image_says (placement.Aif base relocatable) text banks os r i (ram, is_ram, is) e =
       inl (kind.Aif base relocatable, ram, (refl, is_ram), objects_say (kind.Aif base relocatable) ram os r (sym is ∙ e))
   image_says (placement.Plain base) text banks os r i is e = inl (kind.Plain base, None, (refl, refl), objects_say (kind.Plain base) None os r (sym is ∙ e))
 
-  -- a file of the image would be too long
-  long_says : (fs : List OutFile) (b : Bool) (r : Refusal) → (if b then Err file_too_large else Ok fs) ≡ Err r → r ≡ file_too_large
-  long_says fs true r e = sym (err_inj {A = List OutFile} file_too_large r e)
-  long_says fs false r e = absurd cc
-
   module _ (s : Reads) (sources : Bool) (w : LinkWords) (r : Refusal) where
     abbrev Why : List (List ℕ) → Type 0
-    Why contents = InputsAre s sources w.names (inputs_in w.placement contents) (Err r) ⊎ IsLinkRefused s sources w contents r ⊎ (r ≡ file_too_large)
+    Why contents = InputsAre s sources w.names (inputs_in w.placement contents) (Err r) ⊎ IsLinkRefused s sources w contents r
 
     made_says_why : (contents : List (List ℕ)) (inputs : Result (List (Named Linkable)) Refusal) (made : Result (List OutFile) Refusal)
         → InputsAre s sources w.names (inputs_in w.placement contents) inputs → InputsMake w (text_in w.placement contents) inputs made → made ≡ Err r → Why contents
@@ -133,15 +124,13 @@ module _ (law : RefusalsLaw) where
         inl (subst (λ (z : Refusal). InputsAre s sources w.names (inputs_in w.placement contents) (Err z)) same judged)
     made_says_why contents (Ok xs) made judged (image, is_image, is) e = go (bind_err image (filed w.container w.output) r (sym is ∙ e))
       where
+        why_linked : SaysOfPlaced w.placement (text_in w.placement contents) w.ram is_image.objects r ⊎ IsLongImage w (text_in w.placement contents) is_image.objects r → Why contents
+        why_linked says = inr (record { inputs = xs; objects = is_image.objects; judged = judged; linked = is_image.linked; says = says })
+
         go : (image ≡ Err r) ⊎ ((i : Image) × (image ≡ Ok i) × (filed w.container w.output i ≡ Err r)) → Why contents
-        go (inl h) = inr (inl (record {
-          inputs = xs;
-          objects = is_image.objects;
-          judged = judged;
-          linked = is_image.linked;
-          says = image_says w.placement (text_in w.placement contents) w.ram is_image.objects r image is_image.links h;
-        }))
-        go (inr (i, at, h)) = inr (inr (long_says (image_files w.container w.output i) (list_any is_long (image_files w.container w.output i)) r h))
+        go (inl h) = why_linked (inl (image_says w.placement (text_in w.placement contents) w.ram is_image.objects r image is_image.links h))
+        go (inr (i, at, h)) =
+            why_linked (inr (i, subst (LinksTo w.placement (text_in w.placement contents) w.ram is_image.objects) at is_image.links, h))
 
     asks_why : (contents : List (List ℕ)) → LinkAsks s sources w contents (Err r) → Why contents
     asks_why contents h = go (bind_err h.made writes_all r (sym h.outcome))

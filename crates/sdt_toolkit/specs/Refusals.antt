@@ -32,10 +32,11 @@ use Rattle.tool_words.specs.declared.command.Bank.{Bank}
 use Rattle.tool_words.specs.declared.command.Command.{Command}
 use Rattle.tool_words.specs.declared.command.Command.TheVariants as command
 use Rattle.tool_words.specs.declared.command.LinkPlacement.{LinkPlacement}
+use Rattle.tool_words.specs.declared.command.LinkPlacement.TheVariants as placement
 use Rattle.tool_words.specs.declared.command.LinkWords.{LinkWords}
 use Rattle.tool_answers.specs.Outcomes.{Outside}
 use Rattle.sdt_toolkit.specs.Inputs.{InputsAre, archives_among, objects_among}
-use Rattle.sdt_toolkit.specs.Links.{IsAskedAs, files_read, inputs_in, text_in, too_large as file_too_large}
+use Rattle.sdt_toolkit.specs.Links.{IsAskedAs, LinksTo, filed, files_read, inputs_in, text_in}
 use Rattle.sdt_toolkit.specs.Reads.{Reads, reads_of}
 
 -- ---- linked objects
@@ -71,21 +72,30 @@ SaysOfText text os r =
 
 -- ---- the clause of the top call
 
--- the inputs were read, and the link of their objects is refused
+-- what the linked objects are refused for, by the placement that the words ask for
+abbrev pub SaysOfPlaced : LinkPlacement → List ℕ → Option (List Bank) → List (Named Object) → Refusal → Type 0
+SaysOfPlaced form text banks os r =
+    ((k : Kind) × (ram : Option (List Range32)) × IsAskedAs form text banks k ram × SaysOfObjects k ram os r)
+    ⊎ ((file : List ℕ) × (form ≡ placement.Scatter file) × SaysOfText text os r)
+
+-- or a file of their image would have 2^32 bytes or more
+abbrev pub IsLongImage : LinkWords → List ℕ → List (Named Object) → Refusal → Type 0
+IsLongImage w text os r = (i : Image) × LinksTo w.placement text w.ram os (Ok i) × (filed w.container w.output i ≡ Err r)
+
+-- the inputs were read, and the link of their objects is refused, or the files of its image are
 pub record IsLinkRefused (s : Reads) (sources : Bool) (w : LinkWords) (contents : List (List ℕ)) (r : Refusal) : Type 0 where
   pub inputs : List (Named Linkable)
   pub objects : List (Named Object)
   pub judged : InputsAre s sources w.names (inputs_in w.placement contents) (Ok inputs)
   pub linked : AreLinked (objects_among inputs) (archives_among inputs) objects
-  pub says : ((k : Kind) × (ram : Option (List Range32)) × IsAskedAs w.placement (text_in w.placement contents) w.ram k ram × SaysOfObjects k ram objects r)
-      ⊎ SaysOfText (text_in w.placement contents) objects r
+  pub says : SaysOfPlaced w.placement (text_in w.placement contents) w.ram objects r ⊎ IsLongImage w (text_in w.placement contents) objects r
 
--- a file is missing; or the first input that can't be taken is refused; or the link is; or a file would be too long
+-- a file is missing; or the first input that can't be taken is refused; or the link is
 abbrev pub LinkSaysWhy : Reads → Files → Bool → LinkWords → Refusal → Type 0
 LinkSaysWhy s files sources w r =
     (inputs_of files (files_read w) ≡ Err r)
     ⊎ ((contents : List (List ℕ)) × (inputs_of files (files_read w) ≡ Ok contents)
-    × (InputsAre s sources w.names (inputs_in w.placement contents) (Err r) ⊎ IsLinkRefused s sources w contents r ⊎ (r ≡ file_too_large)))
+    × (InputsAre s sources w.names (inputs_in w.placement contents) (Err r) ⊎ IsLinkRefused s sources w contents r))
 
 abbrev pub RefusalsAreTrue : Result Command ℕ → Outside → Answer → Type 0
 RefusalsAreTrue asked o a =
