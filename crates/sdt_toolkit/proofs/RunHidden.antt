@@ -196,7 +196,7 @@ module _ (law : StartedExitsAlike) (i : Image) (view : ByteMap) (banks : List Ba
             stores = ran.opening.stores;
             devices = ap silenced ran.opening.devices;
           };
-          is_run = record { core = run.core; reset = run.reset; made = made; core' = core; end = end; runs = (text, (silent, ended.1)); devices = refl {a = end.devices} };
+          is_run = record { core = run.core; reset = run.reset; made = made; few = (let most_made = run.few in omega (arith, fewer, most_made)); core' = core; end = end; runs = (text, (silent, ended.1)); devices = refl {a = end.devices} };
         },
       )
 
