@@ -1,7 +1,9 @@
 -- What the refusals of a link say follows from the definitions that they are told by.
-use Rattle.std.proofs.Common.{◌≡◌, ◌⊎◌, inl, inr, ℕ, ◌<◌, Bool, true, false, List, [], ◌∷◌, map, Option, Some, None, Result, Ok, Err, refl, sym, ap, subst, ◌∙◌}
+use Rattle.std.proofs.Common.{◌≡◌, ◌⊎◌, inl, inr, ℕ, zero, suc, ◌<◌, Bool, true, false, if◌then◌else◌, List, [], ◌∷◌, map, Option, Some, None, Result, Ok, Err, refl, sym, ap, subst, ◌∙◌, arith}
 use Rattle.std.specs.Prelude.{slice_get, ◌↔◌}
+use Rattle.std.specs.List.{cons_option, filter_map}
 use Rattle.std.specs.Option.{option_map, option_or}
+use Rattle.base_lemmas.proofs.BaseLemmas.{same}
 use Rattle.sdt_word.specs.declared.ranges.Range32.{Range32}
 use Rattle.sdt_fault.specs.declared.refusal.Refusal.{Refusal}
 use Rattle.sdt_fault.specs.declared.refusal.Refusal.TheVariants.{Ambiguous, NoRoot, Unassigned}
@@ -13,7 +15,6 @@ use Rattle.place_model.specs.Assignment.{Found, Nowhere, Offer, Unclear, Within,
 use Rattle.place_model.specs.Plans.{Plan, Planned, is_root, regions_of}
 use Rattle.place_model.specs.Faults.{Judged, Meeting, aif_too_large, as_conflict, as_overlap, copy_conflict, execution_meeting, first_meeting, first_told, judged, load_meeting, not_writable, overfull, overlap, place_refusal, rootless, too_large, unwritable}
 use Rattle.place_model.specs.Laws.{AssignmentLaw, IsFirstMeeting, IsFirstTold, IsOnlyBest, MeetingLaw, OfFirst, OfFound, OfMeeting, ToldLaw}
-use Rattle.place_model.proofs.ToldLemmas.{first_law}
 use Rattle.link_model.specs.declared.selection.Linked.{Linked}
 use Rattle.link_model.specs.declared.selection.LinkedEntry.{LinkedEntry}
 use Rattle.link_model.specs.declared.selection.Named.{Named}
@@ -171,6 +172,22 @@ module _ (meetings : MeetingLaw) (law : ToldLaw) (k : Kind) (ram : Option (List 
 
 -- ---- areas
 
+behind : {X : Type 0} (wrong : X → Option Refusal) (x : X) (xs : List X) (r : Refusal) → wrong x ≡ None → IsFirstTold wrong xs r → IsFirstTold wrong (x ∷ xs) r
+behind {X} wrong x xs r e f = record { place = suc f.place; x = f.x; at = f.at; told = f.told; none_before = before }
+  where
+    before : (k : ℕ) (y : X) → slice_get (x ∷ xs) k ≡ Some y → k < suc f.place → wrong y ≡ None
+    before zero y at lt = let is : x ≡ y = same x y at in sym (ap wrong is) ∙ e
+    before (suc k) y at lt = f.none_before k y at (omega arith)
+
+first_wrong : {X : Type 0} (wrong : X → Option Refusal) (xs : List X) (r : Refusal) → slice_get (filter_map wrong xs) 0 ≡ Some r → IsFirstTold wrong xs r
+first_wrong wrong [] r h = absurd cc
+first_wrong {X} wrong (x ∷ xs) r h = go (wrong x) refl h (first_wrong wrong xs r)
+  where
+    go : (o : Option Refusal) → wrong x ≡ o → slice_get (cons_option o (filter_map wrong xs)) 0 ≡ Some r
+        → (slice_get (filter_map wrong xs) 0 ≡ Some r → IsFirstTold wrong xs r) → IsFirstTold wrong (x ∷ xs) r
+    go None e at rest = behind wrong x xs r e (rest at)
+    go (Some q) e at rest = record { place = 0; x = x; at = refl; told = e ∙ at; none_before = λ k y there lt. absurd (omega arith) }
+
 homeless_by : (law : AssignmentLaw) (offers : List Offer) (name : List ℕ) (i : Item) (r : Refusal) (f : Found) → found (best offers i) ≡ f → unplaced name i f ≡ Some r → IsHomeless offers name i r
 homeless_by law offers name i r Nowhere e h =
     let same : ◌≡◌ {A = Option Refusal} (Some (Unassigned name i.name)) (Some r) = h in
@@ -192,7 +209,7 @@ areas_say law k os r e =
     let offers = offers_of k in
     let wrong : Item → Option Refusal = λ i. unplaced (report_name os i.object) i (found (best offers i)) in
     let at = refused_err (assignment_refusal (report_name os) offers (items_in os)) _ r e in
-    let f : IsFirstTold wrong (items_in os) r = subst (OfFirst wrong (items_in os)) at (first_law wrong (items_in os)) in
+    let f : IsFirstTold wrong (items_in os) r = first_wrong wrong (items_in os) r at in
     record {
       place = f.place;
       item = f.x;
