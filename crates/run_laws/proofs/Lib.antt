@@ -11,3 +11,4 @@ pub mod MadeSteps
 pub mod OneRun
 pub mod OneStep
 pub mod ServedMemory
+pub mod SmallBanks

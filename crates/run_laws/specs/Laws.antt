@@ -1,5 +1,7 @@
 -- The laws of runs, as the empty public functions state them. This project's.
 use Rattle.std.specs.Prelude.{◌≡◌, ℕ, ◌≤◌, List, length, take}
+use Rattle.sdt_fault.specs.declared.kinds.Quantity.{Quantity}
+use Rattle.sdt_fault.specs.declared.refusal.Refusal.TheVariants.{TooLarge}
 use Rattle.sdt_fault.specs.declared.answer.Stop.{Stop}
 use Rattle.sdt_fault.specs.declared.answer.Stop.TheVariants as stop
 use Rattle.arm7_model.specs.declared.state.ArmState.{ArmState}
@@ -8,11 +10,18 @@ use Rattle.arm7_model.specs.Accesses.{Access}
 use Rattle.arm7_model.specs.Outcomes.{Stepped}
 use Rattle.arm7_model.specs.Registers.{IsValid, IsValidState}
 use Rattle.arm7_model.specs.Runs.{AreSteps, EachStep, accesses_of, behind}
+use Rattle.arm7_bus.specs.declared.memory.Bank.{Bank}
+use Rattle.arm7_bus.specs.Seats.{Seat}
 use Rattle.arm7_bus.specs.States.{State}
+use Rattle.arm7_bus.specs.Touches.{pages_touched}
 use Rattle.arm7_core.specs.Machines.{IsStep}
 use Rattle.arm7_transfers.specs.Boards.{board_of, over}
 use Rattle.arm7_transfers.specs.Ready.{IsReady}
 use Rattle.arm7_run.specs.Runs.{Leads, Runs}
+use Rattle.run_opening.specs.declared.image.Image.{Image}
+use Rattle.run_opening.specs.declared.image.Need.{Need}
+use Rattle.run_opening.specs.Banks.{IsDefect, IsRoomy}
+use Rattle.run_opening.specs.Openings.{IsOpening}
 use Rattle.kit_laws.specs.Handler.{IsKit}
 use Rattle.kit_laws.specs.Rules.{KeepsRules}
 use Rattle.run_laws.specs.Boards.{IsBoard}
@@ -104,3 +113,16 @@ StartedExitsAlike =
     → IsValidState (over core t) → AreQuiet core t steps → IsKit (board_of q) work ack (behind (over core t) steps).memory
     → KeepsRules (board_of q) work (behind (over core t) steps) → Runs most core t stop.Exit made text core_t' t'
     → (made' : ℕ) × (made' ≤ made) × (core_q' : ArmState) × (q' : State) × Runs most core q stop.Exit made' text core_q' q'
+
+-- banks that touch at most 65,536 pages have frames for every image that lies in them
+abbrev pub SmallBanksHaveRoom : Type 0
+SmallBanksHaveRoom =
+    (banks : List Bank) (seats : List Seat) (needs : List Need) (quantity : Quantity) (limit : ℕ)
+    → pages_touched banks 1048576 ≤ 65536 → IsDefect banks seats needs (TooLarge quantity limit) → ⊥
+
+-- and for every store of a run over them, which never ends for want of a frame
+abbrev pub SmallBanksHaveFrames : Type 0
+SmallBanksHaveFrames =
+    (banks : List Bank) (seats : List Seat) (image : Image) (most : ℕ) (core : ArmState) (s : State) (a made : ℕ) (text : List ℕ) (core' : ArmState) (s' : State)
+    → pages_touched banks 1048576 ≤ 65536 → IsRoomy banks seats image.needs → IsOpening banks image seats s
+    → Runs most core s (stop.NoFrame a) made text core' s' → ⊥

@@ -1,6 +1,6 @@
 //! The laws. Their calls do nothing; their contracts are the laws.
 
-ghost use Rattle.run_laws.specs.Laws.{BoardIsOne, BusRunIsOne, BusRunsAreRuns, BusStepIsOne, DevicesAreLeft, ExitsAlike, MadeStepsAreOne, RunLeavesDevices, RunsAreBusRuns, StartedExitsAlike, StepsAreMade};
+ghost use Rattle.run_laws.specs.Laws.{BoardIsOne, BusRunIsOne, BusRunsAreRuns, BusStepIsOne, DevicesAreLeft, ExitsAlike, MadeStepsAreOne, RunLeavesDevices, RunsAreBusRuns, SmallBanksHaveFrames, SmallBanksHaveRoom, StartedExitsAlike, StepsAreMade};
 
 use arm7_model::{step_is_one, step_is_valid};
 use kit_laws::runs_are_transparent;
@@ -73,3 +73,13 @@ pub fn started_exits_alike()
     bus_run_is_one();
     exits_alike();
 }
+
+/// Banks that touch at most 65,536 pages have frames for every image that lies in them: `run` refuses none for MemoryBytes.
+pub fn small_banks_have_room()
+    ensures { SmallBanksHaveRoom }
+{}
+
+/// And for every store: no run over them ends for want of a frame.
+pub fn small_banks_have_frames()
+    ensures { SmallBanksHaveFrames }
+{}
