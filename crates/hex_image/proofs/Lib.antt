@@ -1,0 +1,11 @@
+pub mod LineLemmas
+pub mod PieceLemmas
+pub mod RowLemmas
+pub mod TextLemmas
+pub mod RecordLemmas
+pub mod BackLemmas
+pub mod ToldLemmas
+pub mod ReadLemmas
+pub mod FaultLemmas
+pub mod RoundTrip
+pub mod Rows
