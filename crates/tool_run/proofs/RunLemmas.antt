@@ -27,18 +27,19 @@ blanks [] = []
 blanks (name ∷ names) = [] ∷ blanks names
 
 as_many : (names : List (List ℕ)) → length (blanks names) ≡ length names
+unfolding blanks
 as_many [] = refl
 as_many (name ∷ names) = ap suc (as_many names)
 
 any_mapped : (m : Result MapFile Refusal) → (read : Result Image Refusal) × SomeMapped m read
 any_mapped (Err r) = (Err r, refl)
-any_mapped (Ok m) = let names = front_of (files_in m) (unnamed (files_in m)) in (_, blanks names, as_many names, refl)
+any_mapped (Ok m) = let names = front_of (files_in m) (unnamed (files_in m)) in (_, (blanks names, as_many names, refl))
 
 any_given : (image : RunImage) → (read : Result Image Refusal) × SomeGive image read
-any_given (image.Binary file at) = (_, [], refl)
-any_given (image.Aif file at) = (_, [], refl)
-any_given (image.Elf file) = (_, [], refl)
-any_given (image.Map file) = let (read, is) = any_mapped (named_by file (map_of [])) in (read, [], is)
+any_given (image.Binary file at) = (_, ([], refl))
+any_given (image.Aif file at) = (_, ([], refl))
+any_given (image.Elf file) = (_, ([], refl))
+any_given (image.Map file) = let (read, is) = any_mapped (named_by file (map_of [])) in (read, ([], is))
 
 any_read : (told : Option Files) (rose : Type 0) (image : RunImage) → (read : Result Image Refusal) × IsRead told rose image read
 any_read None rose image = let (read, is) = any_given image in (read, inl is)
