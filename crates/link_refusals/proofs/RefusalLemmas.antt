@@ -1,5 +1,5 @@
 -- What the refusals of a link say follows from the definitions that they are told by.
-use Rattle.std.proofs.Common.{◌≡◌, ◌⊎◌, inl, inr, ℕ, zero, suc, ◌<◌, Bool, true, false, if◌then◌else◌, List, [], ◌∷◌, map, Option, Some, None, Result, Ok, Err, refl, sym, ap, subst, ◌∙◌, arith}
+use Rattle.std.proofs.Common.{◌≡◌, ◌⊎◌, inl, inr, ℕ, zero, suc, ◌<◌, Bool, true, false, if◌then◌else◌, List, [], ◌∷◌, Option, Some, None, Result, Ok, Err, refl, sym, ap, subst, ◌∙◌, arith}
 use Rattle.std.specs.Prelude.{slice_get, ◌↔◌}
 use Rattle.std.specs.List.{cons_option, filter_map}
 use Rattle.std.specs.Option.{option_map, option_or}
@@ -13,7 +13,7 @@ use Rattle.place_model.specs.declared.scatter.Kind.{Kind}
 use Rattle.place_model.specs.Items.{Item}
 use Rattle.place_model.specs.Assignment.{Found, Nowhere, Offer, Unclear, Within, assignment_refusal, best, found, offers_of, refused as unplaced}
 use Rattle.place_model.specs.Plans.{Plan, Planned, is_root, regions_of}
-use Rattle.place_model.specs.Faults.{Judged, Meeting, aif_too_large, as_conflict, as_overlap, copy_conflict, execution_meeting, first_meeting, first_told, judged, load_meeting, not_writable, overfull, overlap, place_refusal, rootless, too_large, unwritable}
+use Rattle.place_model.specs.Faults.{Meeting, aif_too_large, as_conflict, as_overlap, copy_conflict, execution_meeting, first_meeting, first_told, judged, load_meeting, not_writable, overfull, overlap, place_refusal, rootless, too_large, unwritable}
 use Rattle.place_model.specs.Laws.{AssignmentLaw, IsFirstMeeting, IsFirstTold, IsOnlyBest, MeetingLaw, OfFirst, OfFound, OfMeeting, ToldLaw}
 use Rattle.link_model.specs.declared.selection.Linked.{Linked}
 use Rattle.link_model.specs.declared.selection.LinkedEntry.{LinkedEntry}

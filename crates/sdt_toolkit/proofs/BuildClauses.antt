@@ -1,5 +1,5 @@
 -- What the top call tells of `build`: it is `link` of what `asm` writes.
-use Rattle.std.proofs.Common.{◌≡◌, ℕ, List, Some, Result, Ok, Err, refl, sym, subst, ◌∙◌}
+use Rattle.std.proofs.Common.{◌≡◌, ℕ, List, Some, Result, Ok, Err, subst, ◌∙◌}
 use Rattle.sdt_fault.specs.declared.answer.Answer.{Answer}
 use Rattle.sdt_fault.specs.declared.answer.Answer.TheVariants as answer
 use Rattle.sdt_fault.specs.declared.refusal.Refusal.{Refusal}
@@ -10,9 +10,9 @@ use Rattle.tool_words.specs.declared.command.Command.TheVariants as command
 use Rattle.tool_words.specs.declared.command.LinkWords.{LinkWords}
 use Rattle.tool_words.specs.Commands.{command_of}
 use Rattle.tool_answers.specs.Outcomes.{AreWritten, Outcome, Outside}
-use Rattle.sdt_toolkit.specs.Builds.{BuildsAreLinks, BuildsAsLinked, HasObjects, IsLinkOfObjects, link_words}
+use Rattle.sdt_toolkit.specs.Builds.{BuildsAreLinks, BuildsAsLinked, HasObjects, link_words}
 use Rattle.sdt_toolkit.specs.Commands.{Commanded, IsFirst}
-use Rattle.sdt_toolkit.specs.Exact.{Exact, IsAccepted, IsCalm, IsJudged}
+use Rattle.sdt_toolkit.specs.Exact.{Exact}
 use Rattle.sdt_toolkit.specs.Links.{LinkAnswers, OneLinkAsked, WordsAsk}
 use Rattle.sdt_toolkit.specs.Reads.{Reads, reads_of}
 

@@ -18,11 +18,11 @@ use Rattle.tool_library.specs.Libraries.{created, creates, extracted, extracts, 
 use Rattle.tool_listing.specs.Lists.{listing_of}
 use Rattle.tool_listing.specs.Lists as listing
 use Rattle.tool_run.specs.Images.{IsRead, image_of}
-use Rattle.tool_run.specs.Runs.{HasRun, IsRefusal, RunAnswers, RunSays}
+use Rattle.tool_run.specs.Runs.{IsRefusal, RunAnswers, RunSays}
 use Rattle.sdt_toolkit.specs.Commands.{Commanded, Ends, FirstOf, IsFirst, RefusesWords}
-use Rattle.sdt_toolkit.specs.Exact.{Exact, IsAccepted, IsCalm, IsJudged, IsRefusedBy}
+use Rattle.sdt_toolkit.specs.Exact.{Exact, IsAccepted, IsCalm, IsRefusedBy}
 use Rattle.sdt_toolkit.specs.Links.{LinkAnswers, OneLinkAsked, WordsAsk}
-use Rattle.sdt_toolkit.specs.Reads.{HasFailed, reads_of}
+use Rattle.sdt_toolkit.specs.Reads.{reads_of}
 use Rattle.sdt_toolkit.specs.Sources.{AssemblyAnswers, OneAsked, SourceAsks}
 use Rattle.sdt_toolkit.proofs.EndsLemmas.{ends_of}
 use Rattle.sdt_toolkit.proofs.RunOnce.{no_refusal, refusal_once}

@@ -1,6 +1,6 @@
 -- What the refusals of a link say follows from the definitions that they are told by.
-use Rattle.std.proofs.Common.{◌≡◌, ◌⊎◌, inl, inr, ℕ, ◌<◌, Bool, true, false, List, [], ◌∷◌, map, Option, Some, None, Result, Ok, Err, refl, sym, ap, subst, ◌∙◌}
-use Rattle.std.specs.Prelude.{◌==◌, slice_get, ◌↔◌}
+use Rattle.std.proofs.Common.{◌≡◌, ◌⊎◌, inl, inr, ℕ, ◌<◌, Bool, true, false, List, ◌∷◌, Option, Some, None, Result, Ok, Err, refl, sym, ap, subst, ◌∙◌}
+use Rattle.std.specs.Prelude.{◌==◌, ◌↔◌}
 use Rattle.sdt_word.specs.declared.ranges.Range32.{Range32}
 use Rattle.sdt_fault.specs.declared.answer.Answer.{Answer}
 use Rattle.sdt_fault.specs.declared.answer.Answer.TheVariants as answer
@@ -29,7 +29,6 @@ use Rattle.link_veneer.specs.Planning.{planned_veneers}
 use Rattle.link_place.specs.Placed.{placed, told}
 use Rattle.link_laws.specs.Placing.{link_plan}
 use Rattle.scatter_text.specs.Reading.{scatter_of}
-use Rattle.armlink_core.specs.declared.making.PlacedImage.{PlacedImage}
 use Rattle.armlink_core.specs.Images.{described, image_made, image_with, linking, undescribed}
 use Rattle.armlink_core.specs.Linking.{made_at, made_with, symbols_of}
 use Rattle.bin_image.specs.declared.records.OutFile.{OutFile}
@@ -44,7 +43,7 @@ use Rattle.tool_words.specs.declared.command.LinkPlacement.TheVariants as placem
 use Rattle.tool_words.specs.declared.command.LinkWords.{LinkWords}
 use Rattle.sdt_toolkit.specs.Commands.{Commanded}
 use Rattle.sdt_toolkit.specs.Inputs.{InputsAre}
-use Rattle.sdt_toolkit.specs.Links.{FilesAsk, ImageIs, InputsMake, IsAskedAs, IsRam, LinkAnswers, LinkAsks, LinksTo, ReadAsks, WordsAsk, filed, files_read, inputs_in, text_in, writes_all}
+use Rattle.sdt_toolkit.specs.Links.{FilesAsk, InputsMake, IsRam, LinkAnswers, LinkAsks, LinksTo, ReadAsks, WordsAsk, filed, files_read, inputs_in, text_in, writes_all}
 use Rattle.sdt_toolkit.specs.Reads.{Reads, reads_of}
 use Rattle.sdt_toolkit.specs.Refusals.{IsLinkRefused, IsLongImage, LinkSaysWhy, RefusalsAreTrue, SaysOfAreas, SaysOfLink, SaysOfObjects, SaysOfPlaced, SaysOfText, SaysOfVeneers}
 

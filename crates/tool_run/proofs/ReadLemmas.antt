@@ -1,28 +1,20 @@
 -- An image that was read, or why not, by what the store told.
-use Rattle.std.proofs.Common.{◌≡◌, ℕ, zero, suc, ◌<◌, List, [], ◌∷◌, ◌++◌, length, Option, Some, None, Result, Ok, Err, refl, sym, ap, ◌∙◌, subst, inl, inr, ◌⊎◌, Bool, true, false, take, drop, arith, append_assoc}
+use Rattle.std.proofs.Common.{◌≡◌, ℕ, zero, suc, ◌<◌, List, [], ◌∷◌, ◌++◌, length, Option, Some, None, Result, Ok, Err, refl, sym, ap, ◌∙◌, subst, inl, inr, ◌⊎◌, take, drop, arith, append_assoc}
 use Rattle.std.specs.Prelude.{◌==◌, ◌||◌, slice_index_or}
 use Rattle.std.proofs.lemmas.List.{take-append-drop}
 use Rattle.std.proofs.lemmas.List.Quantifiers.{position-Some}
 use Rattle.sdt_fault.specs.declared.answer.Fault.{Fault}
 use Rattle.sdt_fault.specs.declared.answer.Fault.TheVariants as fault
-use Rattle.sdt_fault.specs.declared.kinds.FileKind.{FileKind}
-use Rattle.sdt_fault.specs.declared.kinds.FileKind.TheVariants as kind
 use Rattle.sdt_fault.specs.declared.refusal.Refusal.{Refusal}
-use Rattle.sdt_fault.specs.declared.refusal.Refusal.TheVariants.{BadImage, Missing}
+use Rattle.sdt_fault.specs.declared.refusal.Refusal.TheVariants.{Missing}
 use Rattle.sdt_outside.specs.Files.{Files, IsFound}
 use Rattle.chunk_file.specs.Reading.{◌>>=◌, Gives}
 use Rattle.link_model.specs.declared.images.Aif.{Aif}
-use Rattle.aif_image.specs.Checks.{Check, checks, kind_of, place_of}
-use Rattle.aif_image.specs.Reading.{aif_of, holds, judged, record_of}
+use Rattle.aif_image.specs.Reading.{holds}
 use Rattle.elf_image.specs.declared.records.Elf.{Elf}
-use Rattle.elf_image.specs.Checks as elf
-use Rattle.elf_image.specs.Reading.{elf_of}
-use Rattle.elf_image.proofs.CheckLaws.{first_failed}
 use Rattle.bin_image.specs.declared.records.MapFile.{MapFile}
-use Rattle.bin_image.specs.declared.records.MapLoad.{MapLoad}
 use Rattle.bin_image.specs.Maps.{ReadsMap}
-use Rattle.bin_image.specs.Reading.{empty_map, map_of, pieces_of, read, told as told_map}
-use Rattle.bin_image.specs.declared.reading.Stage.TheVariants.{Head}
+use Rattle.bin_image.specs.Reading.{map_of, read}
 use Rattle.run_opening.specs.declared.image.Image.{Image}
 use Rattle.tool_answers.specs.declared.inputs.InputEnd.{InputEnd}
 use Rattle.tool_answers.specs.declared.inputs.InputEnd.TheVariants as input
@@ -30,10 +22,10 @@ use Rattle.tool_answers.specs.Inputs.{AreInputs, InputsEnd, IsEnd, IsReached, fo
 use Rattle.tool_words.specs.declared.command.RunImage.TheVariants as image
 use Rattle.tool_run.specs.declared.ends.ImageEnd.{ImageEnd}
 use Rattle.tool_run.specs.declared.ends.ImageEnd.TheVariants as end
-use Rattle.tool_run.specs.Aifs.{aif_at, loaded_aif, placed_aif}
-use Rattle.tool_run.specs.Elfs.{elf_image, loaded_elf}
+use Rattle.tool_run.specs.Aifs.{aif_at}
+use Rattle.tool_run.specs.Elfs.{elf_image}
 use Rattle.tool_run.specs.Ends.{IsMissing, Reads, fault_end, input_end, named_by}
-use Rattle.tool_run.specs.Images.{IsGiven, IsInput, IsLost, IsRead, SomeLoads, SomeMapped, all_named, files_in, front_of, has_zero, lengths_judged, loaded_image, map_image, mapped_image, unnamed}
+use Rattle.tool_run.specs.Images.{IsGiven, IsInput, IsRead, SomeLoads, SomeMapped, all_named, files_in, front_of, has_zero, loaded_image, mapped_image, unnamed}
 
 -- ---- one file
 
