@@ -21,7 +21,7 @@ use Rattle.tool_run.specs.Images.{IsRead, image_of}
 use Rattle.tool_run.specs.Runs.{IsRefusal, RunAnswers, RunSays}
 use Rattle.sdt_toolkit.specs.Commands.{Commanded, Ends, FirstOf, IsFirst, RefusesWords}
 use Rattle.sdt_toolkit.specs.Exact.{Exact, IsAccepted, IsCalm, IsRefusedBy}
-use Rattle.sdt_toolkit.specs.Links.{LinkAnswers, OneLinkAsked, WordsAsk}
+use Rattle.sdt_toolkit.specs.Links.{LinkAnswers, OneLinkAsked, WordsAsk, files_read}
 use Rattle.sdt_toolkit.specs.Reads.{reads_of}
 use Rattle.sdt_toolkit.specs.Sources.{AssemblyAnswers, OneAsked, SourceAsks}
 use Rattle.sdt_toolkit.proofs.EndsLemmas.{ends_of}
@@ -77,8 +77,8 @@ module _ (o : Outside) (files : Files) (told : o.before ≡ Some files) (calm : 
 
   link_refused : OneLinkAsked → (sources : Bool) (w : LinkWords) (a : Answer) → LinkAnswers sources w o a → WordsAsk (reads_of o) sources w (Err r) → IsRefusedBy r a
   unfolding LinkAnswers
-  link_refused law sources w answer.Done h first = says_refused h.0 _ o r calm (law (reads_of o) sources w files h.0 (Err r) told h.1 first) answer.Done h.2
-  link_refused law sources w (answer.Refused q) h first = says_refused h.0 _ o r calm (law (reads_of o) sources w files h.0 (Err r) told h.1 first) (answer.Refused q) h.2
+  link_refused law sources w answer.Done h first = says_refused h.0 (files_read w) o r calm (law (reads_of o) sources w files h.0 (Err r) told h.1 first) answer.Done h.2
+  link_refused law sources w (answer.Refused q) h first = says_refused h.0 (files_read w) o r calm (law (reads_of o) sources w files h.0 (Err r) told h.1 first) (answer.Refused q) h.2
   link_refused law sources w (answer.ReadFault q) h first = absurd (calm.reads h.0)
   link_refused law sources w (answer.WriteFault q) h first = absurd (calm.writes h.2.0)
   link_refused law sources w answer.SinkFault h first = absurd (calm.sink h.2.0)
