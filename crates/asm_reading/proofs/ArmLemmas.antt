@@ -28,7 +28,7 @@ use Rattle.asm_arm.specs.declared.addresses.Offset.{Offset}
 use Rattle.asm_arm.specs.declared.addresses.Offset.TheVariants as offset_is
 use Rattle.asm_arm.specs.declared.addresses.Addressed.{Addressed}
 use Rattle.asm_arm.specs.Addresses.{base, before_as, after_as, half_offset}
-use Rattle.asm_arm.specs.Lines.{hash, equals, bracket, data_line, absent, ReadsData, ReadsMove, ReadsComparison, ReadsSum, ReadsShape, multiply, multiply_long, based, swap, exchange, read_status, ReadsStatusValue, ReadsWriteStatus, moved, transfer_line, is_plain, ReadsConstant, ReadsLabel, transferred, ReadsOther, ReadsPlace, ReadsMoved, ReadsTransfer, half_line, half_moved, ReadsHalf, block_line, block, numbered, address_line, ReadsAddress, idle, ReadsWord, Reads}
+use Rattle.asm_arm.specs.Lines.{hash, equals, bracket, data_line, absent, ReadsData, ReadsMove, ReadsComparison, ReadsSum, ReadsShape, multiply, multiply_long, based, swap, exchange, read_status, ReadsStatusValue, ReadsWriteStatus, moved, transfer_line, is_plain, ReadsConstant, ReadsLabel, transferred, ReadsOther, ReadsPlace, ReadsMoved, ReadsTransfer, half_line, half_moved, ReadsHalf, block_line, block, without_hash, address_line, ReadsAddress, idle, ReadsWord, Reads}
 use Rattle.asm_arm.specs.Lists as lists
 use Rattle.asm_arm.specs.Operands.{Cuts, one, two, three, four, cut, both, without_first, no_register, register, two_registers, three_registers}
 use Rattle.asm_arm.specs.Words.{shape_of}
@@ -270,9 +270,9 @@ address_said text c long os r f h = fault Syntax r h
 
 -- ---- all forms
 
-pub numbered_form : (text : List ℕ) (ts : List Token) (o : Option (List Token)) → EachHasForm text ts → SomeHaveForm text o → EachHasForm text (numbered ts o)
-numbered_form text ts (Some e) f g = g
-numbered_form text ts None f g = f
+pub without_hash_form : (text : List ℕ) (ts : List Token) (o : Option (List Token)) → EachHasForm text ts → SomeHaveForm text o → EachHasForm text (without_hash ts o)
+without_hash_form text ts (Some e) f g = g
+without_hash_form text ts None f g = f
 
 word_said : (text : List ℕ) (m : Mnemonic) (c : Condition) (ts : List Token) (r : Result What LineKind) → EachHasForm text ts → ReadsWord text m c ts r → Said r
 word_said text m c ts r f = by_word m
@@ -295,8 +295,8 @@ word_said text m c ts r f = by_word m
     by_word (mnemonic.Branch l) h = expression_gives InstructionSaid text (λ e. what.Arm (line.Branch c l e)) ts r f h (λ e p. p)
     by_word mnemonic.SoftwareInterrupt h =
         let number = without_first text hash ts in
-        expression_gives InstructionSaid text (λ e. what.Arm (line.SoftwareInterrupt c e)) (numbered ts number) r
-        (numbered_form text ts number f (without_first_form text hash ts f)) h (λ e p. p)
+        expression_gives InstructionSaid text (λ e. what.Arm (line.SoftwareInterrupt c e)) (without_hash ts number) r
+        (without_hash_form text ts number f (without_first_form text hash ts f)) h (λ e p. p)
     by_word mnemonic.Address h = address_said text c false os r (cuts_form text ts f) h
     by_word mnemonic.LongAddress h = address_said text c true os r (cuts_form text ts f) h
     by_word mnemonic.NoOperation h = equal_gives InstructionSaid r (idle ts) h (idle_in false ts)

@@ -21,7 +21,7 @@ use Rattle.asm_model.specs.declared.thumb_lines.ThumbLine.TheVariants as line
 use Rattle.asm_model.specs.Operands.{operands}
 use Rattle.asm_model.specs.Says.{mapped}
 use Rattle.asm_arm.specs.Addresses.{zero}
-use Rattle.asm_arm.specs.Lines.{hash, equals, bracket, numbered, idle}
+use Rattle.asm_arm.specs.Lines.{hash, equals, bracket, without_hash, idle}
 use Rattle.asm_arm.specs.Lists as lists
 use Rattle.asm_arm.specs.Operands.{Cuts, one, two, three, cut, between, followed, marked, without_first, no_register, register, two_registers, three_registers}
 use Rattle.asm_thumb.specs.declared.frames.Frame.{Frame}
@@ -34,7 +34,7 @@ use Rattle.asm_thumb.specs.Lines.{push_pop, multiple, exchange, ReadsAddress, Re
 use Rattle.asm_thumb.specs.Operands.{is_sp, is_pc, may_be_high, unmarked, register_list, written, written_base}
 use Rattle.asm_thumb.specs.Transfers.{is_word, number_frame, based, register_line, ReadsOffset, ReadsInside, cuts_of, bracketed, ReadsBracketed, ReadsLoaded, ReadsPlace, ReadsTransfer, signed_inside, signed_transfer}
 use Rattle.said_model.specs.Said.{IsRead, RegisterSaid, AllItemsSaid, IsConditional}
-use Rattle.asm_reading.proofs.ArmLemmas.{numbered_form}
+use Rattle.asm_reading.proofs.ArmLemmas.{without_hash_form}
 use Rattle.asm_reading.proofs.ExpressionLemmas.{zero_read, with_expression}
 use Rattle.asm_reading.proofs.FormLemmas.{CutsHaveForm, SomeHaveForm, cuts_form, without_first_form, between_form}
 use Rattle.asm_reading.proofs.GivesLemmas.{Gives, OptionGives, equal_gives, fault_gives, mapped_gives, followed_gives, both_give, cond_gives}
@@ -308,7 +308,7 @@ word_reads text m ts r k f = by_word m k
     by_word mnemonic.BranchExchange k h = equal_gives InThumb r (exchange text os) h (exchange_said text os)
     by_word mnemonic.SoftwareInterrupt k h =
         let number = without_first text hash ts in
-        with_said text (Ok frame.SoftwareInterrupt) (numbered ts number) r tt (numbered_form text ts number f (without_first_form text hash ts f)) h
+        with_said text (Ok frame.SoftwareInterrupt) (without_hash ts number) r tt (without_hash_form text ts number f (without_first_form text hash ts f)) h
     by_word mnemonic.Address k h = address_reads text os r (cuts_form text ts f) h
     by_word mnemonic.NoOperation k h = equal_gives InThumb r (idle ts) h (idle_in true ts)
     by_word mnemonic.FloatingPoint k h = fault FloatingPoint r h

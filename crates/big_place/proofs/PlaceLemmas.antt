@@ -16,10 +16,10 @@ areas_are_assigned home n name = (refl, refl)
 
 -- ---- sizes
 
-code_size : (home : List ℕ) (n words : ℕ) → extent 0 0 (AnArea (code_item home n) ∷ Startup words ∷ []) ≡ 4 * n + (180 + 4 * words)
+pub code_size : (home : List ℕ) (n words : ℕ) → extent 0 0 (AnArea (code_item home n) ∷ Startup words ∷ []) ≡ 4 * n + (180 + 4 * words)
 code_size home n words = omega arith
 
-data_size : (home : List ℕ) (n : ℕ) → extent 0 8388608 (AnArea (data_item home n) ∷ []) ≡ 4 * n
+pub data_size : (home : List ℕ) (n : ℕ) → extent 0 8388608 (AnArea (data_item home n) ∷ []) ≡ 4 * n
 data_size home n = omega arith
 
 -- ---- the table
@@ -35,7 +35,7 @@ room home n words some few small =
     let some_bytes : nat_lt 0 (extent 0 8388608 (AnArea (data_item home n) ∷ [])) ≡ true = (let d = data_size home n in lt-ltb _ _ (omega arith)) in
     rw (load, some_bytes) refl
 
-table_is : (home : List ℕ) (n : ℕ) → 1 ≤ n → n ≤ 50000 → table_words big_kind (big_contents home n) ≡ 9
+pub table_is : (home : List ℕ) (n : ℕ) → 1 ≤ n → n ≤ 50000 → table_words big_kind (big_contents home n) ≡ 9
 table_is home n some few = same_first (suffices big_kind (big_contents home n)) (λ w. nat_le 9 w) 0 16 (λ i l. room home n i some few (omega arith))
 
 pub plan_has_no_fault : PlanHasNoFault

@@ -7,7 +7,7 @@ use Rattle.sdt_word.specs.declared.ranges.Range32.{Range32}
 use Rattle.aof_object.specs.declared.records.Object.{Object}
 use Rattle.arm7_model.specs.Memory.{store}
 use Rattle.arm7_model.proofs.MemoryLemmas.{store-below, store-in}
-use Rattle.boot_code.specs.Aif.{BootsAif, IsFixedLoadable, ShowsImage, aif_bound, file_at, shifted_file}
+use Rattle.boot_code.specs.Aif.{BootsAif, IsFixedLoadable, IsRelocatable, ShowsImage, aif_bound, file_at, shifted_file}
 use Rattle.boot_code.specs.Boots.{ByteMap, Boots, covers, zeroed}
 use Rattle.boot_code.specs.Startup.{zeros}
 use Rattle.boot_code.proofs.ViewLemmas.{covers-false, covers-inside, covers-true, get_or-zeros, length-zeros}
@@ -33,6 +33,7 @@ use Rattle.link_model.specs.Veneers.{veneers_of}
 use Rattle.link_model.specs.RegionNames.{names_of_plain}
 use Rattle.link_select.specs.Laws.{HaveMeanings}
 use Rattle.link_items.specs.LinkedItems.{items_in}
+use Rattle.link_apply.specs.Placed.{called}
 use Rattle.link_place.specs.Placed.{placement_of}
 use Rattle.link_values.specs.Shifts.{not_relocatable, shifts_of}
 use Rattle.link_shifts.specs.Moves.{moves_of}
@@ -43,7 +44,7 @@ use Rattle.link_laws.specs.Joins.{IsMade}
 use Rattle.link_laws.specs.Placing.{link_plan}
 use Rattle.link_laws.specs.Plans.{AreMeant, AreSeenBy, IsSelection, entry_by}
 use Rattle.link_laws.proofs.Aif.Entry.{calls}
-use Rattle.link_laws.proofs.Aif.Starts.{becomes_there, entry_moves, size_there, made_fixed_boots, made_has_parts, made_is_aif, made_is_seen, made_moving_boots, moved_is_seen}
+use Rattle.link_laws.proofs.Aif.Starts.{becomes_there, entry_moves, relocator_there, size_there, made_fixed_boots, made_has_parts, made_is_aif, made_is_seen, made_moving_boots, moved_is_seen}
 use Rattle.link_laws.proofs.Made.PlacedLemmas.{are_needed, made_is_placed}
 use Rattle.link_laws.proofs.Plans.Numbers.{plain_numbered}
 use Rattle.link_laws.proofs.Plans.Seen.{entry_whole, views_are_seen}
@@ -213,6 +214,7 @@ module _ (base : ℕ) (ram : Option (List Range32)) (l : Linked) (a : Assigned) 
     placed = made_is_placed (kind.Aif base false) ram l a vs fixed_own h;
     needed = is_needed base false ram l a vs [] h;
     told = record {
+      form = refl;
       names = loads_named 0 fixed_own.regions (regions_bytes (link_of l) fixed_own) (description (kind.Aif base false));
       regions = refl;
       start = refl;
@@ -300,6 +302,14 @@ module _ (base : ℕ) (ram : Option (List Range32)) (l : Linked) (a : Assigned) 
         ap length same_file ∙ size_there base ram l a vs moving_own h movable to has_room
         ∙ ap (λ (ms : List ℕ). plan.parts_size moved_plan + 60 + 4 * length ms + 4) (sym same_moves)
 
+    abbrev Relocates : List ℕ → List ℕ → Type 0
+    Relocates f ms = IsRelocatable (shifted_file f to) to (plan.parts_size moved_plan) (plan.zero_size moved_plan) base (called l.entry.thumb l moving_own - base) ms
+
+    relocates : Relocates (aif_file moving_image) (moves_of l moving_own)
+    relocates =
+        subst (Relocates (aif_file moving_image)) (sym same_moves)
+        (subst (λ (f : List ℕ). Relocates f (offsets_of (shifts_of (link_of l) moving_own) moving_plan)) (sym same_file) (relocator_there base ram l a vs moving_own h movable to has_room))
+
     entry_there : to + (entry_at l moving_own - base) ≡ entry_by moved_plan l
     entry_there =
         sym (entry_moves base ram l a vs moving_own h movable to has_room)
@@ -318,6 +328,7 @@ module _ (base : ℕ) (ram : Option (List Range32)) (l : Linked) (a : Assigned) 
     placed = made_is_placed (kind.Aif base true) ram l a vs moving_own h;
     needed = is_needed base true ram l a vs (moves_of l moving_own) h;
     told = record {
+      form = refl;
       names = loads_named 0 moving_own.regions (regions_bytes (link_of l) moving_own) (description (kind.Aif base true));
       regions = refl;
       start = refl;
@@ -326,7 +337,7 @@ module _ (base : ℕ) (ram : Option (List Range32)) (l : Linked) (a : Assigned) 
       moves = same_moves;
     };
     seen = λ to fits. seen_there to fits meanings;
-    files = λ to fits. record { size = moving_size to fits; becomes = becomes to fits };
+    files = λ to fits. record { size = moving_size to fits; image = relocates to fits; becomes = becomes to fits };
     entry = entry_there;
     reaches = moving_boots;
   }

@@ -40,7 +40,7 @@ use Rattle.sdt_toolkit.specs.Containers.{FilesHold, IsBinaryFile, IsElfFile, IsM
 use Rattle.sdt_toolkit.specs.Links.{AreCounted, IsAskedAs, filed, image_files, is_long, one_file, too_large, unless_long}
 use Rattle.sdt_toolkit.specs.Plans.{IsPlacedAs, plan_at}
 use Rattle.sdt_toolkit.specs.RunImages.{CanRun}
-use Rattle.sdt_toolkit.specs.Starting.{Reaches, segments_of, written_in}
+use Rattle.sdt_toolkit.specs.Starting.{ReachesEntry, segments_of, written_in}
 
 -- ---- the load regions of a plan
 
@@ -147,7 +147,7 @@ first_short out bytes h = leb-false (2 ^ 32) (length bytes) (alone (nat_le (2 ^ 
 elf_short : (out : List ℕ) (i : Image) → list_any is_long (image_files container.Elf out i) ≡ false → file_size i.loads < 2 ^ 32
 elf_short out i h = let size = file_length i in let short = first_short out (elf_file i) h in omega (arith, size, short)
 
-scatter_elf : (s : Scatter) (i : Image) (views : ℕ → ByteMap) → Reaches (kind.Scatter s) i views → length i.loads < 2 ^ 16 → file_size i.loads < 2 ^ 32
+scatter_elf : (s : Scatter) (i : Image) (views : ℕ → ByteMap) → ReachesEntry (kind.Scatter s) i views → length i.loads < 2 ^ 16 → file_size i.loads < 2 ^ 32
     → IsElfFile i (views i.start) (elf_file i)
 scatter_elf s i views reaches counted sized =
     let can : CanRun i (views i.start) = reaches.1 in

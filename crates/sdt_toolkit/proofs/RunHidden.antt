@@ -54,7 +54,7 @@ use Rattle.sdt_toolkit.specs.Interrupts.{HidesInterrupts, InterruptsAreHidden, I
 use Rattle.sdt_toolkit.specs.Links.{IsAskedAs, image_files, outputs, text_in}
 use Rattle.sdt_toolkit.specs.RunImages.{is_needed, needs_of, run_image}
 use Rattle.sdt_toolkit.specs.Runs.{FilesAreRead}
-use Rattle.sdt_toolkit.specs.Starting.{FitsAt, Reaches, written_in}
+use Rattle.sdt_toolkit.specs.Starting.{FitsAt, ReachesEntry, written_in}
 use Rattle.sdt_toolkit.proofs.RunLinked.{stand}
 use Rattle.sdt_toolkit.proofs.RunNeeds.{needed_page}
 use Rattle.sdt_toolkit.proofs.RunOpened.{IsOpened, Reaches as Ways, bank_there, opened, ready, valid}
@@ -196,7 +196,7 @@ module _ (law : StartedExitsAlike) (i : Image) (view : ByteMap) (banks : List Ba
             stores = ran.opening.stores;
             devices = ap silenced ran.opening.devices;
           };
-          is_run = record { core = run.core; reset = run.reset; made = made; core' = core; end = end; runs = (text, (silent, ended.1)); devices = refl {a = end.devices} };
+          is_run = record { core = run.core; reset = run.reset; made = made; few = (let most_made = run.few in omega (arith, fewer, most_made)); core' = core; end = end; runs = (text, (silent, ended.1)); devices = refl {a = end.devices} };
         },
       )
 
@@ -209,7 +209,7 @@ pub interrupts_are_hidden : FilesAreRead → StartedExitsAlike → InterruptsAre
 interrupts_are_hidden files_law law r o seats left answers sources w description before after i views work ack is_scatter are_loads line some link force told by_map has may =
     let asked : IsAskedAs (placement.Scatter description) (text_in w.placement link.contents) w.ram link.shape link.ram =
     subst (λ (p : LinkPlacement). IsAskedAs p (text_in w.placement link.contents) w.ram link.shape link.ram) is_scatter link.asked in
-    let (boots, can) : Reaches (kind.Scatter asked.0) i views = subst (λ (k : Kind). Reaches k i views) asked.2 link.placed.reaches in
+    let (boots, can) : ReachesEntry (kind.Scatter asked.0) i views = subst (λ (k : Kind). ReachesEntry k i views) asked.2 link.placed.reaches in
     let fits : FitsAt link.shape i i.start = subst (λ (k : Kind). FitsAt k i i.start) (sym asked.2) refl in
     let by = (link.placed.seen i.start fits).objects force.own force.object force.there in
     let seen = kit_seen ack work _ link.placed.link (views i.start) force by in

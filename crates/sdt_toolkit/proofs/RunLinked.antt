@@ -20,7 +20,7 @@ use Rattle.tool_words.specs.declared.command.LinkPlacement.TheVariants as placem
 use Rattle.sdt_toolkit.specs.Links.{IsAskedAs, image_files, outputs, text_in}
 use Rattle.sdt_toolkit.specs.RunImages.{HasFiles}
 use Rattle.sdt_toolkit.specs.Runs.{CommandsStart, LinkedRunsStart}
-use Rattle.sdt_toolkit.specs.Starting.{Reaches, written_in}
+use Rattle.sdt_toolkit.specs.Starting.{ReachesEntry, written_in}
 
 -- ---- files that are written
 
@@ -59,7 +59,7 @@ pub linked_runs_start : CommandsStart → LinkedRunsStart
 linked_runs_start law sources w description before after i views r o seats left a is_scatter are_loads line some link told by_map allow answers =
     let asked : IsAskedAs (placement.Scatter description) (text_in w.placement link.contents) w.ram link.shape link.ram =
     subst (λ (p : LinkPlacement). IsAskedAs p (text_in w.placement link.contents) w.ram link.shape link.ram) is_scatter link.asked in
-    let (boots, can) : Reaches (kind.Scatter asked.0) i views = subst (λ (k : Kind). Reaches k i views) asked.2 link.placed.reaches in
+    let (boots, can) : ReachesEntry (kind.Scatter asked.0) i views = subst (λ (k : Kind). ReachesEntry k i views) asked.2 link.placed.reaches in
     let files : Files = written before (outputs (load_files i w.output)) in
     let are : o.before ≡ Some files = told ∙ link.left ∙ ap (λ (c : Container). Some (written before (outputs (image_files c w.output i)))) are_loads in
     law i (views i.start) (written_in i) w.output files r o seats left a boots can line some (stand before (load_files i w.output) (can.named w.output)) are by_map allow answers

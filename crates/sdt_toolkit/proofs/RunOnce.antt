@@ -167,7 +167,7 @@ all_whole [] [] a b = ((refl, refl), tt)
 all_whole [] (r ∷ rom) a b = both_whole [] (r ∷ rom) a b
 all_whole (m ∷ memory) rom a b = both_whole (m ∷ memory) rom a b
 
-banks_whole : (words : List (List ℕ)) (w : RunWords) (banks : List MemoryBank) → command_of words ≡ Ok (command.Run w) → AreBanks w banks → AreWholeBanks banks
+pub banks_whole : (words : List (List ℕ)) (w : RunWords) (banks : List MemoryBank) → command_of words ≡ Ok (command.Run w) → AreBanks w banks → AreWholeBanks banks
 banks_whole words w banks h are =
     let (placed, memory, rom) = good_command words (command.Run w) h in
     subst AreWholeBanks (sym are.banks_are) (all_whole are.memory are.rom (told_whole w.memory are.memory are.memory_told memory) (told_whole w.rom are.rom are.rom_told rom))
@@ -341,6 +341,11 @@ decided w read o seats left (answer.WriteFault name) d h = absurd d
 decided w read o seats left answer.SinkFault d h = absurd d
 decided w read o seats left answer.NoMemory d h = absurd d
 
+pub refusal_once : (w : RunWords) (seats : List Seat) (p q : Refusal) (read : Result Image Refusal) → IsRefusal w read seats p → IsRefusal w read seats q → p ≡ q
+refusal_once w seats p q (Err told) h k = h ∙ sym k
+refusal_once w seats p q (Ok i) (banks, are, h) (others, are', k) =
+    defect_once banks seats i.needs p q h (subst (λ (bs : List MemoryBank). IsDefect bs seats i.needs q) (banks_once w others banks are' are) k)
+
 module _ (law : BusRunIsOne) (w : RunWords) (whole : (banks : List MemoryBank) → AreBanks w banks → AreWholeBanks banks) (seats : List Seat) (placed : AreWholeSeats seats)
     (printed : List ℕ) (files : Files) (read : Result Image Refusal) (bytes : (i : Image) → read ≡ Ok i → OfBytes i.loads) (o p : Outside) (left left' : List Seat) (a b : Answer)
     (before : o.before ≡ Some files) (before' : p.before ≡ Some files) (sink : o.printed ≡ Some printed) (sink' : p.printed ≡ Some printed) where
@@ -362,23 +367,21 @@ module _ (law : BusRunIsOne) (w : RunWords) (whole : (banks : List MemoryBank) �
 
   refused : IsRefused w read o seats left a → IsRefused w read p seats left' b → Alike
   refused x y = (
-    x.is ∙ ap answer.Refused (go read x.says y.says) ∙ sym y.is,
+    x.is ∙ ap answer.Refused (refusal_once w seats x.refusal y.refusal read x.says y.says) ∙ sym y.is,
     x.untouched.devices ∙ sym y.untouched.devices,
     x.untouched.outside.sink ∙ sink ∙ sym (y.untouched.outside.sink ∙ sink'),
     x.untouched.outside.files ∙ before ∙ sym (y.untouched.outside.files ∙ before'),
   )
-    where
-      go : (r : Result Image Refusal) → IsRefusal w r seats x.refusal → IsRefusal w r seats y.refusal → x.refusal ≡ y.refusal
-      go (Err told) h k = h ∙ sym k
-      go (Ok i) (banks, are, h) (others, are', k) =
-          defect_once banks seats i.needs x.refusal y.refusal h
-          (subst (λ (bs : List MemoryBank). IsDefect bs seats i.needs y.refusal) (banks_once w others banks are' are) k)
+
+-- what was run has no defect
+pub no_refusal : (w : RunWords) (read : Result Image Refusal) (o : Outside) (seats left : List Seat) (why : Stop) (r : Refusal) → HasRun w read why o seats left → IsRefusal w read seats r → ⊥
+no_refusal w read o seats left why r run refusal =
+    let (banks, are, h) = subst (λ (x : Result Image Refusal). IsRefusal w x seats r) run.read_so refusal in
+    let here = subst (λ (bs : List MemoryBank). IsDefect bs seats run.image.needs r) (banks_once w banks run.banks are run.are_banks) h in
+    no_defect run.banks seats run.image.needs r run.ran.roomy (kinds run.banks seats run.image.needs r here)
 
 not_both : (w : RunWords) (read : Result Image Refusal) (o p : Outside) (seats left left' : List Seat) (a b : Answer) → HasEnded w read o seats left a → IsRefused w read p seats left' b → ⊥
-not_both w read o p seats left left' a b x y =
-    let (banks, are, h) = subst (λ (r : Result Image Refusal). IsRefusal w r seats y.refusal) x.run.read_so y.says in
-    let here = subst (λ (bs : List MemoryBank). IsDefect bs seats x.run.image.needs y.refusal) (banks_once w banks x.run.banks are x.run.are_banks) h in
-    no_defect x.run.banks seats x.run.image.needs y.refusal x.run.ran.roomy (kinds x.run.banks seats x.run.image.needs y.refusal here)
+not_both w read o p seats left left' a b x y = no_refusal w read o seats left x.why y.refusal x.run y.says
 
 pub one_run : BusRunIsOne → OneRun
 one_run law words w files printed o p seats left left' a b asked hold placed before before' sink sink' x y d e =

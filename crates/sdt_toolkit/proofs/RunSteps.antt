@@ -39,7 +39,7 @@ sink_cut (stop.BadString a) e = absurd (let bad : false ≡ true = e in cc)
 sink_cut (stop.NoFrame a) e = absurd (let bad : false ≡ true = e in cc)
 sink_cut stop.Sink e = tt
 
-sink_made : (why : Stop) (made : ℕ) → is_sink why ≡ true → steps_made stop.Budget made ≡ steps_made why made
+pub sink_made : (why : Stop) (made : ℕ) → is_sink why ≡ true → steps_made stop.Budget made ≡ steps_made why made
 sink_made stop.Exit made e = refl
 sink_made stop.Budget made e = refl
 sink_made (stop.Unpredictable a w) made e = absurd (let bad : false ≡ true = e in cc)

@@ -251,6 +251,7 @@ module _ (s : Scatter) (ram : Option (List Range32)) (l : Linked) (a : Assigned)
         placed = is_placed k ram l a vs h chosen refl;
         needed = is_needed k ram l a vs h chosen refl;
         told = record {
+          form = refl;
           names = loads_named 0 its_own.regions (regions_bytes (link_of l) its_own) (description k);
           regions = refl;
           start = there ∙ ap Some (sym start);
@@ -320,6 +321,7 @@ module _ (base : ℕ) (ram : Option (List Range32)) (l : Linked) (a : Assigned) 
         placed = is_placed k ram l a vs h chosen refl;
         needed = is_needed k ram l a vs h chosen refl;
         told = record {
+          form = refl;
           names = loads_named 0 (placement_of plain_plan).regions (regions_bytes (link_of l) (placement_of plain_plan)) (description k);
           regions = refl;
           start = refl;

@@ -1,14 +1,19 @@
 -- What `build` makes of sources is what `link` makes of the object files that `asm` makes of them. This project's.
-use Rattle.std.specs.Prelude.{◌≡◌, ◌↔◌, ℕ, Bool, true, false, if◌then◌else◌, List, map, Some, Ok}
+use Rattle.std.specs.Prelude.{◌≡◌, ◌↔◌, ℕ, Bool, true, false, if◌then◌else◌, List, map, Some, Result, Ok}
 use Rattle.std.specs.List.{AllByRecursion}
+use Rattle.sdt_fault.specs.declared.answer.Answer.{Answer}
+use Rattle.sdt_fault.specs.declared.answer.Answer.TheVariants as answer
 use Rattle.sdt_outside.specs.Files.{Files, content}
 use Rattle.aof_object.specs.declared.records.Object.{Object}
 use Rattle.aof_object.specs.Spelling.{written}
 use Rattle.armasm_core.specs.Assembling.{AssembledFrom}
+use Rattle.tool_words.specs.declared.command.Command.{Command}
+use Rattle.tool_words.specs.declared.command.Command.TheVariants as command
 use Rattle.tool_words.specs.declared.command.LinkPlacement.{LinkPlacement}
 use Rattle.tool_words.specs.declared.command.LinkPlacement.TheVariants as placement
 use Rattle.tool_words.specs.declared.command.LinkWords.{LinkWords}
-use Rattle.tool_answers.specs.Outcomes.{Outcome}
+use Rattle.tool_answers.specs.Outcomes.{AreWritten, Outcome, Outside}
+use Rattle.sdt_toolkit.specs.Exact.{IsAccepted, IsCalm}
 use Rattle.sdt_toolkit.specs.Inputs.{is_source_name, object_name}
 use Rattle.sdt_toolkit.specs.Links.{WordsAsk}
 use Rattle.sdt_toolkit.specs.Reads.{Reads}
@@ -75,3 +80,16 @@ BuildsAreLinks =
     (s t : Reads) (files others : Files) (w : LinkWords) (o : Outcome)
     → s.told ≡ Some files → t.told ≡ Some others → HasObjects files others w
     → (WordsAsk s true w (Ok o)) ↔ (WordsAsk t false (link_words w) (Ok o))
+
+-- ---- the clause of the top call
+
+-- Beside the files that a build reads are others, with what `asm` writes of each source. Where the build is done, the link of the
+-- objects asks for the same files; and where that link asks for files, the build is accepted, if nothing fails.
+pub record IsLinkOfObjects (w : LinkWords) (o : Outside) (files : Files) (a : Answer) : Type 0 where
+  pub done : a ≡ answer.Done → (t : Reads) (others : Files) → t.told ≡ Some others → HasObjects files others w
+      → (out : Outcome) × WordsAsk t false (link_words w) (Ok out) × AreWritten o.before o.after out.files
+  pub accepted : IsCalm o → (t : Reads) (others : Files) → t.told ≡ Some others → HasObjects files others w
+      → (out : Outcome) → WordsAsk t false (link_words w) (Ok out) → IsAccepted a
+
+abbrev pub BuildsAsLinked : Result Command ℕ → Outside → Answer → Type 0
+BuildsAsLinked asked o a = (w : LinkWords) (files : Files) → asked ≡ Ok (command.Build w) → o.before ≡ Some files → IsLinkOfObjects w o files a

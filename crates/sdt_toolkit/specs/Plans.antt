@@ -1,11 +1,11 @@
 -- One plan for all that a link leaves: the linked objects stand by it, and of it are the view, the files, the values of names
 -- and the entry. Of an ARM image file that can be moved there is a plan at each address that leaves room, with the same regions
 -- there (SDT 2.50 Reference Guide, armlink and scatter loading; ARM Image Format; the startup code is this project's).
-use Rattle.std.specs.Prelude.{◌≡◌, ℕ, ◌+◌, ◌*◌, ◌%◌, true, false, List, [], ◌∷◌, length, map, Option, Some, Ok}
+use Rattle.std.specs.Prelude.{◌≡◌, ℕ, ◌+◌, ◌-◌, ◌*◌, ◌%◌, true, false, List, [], ◌∷◌, length, map, Option, Some, Ok}
 use Rattle.sdt_word.specs.declared.ranges.Range32.{Range32}
 use Rattle.aof_object.specs.declared.records.Object.{Object}
 use Rattle.boot_code.specs.declared.rows.ZeroRow.{ZeroRow}
-use Rattle.boot_code.specs.Aif.{ShowsImage, aif_bound, file_at}
+use Rattle.boot_code.specs.Aif.{IsRelocatable, ShowsImage, aif_bound, file_at, shifted_file}
 use Rattle.boot_code.specs.Boots.{ByteMap, moved, zeroed}
 use Rattle.boot_code.specs.Laws.{bound_of}
 use Rattle.boot_code.specs.Maps.{map_of}
@@ -31,8 +31,8 @@ use Rattle.link_values.specs.Shifts.{shifts_of}
 use Rattle.link_laws.specs.Joins.{IsMade}
 use Rattle.link_laws.specs.Placing.{IsPlacedLink, link_plan}
 use Rattle.link_laws.specs.Plans.{AreSeenBy, IsSelection, entry_by}
-use Rattle.armlink_core.specs.Images.{linking}
-use Rattle.sdt_toolkit.specs.Starting.{AreSound, FitsAt, Reaches, entry_at, kind_at, segments_of}
+use Rattle.armlink_core.specs.Images.{form_of, linking}
+use Rattle.sdt_toolkit.specs.Starting.{AreSound, FitsAt, ReachesEntry, entry_at, kind_at, segments_of}
 
 -- ---- the files
 
@@ -57,10 +57,11 @@ pub record IsFixedFile (base : ℕ) (plan : Plan) (i : Image) (view : ByteMap) :
   pub size : length (aif_file i) ≡ parts_size plan
   pub cleared : (x : ℕ) → zeroed (Some 0) (file_at (aif_file i) base) (zero_part base plan ∷ []) x ≡ view x
 
--- one that can be moved has the relocator's 15 words behind its parts, its list, and a word that ends it, and becomes the view at
--- each address, with the words of its list shifted
+-- one that can be moved has its header, the relocator's 15 words behind its parts, its list, and a word that ends it, wherever it
+-- lies, and becomes the view at each address, with the words of its list shifted
 pub record IsMovingFile (base : ℕ) (plan : Plan) (i : Image) (view : ByteMap) : Type 0 where
   pub size : length (aif_file i) ≡ parts_size plan + 60 + 4 * length i.moves + 4
+  pub image : IsRelocatable (shifted_file (aif_file i) base) base (parts_size plan) (zero_size plan) i.start (i.call - i.start) i.moves
   pub becomes : ShowsImage (aif_file i) (parts_size plan) (zero_size plan) i.start i.moves base view
 
 abbrev pub AreFiles : Kind → Plan → Image → ByteMap → Type 0
@@ -88,9 +89,10 @@ abbrev pub moves_by : Kind → Plan → Linked → List ℕ
 moves_by (kind.Aif base true) plan l = offsets_of (shifts_of (link_of l) (placement_of plan)) plan
 moves_by other plan l = []
 
--- what the image tells of itself is the plan's: its regions, its start, its bound and its list; and its load regions have the
--- names of the description, in its order
+-- what the image tells of itself is the plan's: its kind, its regions, its start, its bound and its list; and its load regions have
+-- the names of the description, in its order
 pub record IsTold (k : Kind) (plan : Plan) (l : Linked) (i : Image) : Type 0 where
+  pub form : i.kind ≡ form_of k
   pub names : map (λ load. load.name) i.loads ≡ map (λ load. load.name) (description k)
   pub regions : i.regions ≡ (placement_of plan).regions
   pub start : StartsAt k plan i.start
@@ -120,7 +122,7 @@ pub record IsPlacedAs (k : Kind) (ram : Option (List Range32)) (os : List (Named
   pub seen : (to : ℕ) → FitsAt k i to → AreSeenBy (kind_at k to) (plan_at k link assigned veneers to) link (views to)
   pub files : (to : ℕ) → FitsAt k i to → AreFiles (kind_at k to) (plan_at k link assigned veneers to) i (views to)
   pub entry : (to : ℕ) → FitsAt k i to → entry_at k i to ≡ entry_by (plan_at k link assigned veneers to) link
-  pub reaches : Reaches k i views
+  pub reaches : ReachesEntry k i views
 
 -- ---- laws
 

@@ -13,6 +13,21 @@ pub record Reads : Type 0 where
   pub before : ℕ
   pub now : ℕ
 
+-- what a command found and left: files, what was printed, and the counts of faults
+abbrev pub outside_of : Option Files → Option Files → Option (List ℕ) → Option (List ℕ) → ℕ → ℕ → ℕ → ℕ → ℕ → ℕ → Outside
+outside_of before after printed prints reads reads_now writes writes_now faults faults_now = record {
+  before = before;
+  after = after;
+  printed = printed;
+  prints = prints;
+  reads = reads;
+  reads_now = reads_now;
+  writes = writes;
+  writes_now = writes_now;
+  faults = faults;
+  faults_now = faults_now;
+}
+
 abbrev pub reads_of : Outside → Reads
 reads_of o = record { told = o.before; before = o.reads; now = o.reads_now }
 

@@ -1,4 +1,5 @@
--- How a run of an image starts: its first steps are the startup code's, which lead to the program's entry. This project's.
+-- How a run of an image starts: its first steps are the startup code's, which lead to the program's entry; by which steps it runs,
+-- and what it leaves of devices. This project's.
 use Rattle.std.specs.Prelude.{◌≡◌, ℕ, ◌+◌, ◌≤◌, Bool, true, false, if◌then◌else◌, List, [], ◌++◌, length, take, Option, Some, Result, Ok}
 use Rattle.sdt_word.specs.Numbers.{flag}
 use Rattle.sdt_fault.specs.declared.answer.Answer.{Answer}
@@ -18,7 +19,7 @@ use Rattle.arm7_bus.specs.States.{State, protected_at}
 use Rattle.arm7_bus.specs.WholeWords.{AreWholeBanks, AreWholeSeats}
 use Rattle.arm7_transfers.specs.Boards.{board_of, over}
 use Rattle.arm7_run.specs.Runs.{is_sink}
-use Rattle.run_laws.specs.Devices.{AreOffDevices, lines_for, touches_of}
+use Rattle.run_laws.specs.Devices.{AreOffDevices, lines_for, ticked_for, touches_of}
 use Rattle.run_laws.specs.Steps.{AreMade, steps_made}
 use Rattle.run_opening.specs.declared.image.Image.{Image as RunImage}
 use Rattle.boot_code.specs.Boots.{BootSteps, Boots, ByteMap}
@@ -28,6 +29,7 @@ use Rattle.chunk_file.specs.Grammar.{AreBytes}
 use Rattle.bin_image.specs.Fields.{lacks}
 use Rattle.bin_image.specs.Files.{load_files, map_name}
 use Rattle.tool_answers.specs.Outcomes.{Outside}
+use Rattle.tool_words.specs.declared.command.Command.{Command}
 use Rattle.tool_words.specs.declared.command.Command.TheVariants as command
 use Rattle.tool_words.specs.declared.command.Container.TheVariants as container
 use Rattle.tool_words.specs.declared.command.LinkPlacement.TheVariants as placement
@@ -160,6 +162,51 @@ LinkedRunsStart =
     → IsLinkedInto sources w before after i views → o.before ≡ after → r.image ≡ image.Map (map_name w.output)
     → ((banks : List Bank) → AreBanks r banks → Allow banks seats (written_in i))
     → RunAnswers r o seats left a → AnswerStarts i (views i.start) r o seats left a
+
+-- ---- clauses of the top call
+
+-- Over the load files and the map as `link` or `build` left them of a scatter image, under a name of one line without a zero byte,
+-- a run by the map starts so. Devices are of whole words, and no bank that holds what the startup code writes is read-only.
+abbrev pub IsStarted : RunWords → Outside → List Seat → List Seat → Answer → Type 0
+IsStarted r o seats left a =
+    (sources : Bool) (w : LinkWords) (description : List ℕ) (before : Files) (after : Option Files) (i : Image) (views : ℕ → ByteMap)
+    → w.placement ≡ placement.Scatter description → w.container ≡ container.LoadFiles
+    → lacks 10 w.output ≡ true → has_zero w.output ≡ false
+    → IsLinkedInto sources w before after i views → o.before ≡ after → r.image ≡ image.Map (map_name w.output)
+    → AreWholeSeats seats → ((banks : List Bank) → AreBanks r banks → (x : ℕ) → written_in i x ≡ true → protected_at banks x ≡ false)
+    → AnswerStarts i (views i.start) r o seats left a
+
+abbrev pub StartsAsLinked : Result Command ℕ → Outside → List Seat → List Seat → Answer → Type 0
+StartsAsLinked asked o seats left a = (r : RunWords) → asked ≡ Ok (command.Run r) → IsStarted r o seats left a
+
+-- An image was run from reset over banks that were opened for it, by these steps: each is one of the model over the bus's board,
+-- with the lines of the devices' one tick and their own answers. Where none accesses a device, each device is left as so many
+-- ticks make it, with its touches.
+pub record RanBySteps (banks : List Bank) (i : RunImage) (most : ℕ) (why : Stop) (before after : Option (List ℕ)) (rose : Type 0)
+    (seats left : List Seat) : Type 0 where
+  pub ran : Ran banks i most why before after rose seats left
+  pub steps : List Stepped
+  pub count : length steps ≡ steps_made why ran.is_run.made
+  pub are : AreMade ran.is_run.core ran.begin steps ran.is_run.core' ran.is_run.end
+  pub idle : EachStep (AreOffDevices (board_of ran.begin)) (accesses_of steps)
+      → (left ≡ ticked_for (length steps) seats) × (touches_of left ≡ touches_of seats)
+
+-- so the image of the words was run, where the answer tells of a run
+pub record IsRunBySteps (w : RunWords) (o : Outside) (seats left : List Seat) (why : Stop) : Type 0 where
+  pub image : RunImage
+  pub read : IsRead o.before (Rose o.reads o.reads_now) w.image (Ok image)
+  pub banks : List Bank
+  pub are_banks : AreBanks w banks
+  pub ran : RanBySteps banks image w.steps why o.printed o.prints (Rose o.faults o.faults_now) seats left
+
+abbrev pub AnswerSteps : RunWords → Outside → List Seat → List Seat → Answer → Type 0
+AnswerSteps w o seats left answer.Done = IsRunBySteps w o seats left stop.Exit
+AnswerSteps w o seats left (answer.Stopped why) = IsRunBySteps w o seats left why
+AnswerSteps w o seats left answer.SinkFault = IsRunBySteps w o seats left stop.Sink
+AnswerSteps w o seats left other = Unit {0}
+
+abbrev pub RunsBySteps : Result Command ℕ → Outside → List Seat → List Seat → Answer → Type 0
+RunsBySteps asked o seats left a = (r : RunWords) → asked ≡ Ok (command.Run r) → AreWholeSeats seats → AnswerSteps r o seats left a
 
 -- ---- one answer
 

@@ -59,13 +59,13 @@ entered_at k i to = entry_at k i to + flag i.thumb
 
 -- the load regions of a scatter image, which can be run, and an ARM image file reach the entry with memory as the view there;
 -- bytes alone have no startup code
-abbrev pub Reaches : Kind → Image → (ℕ → ByteMap) → Type 0
-Reaches (kind.Scatter s) i views =
+abbrev pub ReachesEntry : Kind → Image → (ℕ → ByteMap) → Type 0
+ReachesEntry (kind.Scatter s) i views =
     Boots (map_of (segments_of i)) (views i.start) (written_in i) i.start i.bound (i.entry + flag i.thumb) × CanRun i (views i.start)
-Reaches (kind.Plain base) i views = Unit {0}
-Reaches (kind.Aif base true) i views =
+ReachesEntry (kind.Plain base) i views = Unit {0}
+ReachesEntry (kind.Aif base true) i views =
     BootsAif (aif_file i) (parts_size i.regions) (zero_size i.regions) views i.bound (entered_at (kind.Aif base true) i)
-Reaches (kind.Aif base false) i views =
+ReachesEntry (kind.Aif base false) i views =
     Boots (file_at (aif_file i) i.start) (views i.start) (covers (i.start + parts_size i.regions) (zero_size i.regions))
     i.start i.bound (i.entry + flag i.thumb)
 

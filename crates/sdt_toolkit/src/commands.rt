@@ -3,6 +3,7 @@
 ghost use Rattle.std.specs.Prelude.{◌≡◌, Ok, false, map, string_bytes};
 ghost use Rattle.arm7_bus.specs.Seats.{seats_by};
 ghost use Rattle.sdt_toolkit.specs.Commands.{Commanded, is_run, may_print};
+ghost use Rattle.sdt_toolkit.specs.Reads.{outside_of};
 ghost use Rattle.tool_words.specs.Commands.{IsGood, command_of};
 
 use crate::assemble::assemble_file;
@@ -38,18 +39,10 @@ fn carried_out<S: Store, K: Sink>(
     requires { IsGood command }
     ensures devices { is_run (Ok command) ≡ false → devices.new ≡ devices.old }
     ensures sink { may_print (Ok command) ≡ false → sink.new ≡ sink.old }
-    ensures commanded { Commanded (Ok command) (record {
-      before = S.files store.old;
-      after = S.files store.new;
-      printed = K.bytes sink.old;
-      prints = K.bytes sink.new;
-      reads = S.read_faults store.old;
-      reads_now = S.read_faults store.new;
-      writes = S.write_faults store.old;
-      writes_now = S.write_faults store.new;
-      faults = K.faults sink.old;
-      faults_now = K.faults sink.new;
-    }) (seats_by base size state touched devices.old.items) (seats_by base size state touched devices.new.items) result }
+    ensures commanded { Commanded (Ok command) (outside_of (S.files store.old) (S.files store.new)
+        (K.bytes sink.old) (K.bytes sink.new) (S.read_faults store.old) (S.read_faults store.new)
+        (S.write_faults store.old) (S.write_faults store.new) (K.faults sink.old) (K.faults sink.new))
+        (seats_by base size state touched devices.old.items) (seats_by base size state touched devices.new.items) result }
 {
     match command {
         Command::Assemble { source, output } => assemble_file(alloc, store, &source, output),
@@ -83,18 +76,10 @@ pub fn command<S: Store, K: Sink>(
 ) -> Answer
     ensures devices { is_run (command_of (map string_bytes words.now)) ≡ false → devices.new ≡ devices.old }
     ensures sink { may_print (command_of (map string_bytes words.now)) ≡ false → sink.new ≡ sink.old }
-    ensures commanded { Commanded (command_of (map string_bytes words.now)) (record {
-      before = S.files store.old;
-      after = S.files store.new;
-      printed = K.bytes sink.old;
-      prints = K.bytes sink.new;
-      reads = S.read_faults store.old;
-      reads_now = S.read_faults store.new;
-      writes = S.write_faults store.old;
-      writes_now = S.write_faults store.new;
-      faults = K.faults sink.old;
-      faults_now = K.faults sink.new;
-    }) (seats_by base size state touched devices.old.items) (seats_by base size state touched devices.new.items) result }
+    ensures commanded { Commanded (command_of (map string_bytes words.now)) (outside_of (S.files store.old) (S.files store.new)
+        (K.bytes sink.old) (K.bytes sink.new) (S.read_faults store.old) (S.read_faults store.new)
+        (S.write_faults store.old) (S.write_faults store.new) (K.faults sink.old) (K.faults sink.new))
+        (seats_by base size state touched devices.old.items) (seats_by base size state touched devices.new.items) result }
 {
     match read_words(alloc, words) {
         Ok(command) => carried_out(alloc, command, store, sink, devices),

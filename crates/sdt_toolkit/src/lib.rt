@@ -3,12 +3,18 @@
 
 ghost use Rattle.std.specs.Prelude.{◌≡◌, map, string_bytes, false};
 ghost use Rattle.arm7_bus.specs.Seats.{seats_by};
+ghost use Rattle.sdt_toolkit.specs.Builds.{BuildsAsLinked};
 ghost use Rattle.sdt_toolkit.specs.Commands.{Commanded, Ends, is_run, may_print};
+ghost use Rattle.sdt_toolkit.specs.Exact.{Exact};
 ghost use Rattle.sdt_toolkit.specs.Headline.{Headline};
 ghost use Rattle.sdt_toolkit.specs.Interrupts.{HidesInterrupts};
+ghost use Rattle.sdt_toolkit.specs.Reads.{outside_of};
+ghost use Rattle.sdt_toolkit.specs.Refusals.{RefusalsAreTrue};
+ghost use Rattle.sdt_toolkit.specs.Runs.{RunsBySteps, StartsAsLinked};
 ghost use Rattle.tool_words.specs.Commands.{command_of};
 
 use armasm_core::laws::sources_begin;
+use link_refusals::refusals_law;
 use scatter_text::reading_law;
 use sdt_fault::answer::Answer;
 use sdt_outside::{Device, Sink, Store};
@@ -38,48 +44,47 @@ pub fn run_tool<S: Store, K: Sink>(
     devices: &mut Vec<Box<dyn Device>>,
 ) -> Answer
     // What the answer says and leaves, or the first word that breaks a rule.
-    ensures commanded { Commanded (command_of (map string_bytes words.now)) (record {
-      before = S.files store.old;
-      after = S.files store.new;
-      printed = K.bytes sink.old;
-      prints = K.bytes sink.new;
-      reads = S.read_faults store.old;
-      reads_now = S.read_faults store.new;
-      writes = S.write_faults store.old;
-      writes_now = S.write_faults store.new;
-      faults = K.faults sink.old;
-      faults_now = K.faults sink.new;
-    }) (seats_by base size state touched devices.old.items) (seats_by base size state touched devices.new.items) result }
+    ensures commanded { Commanded (command_of (map string_bytes words.now)) (outside_of (S.files store.old) (S.files store.new)
+        (K.bytes sink.old) (K.bytes sink.new) (S.read_faults store.old) (S.read_faults store.new)
+        (S.write_faults store.old) (S.write_faults store.new) (K.faults sink.old) (K.faults sink.new))
+        (seats_by base size state touched devices.old.items) (seats_by base size state touched devices.new.items) result }
     // The files of a link or a build that is done, put into memory, show what was linked and reach its entry.
     ensures headline { Headline (command_of (map string_bytes words.now)) (S.files store.old) (S.files store.new) result }
+    // What `build` makes of sources is what `link` makes of the files that `asm` writes of them.
+    ensures builds { BuildsAsLinked (command_of (map string_bytes words.now)) (outside_of (S.files store.old) (S.files store.new)
+        (K.bytes sink.old) (K.bytes sink.new) (S.read_faults store.old) (S.read_faults store.new)
+        (S.write_faults store.old) (S.write_faults store.new) (K.faults sink.old) (K.faults sink.new)) result }
+    // A run by the map that a link or a build left begins with the startup code's steps, which lead to the entry and touch no device.
+    ensures starts { StartsAsLinked (command_of (map string_bytes words.now)) (outside_of (S.files store.old) (S.files store.new)
+        (K.bytes sink.old) (K.bytes sink.new) (S.read_faults store.old) (S.read_faults store.new)
+        (S.write_faults store.old) (S.write_faults store.new) (K.faults sink.old) (K.faults sink.new))
+        (seats_by base size state touched devices.old.items) (seats_by base size state touched devices.new.items) result }
+    // A run goes by the machine's steps, and leaves each device that none of them accesses as time alone makes it.
+    ensures steps { RunsBySteps (command_of (map string_bytes words.now)) (outside_of (S.files store.old) (S.files store.new)
+        (K.bytes sink.old) (K.bytes sink.new) (S.read_faults store.old) (S.read_faults store.new)
+        (S.write_faults store.old) (S.write_faults store.new) (K.faults sink.old) (K.faults sink.new))
+        (seats_by base size state touched devices.old.items) (seats_by base size state touched devices.new.items) result }
     // A run by the map of an image in which the interrupt kit is in force, and whose program keeps the rules, is done as the
     // run without interrupts is, with the same text.
-    ensures interrupts { HidesInterrupts (command_of (map string_bytes words.now)) (record {
-      before = S.files store.old;
-      after = S.files store.new;
-      printed = K.bytes sink.old;
-      prints = K.bytes sink.new;
-      reads = S.read_faults store.old;
-      reads_now = S.read_faults store.new;
-      writes = S.write_faults store.old;
-      writes_now = S.write_faults store.new;
-      faults = K.faults sink.old;
-      faults_now = K.faults sink.new;
-    }) (seats_by base size state touched devices.old.items) result }
+    ensures interrupts { HidesInterrupts (command_of (map string_bytes words.now)) (outside_of (S.files store.old) (S.files store.new)
+        (K.bytes sink.old) (K.bytes sink.new) (S.read_faults store.old) (S.read_faults store.new)
+        (S.write_faults store.old) (S.write_faults store.new) (K.faults sink.old) (K.faults sink.new))
+        (seats_by base size state touched devices.old.items) result }
+    // Over files that are told, where no fault is counted: a first defect is refused, and nothing else is.
+    ensures exact { Exact (command_of (map string_bytes words.now)) (outside_of (S.files store.old) (S.files store.new)
+        (K.bytes sink.old) (K.bytes sink.new) (S.read_faults store.old) (S.read_faults store.new)
+        (S.write_faults store.old) (S.write_faults store.new) (K.faults sink.old) (K.faults sink.new))
+        (seats_by base size state touched devices.old.items) result }
+    // What a refusal of a link or a build says is so of the linked objects and of their plan, and is the first such thing.
+    ensures refusals { RefusalsAreTrue (command_of (map string_bytes words.now)) (outside_of (S.files store.old) (S.files store.new)
+        (K.bytes sink.old) (K.bytes sink.new) (S.read_faults store.old) (S.read_faults store.new)
+        (S.write_faults store.old) (S.write_faults store.new) (K.faults sink.old) (K.faults sink.new)) result }
     // Whatever was asked for: a refusal names the first defect and, as a read fault does, leaves everything as it was, and each
     // fault was counted.
-    ensures ends { Ends (command_of (map string_bytes words.now)) (record {
-      before = S.files store.old;
-      after = S.files store.new;
-      printed = K.bytes sink.old;
-      prints = K.bytes sink.new;
-      reads = S.read_faults store.old;
-      reads_now = S.read_faults store.new;
-      writes = S.write_faults store.old;
-      writes_now = S.write_faults store.new;
-      faults = K.faults sink.old;
-      faults_now = K.faults sink.new;
-    }) (seats_by base size state touched devices.old.items) (seats_by base size state touched devices.new.items) result }
+    ensures ends { Ends (command_of (map string_bytes words.now)) (outside_of (S.files store.old) (S.files store.new)
+        (K.bytes sink.old) (K.bytes sink.new) (S.read_faults store.old) (S.read_faults store.new)
+        (S.write_faults store.old) (S.write_faults store.new) (K.faults sink.old) (K.faults sink.new))
+        (seats_by base size state touched devices.old.items) (seats_by base size state touched devices.new.items) result }
     // The devices are touched by `run` alone, and the sink by commands that print.
     ensures devices { is_run (command_of (map string_bytes words.now)) ≡ false → devices.new ≡ devices.old }
     ensures sink { may_print (command_of (map string_bytes words.now)) ≡ false → sink.new ≡ sink.old }
@@ -87,5 +92,9 @@ pub fn run_tool<S: Store, K: Sink>(
     reading_law();
     sources_begin();
     laws::interrupts_are_hidden();
+    laws::one_asked();
+    refusals_law();
+    laws::builds_are_links();
+    laws::linked_runs_start();
     commands::command(alloc, words, store, sink, devices)
 }

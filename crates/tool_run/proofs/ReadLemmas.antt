@@ -1,77 +1,80 @@
 -- An image that was read, or why not, by what the store told.
-use Rattle.std.proofs.Common.{◌≡◌, ℕ, zero, suc, ◌<◌, List, [], ◌∷◌, ◌++◌, length, Option, Some, None, Result, Ok, Err, refl, sym, ap, ◌∙◌, subst, inl, inr, ◌⊎◌, Bool, true, false, take, drop, arith, append_assoc}
+use Rattle.std.proofs.Common.{◌≡◌, ℕ, zero, suc, ◌<◌, List, [], ◌∷◌, ◌++◌, length, Option, Some, None, Result, Ok, Err, refl, sym, ap, ◌∙◌, subst, inl, inr, ◌⊎◌, take, drop, arith, append_assoc}
 use Rattle.std.specs.Prelude.{◌==◌, ◌||◌, slice_index_or}
 use Rattle.std.proofs.lemmas.List.{take-append-drop}
 use Rattle.std.proofs.lemmas.List.Quantifiers.{position-Some}
 use Rattle.sdt_fault.specs.declared.answer.Fault.{Fault}
 use Rattle.sdt_fault.specs.declared.answer.Fault.TheVariants as fault
-use Rattle.sdt_fault.specs.declared.kinds.FileKind.{FileKind}
-use Rattle.sdt_fault.specs.declared.kinds.FileKind.TheVariants as kind
 use Rattle.sdt_fault.specs.declared.refusal.Refusal.{Refusal}
-use Rattle.sdt_fault.specs.declared.refusal.Refusal.TheVariants.{BadImage, Missing}
+use Rattle.sdt_fault.specs.declared.refusal.Refusal.TheVariants.{Missing}
 use Rattle.sdt_outside.specs.Files.{Files, IsFound}
 use Rattle.chunk_file.specs.Reading.{◌>>=◌, Gives}
 use Rattle.link_model.specs.declared.images.Aif.{Aif}
-use Rattle.aif_image.specs.Checks.{Check, checks, kind_of, place_of}
-use Rattle.aif_image.specs.Reading.{aif_of, holds, judged, record_of}
+use Rattle.aif_image.specs.Reading.{holds}
 use Rattle.elf_image.specs.declared.records.Elf.{Elf}
-use Rattle.elf_image.specs.Checks as elf
-use Rattle.elf_image.specs.Reading.{elf_of}
-use Rattle.elf_image.proofs.CheckLaws.{first_failed}
 use Rattle.bin_image.specs.declared.records.MapFile.{MapFile}
-use Rattle.bin_image.specs.declared.records.MapLoad.{MapLoad}
 use Rattle.bin_image.specs.Maps.{ReadsMap}
-use Rattle.bin_image.specs.Reading.{empty_map, map_of, pieces_of, read, told as told_map}
-use Rattle.bin_image.specs.declared.reading.Stage.TheVariants.{Head}
+use Rattle.bin_image.specs.Reading.{map_of, read}
 use Rattle.run_opening.specs.declared.image.Image.{Image}
 use Rattle.tool_answers.specs.declared.inputs.InputEnd.{InputEnd}
 use Rattle.tool_answers.specs.declared.inputs.InputEnd.TheVariants as input
-use Rattle.tool_answers.specs.Inputs.{AreInputs, InputsEnd, IsReached, found_or, inputs_of, named}
+use Rattle.tool_answers.specs.Inputs.{AreInputs, InputsEnd, IsEnd, IsReached, found_or, input_of, inputs_of}
 use Rattle.tool_words.specs.declared.command.RunImage.TheVariants as image
 use Rattle.tool_run.specs.declared.ends.ImageEnd.{ImageEnd}
 use Rattle.tool_run.specs.declared.ends.ImageEnd.TheVariants as end
-use Rattle.tool_run.specs.Aifs.{aif_at, loaded_aif, placed_aif}
-use Rattle.tool_run.specs.Elfs.{elf_image, loaded_elf}
+use Rattle.tool_run.specs.Aifs.{aif_at}
+use Rattle.tool_run.specs.Elfs.{elf_image}
 use Rattle.tool_run.specs.Ends.{IsMissing, Reads, fault_end, input_end, named_by}
-use Rattle.tool_run.specs.Images.{IsGiven, IsInput, IsLost, IsRead, all_named, files_in, front_of, has_zero, lengths_judged, loaded_image, map_image, mapped_image, unnamed}
+use Rattle.tool_run.specs.Images.{IsGiven, IsInput, IsRead, SomeLoads, SomeMapped, all_named, files_in, front_of, has_zero, loaded_image, mapped_image, unnamed}
 
--- ---- a map's text
+-- ---- one file
 
--- with the name of the file a wrong text is still one
-wrong_text : (r : Result MapFile ℕ) (file : List ℕ) (q : Refusal) → named_by file (told_map r) ≡ Err q → (at : ℕ) × (q ≡ BadImage file at kind.Map)
-wrong_text (Ok m) file q h = absurd (let bad : ◌≡◌ {A = Result MapFile Refusal} (Ok m) (Err q) = h in cc)
-wrong_text (Err at) file q h = (at, let same : ◌≡◌ {A = Result MapFile Refusal} (Err (BadImage file at kind.Map)) (Err q) = h in cc)
+abbrev missing_of : List ℕ → Result Image Refusal
+missing_of name = Err (Missing name)
 
-not_lost : (rose : Type 0) (is_input : List ℕ → Type 0) (q : Refusal) (file : List ℕ) (at : ℕ) (why : FileKind) → q ≡ BadImage file at why → IsLost rose is_input (Err q)
-not_lost rose is_input q file at why e = rw e tt
+-- it was not read
+pub file_ended : (e : InputEnd) (told : Option Files) (rose : Type 0) (judge : Files → Result Image Refusal) (some_give : Result Image Refusal → Type 0) (is_input : List ℕ → Type 0) (file : List ℕ)
+    → IsEnd e told file rose → is_input file → ((files : Files) → input_of files file ≡ Err (Missing file) → judge files ≡ Err (Missing file))
+    → Reads (IsGiven judge some_give told rose is_input) rose is_input (Err (input_end e))
+file_ended (input.Missing name) None rose judge some_give is_input file h own missing =
+    inr (name, refl, h.1, subst is_input (sym h.0) own)
+file_ended (input.Missing name) (Some files) rose judge some_give is_input file h own missing =
+    ap missing_of h.0 ∙ sym (missing files (ap (found_or file) h.1))
+file_ended (input.Failed name) told rose judge some_give is_input file h own missing = (h.1, subst is_input (sym h.0) own)
+file_ended input.NoMemory told rose judge some_give is_input file h own missing = tt
+
+-- it was read, and all that is told is what it holds
+pub file_read : (told : Option Files) (rose : Type 0) (judge : Files → Result Image Refusal) (some_give : Result Image Refusal → Type 0) (is_input : List ℕ → Type 0) (file bytes : List ℕ) (read : Result Image Refusal)
+    → IsFound told file bytes → some_give read → ((files : Files) → input_of files file ≡ Ok bytes → judge files ≡ read) → IsGiven judge some_give told rose is_input read
+file_read None rose judge some_give is_input file bytes read found gives told_so = inl gives
+file_read (Some files) rose judge some_give is_input file bytes read found gives told_so = sym (told_so files (ap (found_or file) found))
+
+-- ---- a map
 
 pub map_refused : (e : Fault) (told : Option Files) (rose : Type 0) (file text : List ℕ) → IsFound told file text
     → Gives {A = MapFile} (Err e) (named_by file (map_of text))
     → Reads (IsRead told rose (image.Map file)) rose (IsInput told (image.Map file)) (Err (fault_end e))
-map_refused (fault.Refused r) None rose file text found h =
-    let wrong = wrong_text (read 0 Head empty_map (pieces_of text)) file r h in not_lost rose _ r file wrong.0 kind.Map wrong.1
+map_refused (fault.Refused r) None rose file text found h = inl (text, subst (λ (x : Result MapFile Refusal). SomeMapped x (Err r)) (sym h) refl)
 map_refused (fault.Refused r) (Some files) rose file text found h =
     sym (ap (λ x. found_or file x >>= λ t. named_by file (map_of t) >>= λ m. mapped_image m files) found ∙ ap (λ x. x >>= λ m. mapped_image m files) h)
 map_refused (fault.ReadFault name) told rose file text found h = absurd h
 map_refused fault.NoMemory told rose file text found h = tt
 
+module _ (before after : Type 0) (file text : List ℕ) (m : MapFile) (more : after → before) (reads : ReadsMap text m) (is : named_by file (map_of text) ≡ Ok m) where
+  -- what some load files give, some map with them gives
+  some_map : (r : Result Image Refusal) → IsGiven (mapped_image m) (SomeLoads m) None after (IsReached None (files_in m)) r → IsRead None before (image.Map file) r
+  some_map r (inl h) = inl (text, subst (λ (x : Result MapFile Refusal). SomeMapped x r) (sym is) h)
+  some_map r (inr (name, e, rose, reached)) = inr (name, e, more rose, inr (record { text = text; found = tt; m = m; reads = reads; reached = reached }))
+
 -- the map's text was read; what comes of its load files comes of the map
 pub map_read : (r : Result Image ImageEnd) (told : Option Files) (before after : Type 0) (file text : List ℕ) (m : MapFile) → (after → before) → IsFound told file text → ReadsMap text m
     → named_by file (map_of text) ≡ Ok m
-    → Reads (IsGiven (mapped_image m) told after (IsReached told (files_in m))) after (IsReached told (files_in m)) r
+    → Reads (IsGiven (mapped_image m) (SomeLoads m) told after (IsReached told (files_in m))) after (IsReached told (files_in m)) r
     → Reads (IsRead told before (image.Map file)) before (IsInput told (image.Map file)) r
-map_read (Ok i) None before after file text m more found reads is h = tt
+map_read (Ok i) None before after file text m more found reads is h = some_map before after file text m more reads is (Ok i) h
 map_read (Ok i) (Some files) before after file text m more found reads is h =
     h ∙ sym (ap (λ x. found_or file x >>= λ t. named_by file (map_of t) >>= λ n. mapped_image n files) found ∙ ap (λ x. x >>= λ n. mapped_image n files) is)
-map_read (Err (end.Refused r)) None before after file text m more found reads is h = lost r h
-  where
-    or-more : (none : Type 0) → none ⊎ after → none ⊎ before
-    or-more none (inl h) = inl h
-    or-more none (inr h) = inr (more h)
-
-    lost : (r : Refusal) → IsLost after (IsReached None (files_in m)) (Err r) → IsLost before (IsInput None (image.Map file)) (Err r)
-    lost (Missing name) k = (or-more (has_zero name ≡ true) k.0, inr (record { text = text; found = tt; m = m; reads = reads; reached = k.1 }))
-    lost _ k = tt
+map_read (Err (end.Refused r)) None before after file text m more found reads is h = some_map before after file text m more reads is (Err r) h
 map_read (Err (end.Refused r)) (Some files) before after file text m more found reads is h =
     h ∙ sym (ap (λ x. found_or file x >>= λ t. named_by file (map_of t) >>= λ n. mapped_image n files) found ∙ ap (λ x. x >>= λ n. mapped_image n files) is)
 map_read (Err (end.Failed name)) told before after file text m more found reads is h =
@@ -80,72 +83,23 @@ map_read (Err end.NoMemory) told before after file text m more found reads is h 
 
 -- ---- an ARM image file
 
--- one that is refused is no missing file
-wrong_header : (cs : List Check) (b file : List ℕ) (q : Refusal) → named_by file (judged cs b) ≡ Err q → (at : ℕ) × (why : FileKind) × (q ≡ BadImage file at why)
-wrong_header [] b file q h = absurd (let bad : ◌≡◌ {A = Result Aif Refusal} (Ok (record_of b)) (Err q) = h in cc)
-wrong_header (c ∷ cs) b file q h = split (holds c b) refl (λ k. wrong_header cs b file q k)
-  where
-    split : (t : Bool) → holds c b ≡ t → (named_by file (judged cs b) ≡ Err q → (at : ℕ) × (why : FileKind) × (q ≡ BadImage file at why))
-        → (at : ℕ) × (why : FileKind) × (q ≡ BadImage file at why)
-    split true e others = others (rw e at h)
-    split false e others = (place_of c b, kind_of c, let same : ◌≡◌ {A = Result Aif Refusal} (Err (BadImage file (place_of c b) (kind_of c))) (Err q) = (rw e at h) in cc)
-
-wrong_base : (file : List ℕ) (at : Option ℕ) (a : Aif) (bytes : List ℕ) (q : Refusal) → placed_aif file at bytes a ≡ Err q → (o : ℕ) × (why : FileKind) × (q ≡ BadImage file o why)
-wrong_base file None a bytes q h = absurd (let bad : ◌≡◌ {A = Result Image Refusal} (Ok (loaded_aif a.base a bytes)) (Err q) = h in cc)
-wrong_base file (Some at) a bytes q h = split (a.relocatable || at == a.base) refl
-  where
-    split : (t : Bool) → (a.relocatable || at == a.base) ≡ t → (o : ℕ) × (why : FileKind) × (q ≡ BadImage file o why)
-    split true e = absurd (let bad : ◌≡◌ {A = Result Image Refusal} (Ok (loaded_aif at a bytes)) (Err q) = (rw e at h) in cc)
-    split false e = (4, kind.FixedBase, let same : ◌≡◌ {A = Result Image Refusal} (Err (BadImage file 4 kind.FixedBase)) (Err q) = (rw e at h) in cc)
-
-wrong_aif : (r : Result Aif Refusal) (file : List ℕ) (at : Option ℕ) (bytes : List ℕ) (q : Refusal)
-    → ((s : Refusal) → named_by file r ≡ Err s → (o : ℕ) × (why : FileKind) × (s ≡ BadImage file o why))
-    → (named_by file r >>= λ a. placed_aif file at bytes a) ≡ Err q → (o : ℕ) × (why : FileKind) × (q ≡ BadImage file o why)
-wrong_aif (Ok a) file at bytes q wrong h = wrong_base file at a bytes q h
-wrong_aif (Err r) file at bytes q wrong h = wrong q (let same : ◌≡◌ {A = Result Image Refusal} (Err (named file r)) (Err q) = h in let is : named file r ≡ q = cc in ap (λ (s : Refusal). Err s) is)
-
 pub aif_refused : (e : Fault) (told : Option Files) (rose : Type 0) (file bytes : List ℕ) (at : Option ℕ) → IsFound told file bytes → Gives {A = Image} (Err e) (aif_at file at bytes)
     → Reads (IsRead told rose (image.Aif file at)) rose (IsInput told (image.Aif file at)) (Err (fault_end e))
-unfolding aif_of
-aif_refused (fault.Refused r) None rose file bytes at found h =
-    let wrong = wrong_aif (judged checks bytes) file at bytes r (λ s. wrong_header checks bytes file s) h in not_lost rose _ r file wrong.0 wrong.1 wrong.2
+aif_refused (fault.Refused r) None rose file bytes at found h = inl (bytes, sym h)
 aif_refused (fault.Refused r) (Some files) rose file bytes at found h = sym (ap (λ x. found_or file x >>= λ b. aif_at file at b) found ∙ h)
 aif_refused (fault.ReadFault name) told rose file bytes at found h = absurd h
 aif_refused fault.NoMemory told rose file bytes at found h = tt
 
 -- ---- an ELF executable
 
--- one that is refused is no missing file
-wrong_elf : (r : Result Elf Refusal) (file b : List ℕ) (q : Refusal) → elf_of b ≡ r → (named_by file r >>= λ e. Ok (loaded_elf b e)) ≡ Err q
-    → (at : ℕ) × (why : FileKind) × (q ≡ BadImage file at why)
-wrong_elf (Ok e) file b q is h = absurd (let bad : ◌≡◌ {A = Result Image Refusal} (Ok (loaded_elf b e)) (Err q) = h in cc)
-wrong_elf (Err r) file b q is h =
-    let first = first_failed b (Err (fault.Refused r)) is in
-    let told : r ≡ BadImage [] (elf.place_of first.0 b) (elf.kind_of first.0) = first.1 in
-    let same : ◌≡◌ {A = Result Image Refusal} (Err (named file r)) (Err q) = h in
-    let name : named file r ≡ q = cc in
-    (elf.place_of first.0 b, elf.kind_of first.0, sym name ∙ ap (named file) told)
-
 pub elf_refused : (e : Fault) (told : Option Files) (rose : Type 0) (file bytes : List ℕ) → IsFound told file bytes → Gives {A = Image} (Err e) (elf_image file bytes)
     → Reads (IsRead told rose (image.Elf file)) rose (IsInput told (image.Elf file)) (Err (fault_end e))
-elf_refused (fault.Refused r) None rose file bytes found h =
-    let wrong = wrong_elf (elf_of bytes) file bytes r refl h in not_lost rose _ r file wrong.0 wrong.1 wrong.2
+elf_refused (fault.Refused r) None rose file bytes found h = inl (bytes, sym h)
 elf_refused (fault.Refused r) (Some files) rose file bytes found h = sym (ap (λ x. found_or file x >>= λ b. elf_image file b) found ∙ h)
 elf_refused (fault.ReadFault name) told rose file bytes found h = absurd h
 elf_refused fault.NoMemory told rose file bytes found h = tt
 
 -- ---- load files
-
--- a wrong length is no missing file
-lengths_lost : (lines : List MapLoad) (contents : List (List ℕ)) (i : Image) (q : Refusal) (rose : Type 0) (is_input : List ℕ → Type 0)
-    → (lengths_judged lines contents >>= λ right. Ok i) ≡ Err q → IsLost rose is_input (Err q)
-lengths_lost [] contents i q rose is_input h = absurd (let bad : ◌≡◌ {A = Result Image Refusal} (Ok i) (Err q) = h in cc)
-lengths_lost (l ∷ ls) [] i q rose is_input h = absurd (let bad : ◌≡◌ {A = Result Image Refusal} (Ok i) (Err q) = h in cc)
-lengths_lost (l ∷ ls) (b ∷ bs) i q rose is_input h = split (length b == l.size) refl (λ k. lengths_lost ls bs i q rose is_input k)
-  where
-    split : (t : Bool) → (length b == l.size) ≡ t → ((lengths_judged ls bs >>= λ right. Ok i) ≡ Err q → IsLost rose is_input (Err q)) → IsLost rose is_input (Err q)
-    split true e others = others (rw e at h)
-    split false e others = let same : ◌≡◌ {A = Result Image Refusal} (Err (BadImage l.file (length b) kind.Length)) (Err q) = (rw e at h) in not_lost rose is_input q l.file (length b) kind.Length (let k : q ≡ BadImage l.file (length b) kind.Length = cc in k)
 
 -- what a map's names have in front of one that is the name of no file
 reached-front : (told : Option Files) (names : List (List ℕ)) (place : Option ℕ) (name : List ℕ) → IsReached told (front_of names place) name → IsReached told names name
@@ -175,11 +129,11 @@ reached-place told names contents k lt read = record {
 
 abbrev Ends : Option Files → Type 0 → MapFile → ImageEnd → Type 0
 Ends told rose m e =
-    Reads (IsGiven (mapped_image m) told rose (IsReached told (files_in m))) rose (IsReached told (files_in m)) (Err e)
+    Reads (IsGiven (mapped_image m) (SomeLoads m) told rose (IsReached told (files_in m))) rose (IsReached told (files_in m)) (Err e)
 
 pub inputs_ended : (e : InputEnd) (told : Option Files) (rose : Type 0) (m : MapFile) (place : Option ℕ) → place ≡ unnamed (files_in m)
     → InputsEnd e told (front_of (files_in m) place) rose → Ends told rose m (input_end e)
-inputs_ended (input.Missing name) None rose m place is h = (inr h.0, reached-front None (files_in m) place name h.1)
+inputs_ended (input.Missing name) None rose m place is h = inr (name, refl, h.0, reached-front None (files_in m) place name h.1)
 inputs_ended (input.Missing name) (Some files) rose m place is h =
     sym (ap (λ x. x >>= λ c. all_named (files_in m) (unnamed (files_in m)) >>= λ right. loaded_image m c)
     (ap (λ (p : Option ℕ). inputs_of files (front_of (files_in m) p)) (sym is) ∙ h))
@@ -191,25 +145,38 @@ any-default [] k d e lt = absurd (omega arith)
 any-default (x ∷ xs) zero d e lt = refl
 any-default (x ∷ xs) (suc k) d e lt = any-default xs k d e (omega arith)
 
+-- as many contents as there are names in front
+counted : (m : MapFile) (place : Option ℕ) (contents : List (List ℕ)) → place ≡ unnamed (files_in m) → length contents ≡ length (front_of (files_in m) place)
+    → length contents ≡ length (front_of (files_in m) (unnamed (files_in m)))
+counted m place contents is count = subst (λ (p : Option ℕ). length contents ≡ length (front_of (files_in m) p)) is count
+
+-- what comes of them, by the place of a name that is the name of no file
+abbrev by_place : MapFile → List (List ℕ) → Option ℕ → Result Image Refusal
+by_place m contents place = all_named (files_in m) place >>= λ right. loaded_image m contents
+
+some_loads : (m : MapFile) (place found : Option ℕ) (contents : List (List ℕ)) (read : Result Image Refusal) → place ≡ unnamed (files_in m) → place ≡ found
+    → length contents ≡ length (front_of (files_in m) place) → by_place m contents found ≡ read → SomeLoads m read
+some_loads m place found contents read is at count h =
+    (contents, counted m place contents is count, sym (ap (by_place m contents) (sym is ∙ at) ∙ h))
+
 missing-at : (e : ImageEnd) (told : Option Files) (rose : Type 0) (m : MapFile) (place : Option ℕ) (k : ℕ) (contents : List (List ℕ))
-    → place ≡ unnamed (files_in m) → place ≡ Some k → AreInputs told (front_of (files_in m) place) contents
+    → place ≡ unnamed (files_in m) → place ≡ Some k → AreInputs told (front_of (files_in m) place) contents → length contents ≡ length (front_of (files_in m) place)
     → IsMissing (slice_index_or (files_in m) k []) e → Ends told rose m e
-missing-at (end.Refused r) None rose m place k contents is at read h =
-    let there = position-Some has_zero (files_in m) k [] (sym is ∙ at) in
-    rw h (inl there.1, reached-place None (files_in m) contents k there.0 tt)
-missing-at (end.Refused r) (Some files) rose m place k contents is at read h =
+missing-at (end.Refused r) None rose m place k contents is at read count h =
+    rw h (inl (some_loads m place (Some k) contents (missing_of (slice_index_or (files_in m) k [])) is at count refl))
+missing-at (end.Refused r) (Some files) rose m place k contents is at read count h =
     rw h (sym (ap (λ x. x >>= λ c. all_named (files_in m) (unnamed (files_in m)) >>= λ right. loaded_image m c)
     (ap (λ (p : Option ℕ). inputs_of files (front_of (files_in m) p)) (sym is) ∙ read)
     ∙ ap (λ (p : Option ℕ). all_named (files_in m) p >>= λ right. loaded_image m contents) (sym is ∙ at)))
-missing-at (end.Failed q) told rose m place k contents is at read h = absurd h
-missing-at end.NoMemory told rose m place k contents is at read h = tt
+missing-at (end.Failed q) told rose m place k contents is at read count h = absurd h
+missing-at end.NoMemory told rose m place k contents is at read count h = tt
 
 pub name_missing : (e : ImageEnd) (told : Option Files) (rose : Type 0) (m : MapFile) (place : Option ℕ) (k : ℕ) (name : List ℕ) (contents : List (List ℕ))
     → place ≡ unnamed (files_in m) → place ≡ Some k → name ≡ slice_index_or (files_in m) k name
-    → AreInputs told (front_of (files_in m) place) contents → IsMissing name e → Ends told rose m e
-name_missing e told rose m place k name contents is at it read h =
+    → AreInputs told (front_of (files_in m) place) contents → length contents ≡ length (front_of (files_in m) place) → IsMissing name e → Ends told rose m e
+name_missing e told rose m place k name contents is at it read count h =
     let there = position-Some has_zero (files_in m) k [] (sym is ∙ at) in
-    missing-at e told rose m place k contents is at read
+    missing-at e told rose m place k contents is at read count
     (subst (λ (n : List ℕ). IsMissing n e) (it ∙ any-default (files_in m) k name [] there.0) h)
 
 -- all load files were read
@@ -220,10 +187,15 @@ given-all files m contents place is none read =
     (ap (λ (p : Option ℕ). inputs_of files (front_of (files_in m) p)) (sym is) ∙ read)
     ∙ ap (λ (p : Option ℕ). all_named (files_in m) p >>= λ right. loaded_image m contents) (sym is ∙ none)
 
+pub loads_given : (told : Option Files) (rose : Type 0) (m : MapFile) (contents : List (List ℕ)) (place : Option ℕ) (read : Result Image Refusal)
+    → place ≡ unnamed (files_in m) → place ≡ None → AreInputs told (front_of (files_in m) place) contents → length contents ≡ length (front_of (files_in m) place)
+    → loaded_image m contents ≡ read → IsGiven (mapped_image m) (SomeLoads m) told rose (IsReached told (files_in m)) read
+loads_given None rose m contents place read is none found count h = inl (some_loads m place None contents read is none count h)
+loads_given (Some files) rose m contents place read is none found count h = sym (given-all files m contents place is none found ∙ h)
+
 pub loads_refused : (e : Fault) (told : Option Files) (rose : Type 0) (m : MapFile) (contents : List (List ℕ)) (place : Option ℕ)
-    → place ≡ unnamed (files_in m) → place ≡ None → AreInputs told (front_of (files_in m) place) contents
+    → place ≡ unnamed (files_in m) → place ≡ None → AreInputs told (front_of (files_in m) place) contents → length contents ≡ length (front_of (files_in m) place)
     → Gives {A = Image} (Err e) (loaded_image m contents) → Ends told rose m (fault_end e)
-loads_refused (fault.Refused r) None rose m contents place is none found h = lengths_lost m.loads contents (map_image m contents) r rose _ h
-loads_refused (fault.Refused r) (Some files) rose m contents place is none found h = sym (given-all files m contents place is none found ∙ h)
-loads_refused (fault.ReadFault name) told rose m contents place is none found h = absurd h
-loads_refused fault.NoMemory told rose m contents place is none found h = tt
+loads_refused (fault.Refused r) told rose m contents place is none found count h = loads_given told rose m contents place (Err r) is none found count h
+loads_refused (fault.ReadFault name) told rose m contents place is none found count h = absurd h
+loads_refused fault.NoMemory told rose m contents place is none found count h = tt

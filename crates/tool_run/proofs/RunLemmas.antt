@@ -1,25 +1,48 @@
 -- The answer to a run whose image was not read.
-use Rattle.std.proofs.Common.{◌≡◌, List, Option, Some, None, Result, Ok, Err, refl}
+use Rattle.std.proofs.Common.{◌≡◌, ℕ, suc, List, [], ◌∷◌, length, Option, Some, None, Result, Ok, Err, refl, ap, inl}
 use Rattle.sdt_fault.specs.declared.answer.Answer.{Answer}
 use Rattle.sdt_fault.specs.declared.answer.Answer.TheVariants as answer
 use Rattle.sdt_fault.specs.declared.refusal.Refusal.{Refusal}
-use Rattle.sdt_fault.specs.declared.refusal.Refusal.TheVariants.{NoEntry}
 use Rattle.sdt_outside.specs.Counts.{Rose}
 use Rattle.sdt_outside.specs.Files.{Files}
 use Rattle.arm7_bus.specs.declared.memory.Bank.{Bank as MemoryBank}
 use Rattle.arm7_bus.specs.Seats.{Seat}
+use Rattle.bin_image.specs.declared.records.MapFile.{MapFile}
+use Rattle.bin_image.specs.Reading.{map_of}
 use Rattle.run_opening.specs.declared.image.Image.{Image}
 use Rattle.tool_answers.specs.Outcomes.{Outside}
 use Rattle.tool_words.specs.declared.command.RunImage.{RunImage}
+use Rattle.tool_words.specs.declared.command.RunImage.TheVariants as image
 use Rattle.tool_words.specs.declared.command.RunWords.{RunWords}
 use Rattle.tool_run.specs.declared.ends.ImageEnd.{ImageEnd}
 use Rattle.tool_run.specs.declared.ends.ImageEnd.TheVariants as end
-use Rattle.tool_run.specs.Ends.{Reads, image_answer}
-use Rattle.tool_run.specs.Images.{IsInput, IsRead, image_of}
+use Rattle.tool_run.specs.Ends.{Reads, image_answer, named_by}
+use Rattle.tool_run.specs.Images.{IsInput, IsRead, SomeGive, SomeMapped, files_in, front_of, image_of, unnamed}
 use Rattle.tool_run.specs.Runs.{AreBanks, ImageRuns, IsUntouched, RunAnswers}
 
+-- ---- some contents
+
+blanks : List (List ℕ) → List (List ℕ)
+blanks [] = []
+blanks (name ∷ names) = [] ∷ blanks names
+
+as_many : (names : List (List ℕ)) → length (blanks names) ≡ length names
+unfolding blanks
+as_many [] = refl
+as_many (name ∷ names) = ap suc (as_many names)
+
+any_mapped : (m : Result MapFile Refusal) → (read : Result Image Refusal) × SomeMapped m read
+any_mapped (Err r) = (Err r, refl)
+any_mapped (Ok m) = let names = front_of (files_in m) (unnamed (files_in m)) in (_, (blanks names, as_many names, refl))
+
+any_given : (image : RunImage) → (read : Result Image Refusal) × SomeGive image read
+any_given (image.Binary file at) = (_, ([], refl))
+any_given (image.Aif file at) = (_, ([], refl))
+any_given (image.Elf file) = (_, ([], refl))
+any_given (image.Map file) = let (read, is) = any_mapped (named_by file (map_of [])) in (read, ([], is))
+
 any_read : (told : Option Files) (rose : Type 0) (image : RunImage) → (read : Result Image Refusal) × IsRead told rose image read
-any_read None rose image = (Err NoEntry, tt)
+any_read None rose image = let (read, is) = any_given image in (read, inl is)
 any_read (Some files) rose image = (image_of image files, refl)
 
 pub no_memory : (run : RunWords) (o : Outside) (seats left : List Seat) → IsUntouched o seats left → RunAnswers run o seats left answer.NoMemory

@@ -125,17 +125,33 @@ IsInput told (image.Aif file at) name = name ≡ file
 IsInput told (image.Elf file) name = name ≡ file
 IsInput told (image.Map file) name = (name ≡ file) ⊎ IsLoadFile told file name
 
--- a refusal for a missing input comes only with a fault, or where its name is the name of no file
+-- one of the inputs is missing, for which a read failed
 abbrev pub IsLost : Type 0 → (List ℕ → Type 0) → Result Image Refusal → Type 0
-IsLost rose input (Err (Missing name)) = ((has_zero name ≡ true) ⊎ rose) × input name
-IsLost rose input other = Unit {0}
+IsLost rose input read = (name : List ℕ) × (read ≡ Err (Missing name)) × rose × input name
 
--- what was read is what the files that are told give; where none are told, one is missing only where a read failed
--- or its name is the name of no file
-abbrev pub IsGiven : (Files → Result Image Refusal) → Option Files → Type 0 → (List ℕ → Type 0) → Result Image Refusal → Type 0
-IsGiven judge None rose input read = IsLost rose input read
-IsGiven judge (Some files) rose input read = read ≡ judge files
+-- what some contents of the load files of a map give, up to a name that is the name of no file
+abbrev pub SomeLoads : MapFile → Result Image Refusal → Type 0
+SomeLoads m read =
+    (contents : List (List ℕ)) × (length contents ≡ length (front_of (files_in m) (unnamed (files_in m))))
+    × (read ≡ (all_named (files_in m) (unnamed (files_in m)) >>= λ right. loaded_image m contents))
+
+abbrev pub SomeMapped : Result MapFile Refusal → Result Image Refusal → Type 0
+SomeMapped (Ok m) read = SomeLoads m read
+SomeMapped (Err r) read = read ≡ Err r
+
+-- what some contents of the files that the words name give
+abbrev pub SomeGive : RunImage → Result Image Refusal → Type 0
+SomeGive (image.Binary file at) read = (bytes : List ℕ) × (read ≡ Ok (binary_image at bytes))
+SomeGive (image.Aif file at) read = (bytes : List ℕ) × (read ≡ aif_at file at bytes)
+SomeGive (image.Elf file) read = (bytes : List ℕ) × (read ≡ elf_image file bytes)
+SomeGive (image.Map file) read = (text : List ℕ) × SomeMapped (named_by file (map_of text)) read
+
+-- what was read is what the files that are told give; where none are told, it is what some contents of them give, or one is missing
+abbrev pub IsGiven : (Files → Result Image Refusal) → (Result Image Refusal → Type 0) → Option Files → Type 0 → (List ℕ → Type 0)
+    → Result Image Refusal → Type 0
+IsGiven judge some_give None rose input read = some_give read ⊎ IsLost rose input read
+IsGiven judge some_give (Some files) rose input read = read ≡ judge files
 
 -- what the words name reads so
 abbrev pub IsRead : Option Files → Type 0 → RunImage → Result Image Refusal → Type 0
-IsRead told rose image read = IsGiven (image_of image) told rose (IsInput told image) read
+IsRead told rose image read = IsGiven (image_of image) (SomeGive image) told rose (IsInput told image) read

@@ -1,6 +1,6 @@
 -- What each answer to `run` says of the image and the run, and what it leaves of files, sink and devices. This
 -- project's.
-use Rattle.std.specs.Prelude.{◌≡◌, ℕ, Bool, List, map, Option, Result, Ok, Err}
+use Rattle.std.specs.Prelude.{◌≡◌, ◌≤◌, ℕ, Bool, List, map, Option, Result, Ok, Err}
 use Rattle.sdt_word.specs.declared.ranges.Range32.{Range32}
 use Rattle.sdt_fault.specs.declared.answer.Answer.{Answer}
 use Rattle.sdt_fault.specs.declared.answer.Answer.TheVariants as answer
@@ -43,6 +43,7 @@ pub record IsRun (start : ℕ) (thumb : Bool) (most : ℕ) (begin : State) (why 
   pub core : ArmState
   pub reset : IsReset start thumb core
   pub made : ℕ
+  pub few : made ≤ most
   pub core' : ArmState
   pub end : State
   pub runs : RunsInto most core begin why made core' end before after rose

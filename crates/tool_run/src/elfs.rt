@@ -50,6 +50,20 @@ fn load_of(alloc: Global, bytes: &[u8], segment: Segment) -> Result<Load, NoMemo
     })
 }
 
+/// The most bytes that segments take from their file, which may all have the same ones.
+const MOST_BYTES: usize = 1 << 30;
+
+/// Judges that there is room for copies of the segments' bytes.
+fn judge_bytes(segments: &[Segment]) -> Result<(), NoMemory> {
+    let mut left = MOST_BYTES;
+    for segment in segments {
+        left = left
+            .checked_sub(segment.file_size as usize)
+            .ok_or(NoMemory)?;
+    }
+    Ok(())
+}
+
 fn loads_of(alloc: Global, bytes: &[u8], segments: &[Segment]) -> Result<Vec<Load>, NoMemory>
     requires { AllByRecursion (IsSegment (length bytes.now)) segments.now }
     ensures { IfOk result (λ loads. loads.items ≡ map (elfs.load_of bytes.now) segments.now) }
@@ -80,6 +94,7 @@ fn loaded_elf(alloc: Global, bytes: &[u8], elf: &Elf) -> Result<Image, NoMemory>
     ensures needed { IfOk result (λ image. AreNeeded image) }
 {
     let segments = elf.segments.as_slice();
+    judge_bytes(segments)?;
     let loads = loads_of(alloc, bytes, segments)?;
     let needs = needs_of(alloc, segments)?;
     Ok(Image {
@@ -90,8 +105,8 @@ fn loaded_elf(alloc: Global, bytes: &[u8], elf: &Elf) -> Result<Image, NoMemory>
     })
 }
 
-/// The image that a file's bytes are. The bytes of each segment are copied, and no zeros behind them, so that it takes
-/// no more memory than the file's segments have bytes.
+/// The image that a file's bytes are. The bytes of each segment are copied, and no zeros behind them; more than 2^30 bytes in all
+/// count as want of memory, before the first is copied.
 pub fn elf_image(alloc: Global, file: &Text, bytes: &[u8]) -> Result<Image, Fault>
     requires { length bytes.now < 2 ^ 32 }
     ensures exact { Gives result (elfs.elf_image file.now bytes.now) }

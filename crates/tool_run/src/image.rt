@@ -107,7 +107,8 @@ fn read_elf_file<S: Store>(alloc: Global, store: &mut S, file: &Text) -> Result<
 
 fn read_loads<S: Store>(alloc: Global, store: &mut S, m: &MapFile) -> Result<Image, ImageEnd>
     ensures read { let told = S.files store.old in let rose = Rose (S.read_faults store.old) (S.read_faults store.new) in
-        Reads (IsGiven (images.mapped_image m.now) told rose (IsReached told (images.files_in m.now))) rose (IsReached told (images.files_in m.now)) result }
+        Reads (IsGiven (images.mapped_image m.now) (images.SomeLoads m.now) told rose (IsReached told (images.files_in m.now)))
+        rose (IsReached told (images.files_in m.now)) result }
     ensures needed { IfOk result (λ image. AreNeeded image) }
     ensures files { S.files store.new ≡ S.files store.old }
     ensures read_faults { S.read_faults store.old ≤ S.read_faults store.new }

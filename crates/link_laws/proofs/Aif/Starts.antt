@@ -5,7 +5,7 @@ use Rattle.std.specs.List.{find, flat_map}
 use Rattle.std.specs.Option.{option_map}
 use Rattle.sdt_word.specs.Numbers.{flag}
 use Rattle.sdt_word.specs.declared.ranges.Range32.{Range32}
-use Rattle.boot_code.specs.Aif.{BootsAif, ShowsImage, file_at, aif_bound}
+use Rattle.boot_code.specs.Aif.{BootsAif, IsRelocatable, ShowsImage, file_at, aif_bound, shifted_file}
 use Rattle.boot_code.specs.Boots.{Boots, covers, ByteMap}
 use Rattle.boot_code.specs.Startup.{zeros}
 use Rattle.boot_code.specs.Maps.{Holds, bytes_of_words}
@@ -46,7 +46,7 @@ use Rattle.link_laws.proofs.Shifts.Applied.{moved_is_applied}
 use Rattle.link_laws.proofs.Shifts.Needs.{entry_there}
 use Rattle.link_laws.proofs.Shifts.Placed.{aif_placement, whole_image}
 use Rattle.link_laws.proofs.Shifts.Placement.{base_moves, veneers_move}
-use Rattle.link_laws.proofs.Shifts.Starts.{file_size, moved_image_boots, moved_image_shows}
+use Rattle.link_laws.proofs.Shifts.Starts.{file_size, moved_image_boots, moved_image_shows, relocatable_at}
 
 apart : {X : Type 0} (x : X) (o : Option X) → o ≡ None → o ≡ Some x → ⊥
 apart x o none some = cc
@@ -350,6 +350,14 @@ module _ (base : ℕ) (ram : Option (List Range32)) (l : Linked) (a : Assigned) 
     size_there =
         sym (ap length same_file) ∙ file_size base ram l a vs p (items_in l.objects) offset views moving
         ∙ ap (λ (n : ℕ). n + 60 + 4 * length (moving_list base l a vs p) + 4) (sym (parts_same to room))
+
+    pub relocator_there : IsRelocatable (shifted_file (aif_at base l a vs p) to) to (parts_size (aif_plan to true contents)) (zero_size (aif_plan to true contents)) base offset (moving_list base l a vs p)
+    relocator_there =
+        let file : IsRelocatable (shifted_file (moving_file base l a vs p offset) to) to (parts_size here) (zero_size here) base offset (moving_list base l a vs p) =
+        relocatable_at base ram l a vs p (items_in l.objects) offset views moving to in
+        subst (λ (n : ℕ). IsRelocatable (shifted_file (aif_at base l a vs p) to) to (parts_size (aif_plan to true contents)) n base offset (moving_list base l a vs p)) (sym (zero_same to room))
+        (subst (λ (n : ℕ). IsRelocatable (shifted_file (aif_at base l a vs p) to) to n (zero_size here) base offset (moving_list base l a vs p)) (sym (parts_same to room))
+        (subst (λ (f : List ℕ). IsRelocatable (shifted_file f to) to (parts_size here) (zero_size here) base offset (moving_list base l a vs p)) same_file file))
 
 pub moved_is_seen : MovedIsSeen
 moved_is_seen base to ram l a vs p h fair room = seen_there base ram l a vs p h fair to room

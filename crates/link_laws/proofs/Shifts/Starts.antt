@@ -88,12 +88,17 @@ module _ (base : ℕ) (ram : Option (List Range32)) (l : Linked) (a : Assigned) 
   shown_at to r =
       moved_image_shows base to ram l a vs p items offset (view to) (record { made = m.made; movable = m.movable }) m.image r.whole r.zero_room (m.shows to r)
 
-  loadable : (to : ℕ) → HasRoomAt file parts cleared to → IsLoadable file parts cleared base offset offsets to (view to)
-  loadable to r =
+  -- its relocator and list stand behind its parts, wherever it lies
+  pub relocatable_at : (to : ℕ) → IsRelocatable (shifted_file file to) to parts cleared base offset offsets
+  relocatable_at to =
       let relocatable = relocatable_law base (contents_of l.objects a.regions vs) items (given_at base l p offset) ram (shifts_of (link_of l) p) m.image (no_header_shifts base ram l a vs p m.made m.movable) to in
       let entry : base + offset - base ≡ offset = omega arith in
+      subst (λ n. IsRelocatable (shifted_file file to) to parts cleared base n offsets) entry relocatable
+
+  loadable : (to : ℕ) → HasRoomAt file parts cleared to → IsLoadable file parts cleared base offset offsets to (view to)
+  loadable to r =
       record {
-        image = subst (λ n. IsRelocatable (shifted_file file to) to parts cleared base n offsets) entry relocatable;
+        image = relocatable_at to;
         size = file_size;
         whole = r.whole;
         file_room = r.file_room;

@@ -1,0 +1,14 @@
+//! How the startup code enters a generated source's program. There is no engine.
+#![tactic(auto)]
+
+ghost use Rattle.big_entry.specs.Entries.{ProgramIsEntered};
+
+use arm7_model::step_is_valid;
+
+/// Where it leads to the program's first word, with memory as a view that has the program there, the state is one from which
+/// the program runs.
+pub fn program_is_entered()
+    ensures { ProgramIsEntered }
+{
+    step_is_valid();
+}
