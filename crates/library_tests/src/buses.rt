@@ -42,7 +42,7 @@ fn start(bus: &mut Bus, bank: Range32) -> Result<(), &'static str>
 }
 
 /// The bytes of a range, as a number.
-pub fn loaded(bytes: &[u8], at: usize, n: usize) -> Result<u32, Absent>
+fn loaded(bytes: &[u8], at: usize, n: usize) -> Result<u32, Absent>
     requires { at + n < 2 ^ 33 }
 {
     let Some(part) = bytes.get(at..at + n) else {
@@ -56,7 +56,7 @@ pub fn loaded(bytes: &[u8], at: usize, n: usize) -> Result<u32, Absent>
 }
 
 /// Sets the bytes of a range to the low bytes of a value.
-pub fn stored(bytes: &mut [u8], at: usize, n: usize, v: u32) -> Result<(), BusFault>
+fn stored(bytes: &mut [u8], at: usize, n: usize, v: u32) -> Result<(), BusFault>
     requires { at + n < 2 ^ 33 }
 {
     let Some(part) = bytes.get_mut(at..at + n) else {
@@ -70,7 +70,7 @@ pub fn stored(bytes: &mut [u8], at: usize, n: usize, v: u32) -> Result<(), BusFa
     Ok(())
 }
 
-pub fn width_of(x: u32) -> Width {
+fn width_of(x: u32) -> Width {
     match x >> 24 & 3 {
         0 => Width::Byte,
         1 => Width::Half,

@@ -3,8 +3,6 @@
 #![tactic(auto)]
 
 #[cfg(test)]
-mod banks;
-#[cfg(test)]
 mod buses;
 #[cfg(test)]
 mod calls;
