@@ -1,6 +1,6 @@
 //! Breakpoints.
 
-ghost use Rattle.std.specs.Prelude.{◌≡◌, ℕ, ◌≤◌, ◌<◌, ◌+◌, ◌==◌, List, [], ◌∷◌, ◌++◌, take, length, filter, not};
+ghost use Rattle.std.specs.Prelude.{◌≡◌, ℕ, ◌≤◌, ◌<◌, List, [], ◌∷◌, ◌++◌, take, length};
 ghost use Rattle.armsd_core.specs.Points.{is_point};
 
 use crate::script::POINTS;
@@ -50,27 +50,5 @@ impl Points {
     {
         self.list[self.count as usize] = a;
         self.count += 1;
-    }
-
-    /// Adds the point, unless it is this address.
-    fn keep(&mut self, point: u32, a: u32)
-        requires { length self.old < 64 }
-        ensures kept { self.new ≡ self.old ++ filter (λ p. not (p == a)) (point ∷ []) }
-        ensures length { length self.new ≤ length self.old + 1 }
-    {
-        if point != a {
-            self.add(point);
-        }
-    }
-
-    /// Takes the address out, wherever it stands.
-    pub fn remove(&mut self, a: u32)
-        ensures { self.new ≡ filter (λ p. not (p == a)) self.old }
-    {
-        let mut kept = Points::none();
-        'points: for at in 0..self.count {
-            kept.keep(self.list[at as usize], a);
-        }
-        *self = kept;
     }
 }

@@ -1,6 +1,6 @@
 //! Why a Step or a Go ends.
 
-ghost use Rattle.std.specs.Prelude.{◌≡◌, ◌≤◌, ◌++◌, ◌<◌, length};
+ghost use Rattle.std.specs.Prelude.{◌≡◌};
 ghost use Rattle.armsd_core.specs.Reasons as reasons;
 
 use sdt_fault::answer::Stop;

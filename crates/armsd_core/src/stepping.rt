@@ -1,6 +1,6 @@
 //! The steps of a Step, and why a Go pauses.
 
-ghost use Rattle.std.specs.Prelude.{◌≡◌, ◌≤◌, ◌<◌, ◌+◌, ◌^◌, map};
+ghost use Rattle.std.specs.Prelude.{◌≡◌, ◌≤◌, map};
 ghost use Rattle.sdt_outside.specs.Counts.{Rose};
 ghost use Rattle.arm7_model.specs.Registers.{IsValid, register};
 ghost use Rattle.arm7_bus.specs.Meets.{IsFound};
