@@ -1,0 +1,5 @@
+mod MemberLemmas
+mod OrderingLemmas
+mod Rows
+mod TextLemmas
+mod ValueLemmas

@@ -1,0 +1,7 @@
+-- What the clauses of the crate cite.
+pub mod Lines
+pub mod Regions
+pub mod Symbols
+pub mod Members
+pub mod Reports
+pub mod Shown

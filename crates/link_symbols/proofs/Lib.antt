@@ -1,0 +1,4 @@
+pub mod LawLemmas
+pub mod ShownLemmas
+pub mod StartLemmas
+pub mod TableLemmas
