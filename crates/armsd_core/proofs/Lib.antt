@@ -3,3 +3,4 @@ pub mod LineLemmas
 pub mod ScriptLemmas
 pub mod ReadLemmas
 mod Rows
+pub mod StepLemmas

@@ -2,3 +2,7 @@
 pub mod Numerals
 pub mod Commands
 pub mod Scripts
+pub mod Reasons
+pub mod Points
+pub mod Goes
+pub mod Carried

@@ -1,0 +1,7 @@
+-- Breakpoints. This project's.
+use Rattle.std.specs.Prelude.{ℕ, ◌==◌, Bool, List}
+use Rattle.std.specs.List.{list_any}
+
+-- the address is a breakpoint
+abbrev pub is_point : List ℕ → ℕ → Bool
+is_point points a = list_any (λ p. p == a) points
