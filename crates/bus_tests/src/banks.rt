@@ -1,0 +1,347 @@
+//! Generated accesses to buses of three banks and a serial port, whose frames run out, and to a plain list of bytes.
+
+ghost use Rattle.std.specs.Prelude.{◌≡◌, ◌+◌, ◌%◌, ◌<◌, ◌^◌, length, OnOk};
+ghost use Rattle.sdt_word.specs.Codes.{bytes_in};
+ghost use Rattle.arm7_bus.specs.Buses.{IsStarted};
+ghost use Rattle.arm7_bus.specs.WholeWords.{IsWhole};
+ghost use Rattle.arm7_transfers.specs.Views.{state_of};
+
+use arm7_bus::{Absent, Bus, BusFault, PagesFull};
+use sdt_outside::{Device, Uart};
+use sdt_word::{Range32, Width};
+use std::process::Abort;
+use std::test::*;
+
+/// The banks touch the pages 0 to 2, 4 and 5, and 8. The last one becomes protected.
+const BANKS: [Range32; 3] = [
+    Range32 {
+        base: 0,
+        size: 0x2800,
+    },
+    Range32 {
+        base: 0x4000,
+        size: 0x1804,
+    },
+    Range32 {
+        base: 0x8000,
+        size: 0x1000,
+    },
+];
+
+/// One for each of these pages.
+const FRAMES: usize = 6;
+
+const UART_AT: u32 = 0x9000;
+
+/// Accesses begin below this address.
+const REACH: u32 = 0xA000;
+
+/// As many pages as accesses and claimed ranges reach.
+const PAGES: usize = 12;
+
+/// The bus as plain lists: a byte for each address, the used pages, the noted stores, and the serial port's last byte and
+/// number of bytes.
+#[derive(Debug, Drop)]
+struct Plain {
+    bytes: Vec<u8>,
+    used: [bool; PAGES],
+    noted: [Range32; 16],
+    count: usize,
+    last: u32,
+    sent: u32,
+}
+
+/// The bytes of a range, as a number.
+fn loaded(bytes: &[u8], at: usize, n: usize) -> Result<u32, Absent>
+    requires { at + n < 2 ^ 33 }
+{
+    let Some(part) = bytes.get(at..at + n) else {
+        return Err(Absent);
+    };
+    let mut total: u32 = 0;
+    for byte in part.iter().rev() {
+        total = total.wrapping_mul(0x100).wrapping_add(u32::from(*byte));
+    }
+    Ok(total)
+}
+
+/// Sets the bytes of a range to the low bytes of a value.
+fn stored(bytes: &mut [u8], at: usize, n: usize, v: u32) -> Result<(), BusFault>
+    requires { at + n < 2 ^ 33 }
+{
+    let Some(part) = bytes.get_mut(at..at + n) else {
+        return Err(BusFault::Absent);
+    };
+    let mut left = v;
+    for byte in part.iter_mut() {
+        *byte = (left % 0x100) as u8;
+        left /= 0x100;
+    }
+    Ok(())
+}
+
+fn width_of(x: u32) -> Width {
+    match x >> 24 & 3 {
+        0 => Width::Byte,
+        1 => Width::Half,
+        _ => Width::Word,
+    }
+}
+
+fn is_in(r: Range32, a: u32, n: u32) -> bool {
+    r.base <= a && u64::from(a) + u64::from(n) <= u64::from(r.base) + r.size
+}
+
+fn is_in_bank(a: u32, n: u32) -> bool {
+    is_in(BANKS[0], a, n) || is_in(BANKS[1], a, n) || is_in(BANKS[2], a, n)
+}
+
+fn is_in_port(a: u32, n: u32) -> bool {
+    a >= UART_AT && u64::from(a) + u64::from(n) <= u64::from(UART_AT) + 8
+}
+
+/// The low `n` bytes of a word behind so many bits.
+fn part(word: u32, bits: u32, n: u32) -> u32
+    requires { bits < 32 }
+{
+    match n {
+        1 => word >> bits & 0xFF,
+        2 => word >> bits & 0xFFFF,
+        _ => word >> bits,
+    }
+}
+
+fn used_pages(used: &[bool; PAGES]) -> usize {
+    used.iter().filter(|page| **page).count()
+}
+
+fn read_plain(plain: &Plain, a: u32, n: u32) -> Result<u32, Absent> {
+    if is_in_port(a, n) {
+        let word = if a < UART_AT + 4 {
+            plain.last
+        } else {
+            plain.sent
+        };
+        return Ok(part(word, 8 * (a % 4), n));
+    }
+    if !is_in_bank(a, n) {
+        return Err(Absent);
+    }
+    loaded(&plain.bytes, a as usize, n as usize)
+}
+
+fn note(plain: &mut Plain, a: u32, n: u32)
+    requires { a + n < 4294967296 }
+{
+    if plain.count < 16 {
+        plain.noted[plain.count] = Range32 {
+            base: a,
+            size: u64::from(n),
+        };
+        plain.count += 1;
+    }
+}
+
+/// A byte goes out with each write to the first word, of which the lowest byte stays.
+fn write_port(plain: &mut Plain, a: u32, v: u32) {
+    if a == UART_AT {
+        plain.last = v & 0xFF;
+    }
+    if a < UART_AT + 4 {
+        plain.sent = plain.sent.wrapping_add(1);
+    }
+}
+
+fn write_plain(plain: &mut Plain, a: u32, n: u32, v: u32) -> Result<(), BusFault>
+    requires place { a < 40976 }
+    requires few { n < 5 }
+{
+    if is_in_port(a, n) {
+        write_port(plain, a, v);
+        note(plain, a, n);
+        return Ok(());
+    }
+    if !is_in_bank(a, n) {
+        return Err(BusFault::Absent);
+    }
+    if a >= BANKS[2].base {
+        return Err(BusFault::ReadOnly);
+    }
+    let page = a as usize / 4096;
+    if !plain.used[page] && used_pages(&plain.used) == FRAMES {
+        return Err(BusFault::NoFrame(a));
+    }
+    plain.used[page] = true;
+    note(plain, a, n);
+    stored(&mut plain.bytes, a as usize, n as usize, v)
+}
+
+/// The range touches the page.
+fn is_touched(r: Range32, page: usize) -> bool
+    requires { page < 4096 }
+{
+    let begin = 4096 * page as u64;
+    u64::from(r.base).max(begin) < (u64::from(r.base) + r.size).min(begin + 4096)
+}
+
+fn claim_plain(plain: &mut Plain, r: Range32) -> Result<(), PagesFull> {
+    let mut used = plain.used;
+    for page in 0..PAGES {
+        used[page] = used[page] || is_touched(r, page);
+    }
+    if used_pages(&used) > FRAMES {
+        return Err(PagesFull);
+    }
+    plain.used = used;
+    Ok(())
+}
+
+/// No more stores are noted than a write may find.
+fn forget_full(bus: &mut Bus, plain: &mut Plain)
+    requires started { IsStarted (state_of base size state touched bus.old) }
+    ensures started { IsStarted (state_of base size state touched bus.new) }
+    ensures few { length (state_of base size state touched bus.new).contents.stores < 16 }
+{
+    if bus.last_stores().count >= 16 {
+        bus.forget_stores();
+        plain.count = 0;
+    }
+}
+
+#[tactic(auto, using(arm7_bus::proofs::ClaimLemmas::claimed_length))]
+fn check_claim(rt: &impl Abort, bus: &mut Bus, plain: &mut Plain, r: Range32)
+    requires started { IsStarted (state_of base size state touched bus.old) }
+    ensures started { IsStarted (state_of base size state touched bus.new) }
+{
+    let claimed = bus.claim_pages(r);
+    assert_eq!(rt; claimed, claim_plain(plain, r));
+}
+
+fn check_write(rt: &impl Abort, bus: &mut Bus, plain: &mut Plain, a: u32, width: Width, v: u32)
+    requires started { IsStarted (state_of base size state touched bus.old) }
+    requires few { length (state_of base size state touched bus.old).contents.stores < 16 }
+    requires aligned { a % bytes_in width ≡ 0 }
+    requires place { a < 40976 }
+    ensures started { IsStarted (state_of base size state touched bus.new) }
+{
+    let written = bus.write(a, width, v);
+    assert_eq!(rt; written, write_plain(plain, a, width.bytes(), v));
+}
+
+fn check_read(rt: &impl Abort, bus: &mut Bus, plain: &Plain, a: u32, width: Width)
+    requires started { IsStarted (state_of base size state touched bus.old) }
+    requires aligned { a % bytes_in width ≡ 0 }
+    requires place { a < 40976 }
+    ensures started { IsStarted (state_of base size state touched bus.new) }
+{
+    let read = bus.read(a, width);
+    assert_eq!(rt; read, read_plain(plain, a, width.bytes()));
+}
+
+/// The access or the claim that a number makes.
+fn check_act(rt: &impl Abort, bus: &mut Bus, plain: &mut Plain, x: u32)
+    requires started { IsStarted (state_of base size state touched bus.old) }
+    requires few { length (state_of base size state touched bus.old).contents.stores < 16 }
+    ensures started { IsStarted (state_of base size state touched bus.new) }
+{
+    let width = width_of(x);
+    let n = width.bytes();
+    let place = (x >> 8) % REACH;
+    let near = if x >> 26 & 3 == 3 {
+        UART_AT + place % 16
+    } else {
+        place
+    };
+    let a = near / n * n;
+    let kind = x >> 28;
+    if kind == 5 {
+        let r = Range32 {
+            base: place,
+            size: u64::from(x % 0x1800),
+        };
+        check_claim(rt, bus, plain, r);
+        return;
+    }
+    if kind < 5 {
+        check_read(rt, bus, plain, a, width);
+        return;
+    }
+    check_write(rt, bus, plain, a, width, x.wrapping_mul(0x9E37_79B1));
+}
+
+/// The pages, and the stores that are noted.
+fn check_notes(rt: &impl Abort, bus: &Bus, plain: &Plain)
+    requires { IsStarted (state_of base size state touched bus.now) }
+{
+    for page in 0..PAGES {
+        assert_eq!(rt; bus.page_used(4096 * page as u32), plain.used[page]);
+    }
+    assert_eq!(rt;
+        (bus.pages_left() as u64).wrapping_add(used_pages(&plain.used) as u64),
+        FRAMES as u64
+    );
+    let stores = bus.last_stores();
+    assert_eq!(rt; stores.count as usize, plain.count);
+    for k in 0..16 {
+        if k < plain.count {
+            assert_eq!(rt; stores.list[k], plain.noted[k]);
+        }
+    }
+}
+
+/// Each number is made of the one before (a linear congruential generator).
+fn check_acts(rt: &impl Abort, bus: &mut Bus, plain: &mut Plain, seed: u32)
+    requires { IsStarted (state_of base size state touched bus.old) }
+{
+    let mut x = seed;
+    'numbers: for _made in 0..2_500 {
+        x = x.wrapping_mul(0x0019_660D).wrapping_add(0x3C6E_F35F);
+        forget_full(bus, plain);
+        check_act(rt, bus, plain, x);
+        check_notes(rt, bus, plain);
+    }
+}
+
+fn start(bus: &mut Bus) -> Result<(), &'static str>
+    requires unstarted { length (state_of base size state touched bus.old).contents.used ≡ 0 }
+    ensures { OnOk result (IsStarted (state_of base size state touched bus.new)) }
+{
+    let Ok(()) = bus.add_bank(BANKS[0]) else {
+        return Err("no bank");
+    };
+    let Ok(()) = bus.add_bank(BANKS[1]) else {
+        return Err("no bank");
+    };
+    let Ok(()) = bus.add_bank(BANKS[2]) else {
+        return Err("no bank");
+    };
+    let Ok(()) = bus.start_pages() else {
+        return Err("no pages");
+    };
+    bus.protect(BANKS[2]);
+    Ok(())
+}
+
+/// Four buses, with 2,500 accesses and claims for each.
+#[test]
+fn accesses_without_frames(rt: HostRuntime) -> Result<(), Fail> {
+    let alloc = rt.alloc();
+    for seed in 0..4 {
+        let mut devices: Vec<Box<dyn Device>> = Vec::new(alloc);
+        devices.push(Box::new(alloc, Uart::new(UART_AT))?)?;
+        let Ok(mut bus) = Bus::new(alloc, devices) else {
+            return Err("one device meets none".into());
+        };
+        start(&mut bus)?;
+        let mut plain = Plain {
+            bytes: vec![in alloc; 0u8; REACH as usize]?,
+            used: [false; PAGES],
+            noted: [Range32 { base: 0, size: 0 }; 16],
+            count: 0,
+            last: 0,
+            sent: 0,
+        };
+        check_acts(&rt, &mut bus, &mut plain, seed);
+    }
+    Ok(())
+}
