@@ -249,6 +249,9 @@ name_counts words before at zero h =
     let must : must_count MakeBig before ≡ true = grind (arith, nat_tests) in
     met (must_count MakeBig before) (is_count (decimal_at words at)) must (second_of_both (is_plain (word_at words at)) _ h)
 
+abbrev one_if : Bool → ℕ
+one_if b = cond b 1 0
+
 count_found : (words : List (List ℕ)) (o : Option Item) → ℕ
 count_found words o = option_map_or (λ at. unwrap_or (decimal_at words at) 0) (option_map (λ i. i.at) o) 0
 
@@ -259,10 +262,10 @@ count_more : (words : List (List ℕ)) (choice : Choice) (before : List Item) (i
 unfolding count_found
 count_more words choice before i is true e zero h some rest = counts (decimal_at words i.at) (name_counts words before i.at zero (name_good words choice before i.at i.role e h))
 count_more words choice before i is false e zero h some rest =
-    let none : cond (is_name i.role) 1 0 ≡ 0 = ap (λ b. cond b 1 0) e in
-    let pushed : name_count (before ++ i ∷ []) ≡ name_count before + cond (is_name i.role) 1 0 = sum_by_push (λ j. cond (is_name j.role) 1 0) before i in
-    let headed : name_count (i ∷ is) ≡ cond (is_name i.role) 1 0 + name_count is = sum_by-cons (λ j. cond (is_name j.role) 1 0) i is in
-    rest (pushed ∙ rw (zero, none) refl) (let more : 0 < cond (is_name i.role) 1 0 + name_count is = rw (sym headed) some in rw none at more more)
+    let none : one_if (is_name i.role) ≡ 0 = ap one_if e in
+    let pushed : name_count (before ++ i ∷ []) ≡ name_count before + one_if (is_name i.role) = sum_by_push (λ (j : Item). one_if (is_name j.role)) before i in
+    let headed : name_count (i ∷ is) ≡ one_if (is_name i.role) + name_count is = sum_by-cons (λ (j : Item). one_if (is_name j.role)) i is in
+    rest (omega (arith, pushed, zero, none)) (omega (arith, headed, none, some))
 
 -- the first name counts, where no name stands before
 first_counts : (words : List (List ℕ)) (choice : Choice) (before items : List Item) → name_count before ≡ 0 → items_fault MakeBig words choice before items ≡ None → 0 < name_count items → IsCount (count_of words items)
