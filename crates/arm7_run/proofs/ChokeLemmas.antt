@@ -24,12 +24,12 @@ choked most core s made core' s' before after rose c =
     record {
       counted = x.counted;
       runs = record {
-          count = suc c.count;
-          core1 = core';
-          s1 = s';
-          leads = goes x.piece x.event c.leads x.step x.goes_on;
-          ends = (one-more c.count ∙ sym c.made_is, c.made_is ∙ sym (one-more c.count), refl, refl);
-        };
+        count = suc c.count;
+        core1 = core';
+        s1 = s';
+        leads = goes x.piece x.event c.leads x.step x.goes_on;
+        ends = (one-more c.count ∙ sym c.made_is, c.made_is ∙ sym (one-more c.count), refl, refl);
+      };
       part = part_more before c.middle after c.text x.piece (c.text ++ x.piece) [] c.got x.part (sym (no_more (c.text ++ x.piece)));
     }
 
@@ -46,4 +46,4 @@ ended_by most core s why made core' s' before after rose h = go (is_sink why) h
     go : (b : Bool) → MatchBool b (RunChokes most core s made core' s' before after rose) ((text : List ℕ) × Runs most core s why made text core' s' × Got before after text)
         → (text : List ℕ) × EndedBy b most core s why made text core' s' before after rose
     go true c = (c.text ++ c.chokes.piece, choked most core s made core' s' before after rose c)
-    go false x = x
+    go false (text, run, got) = (text, (run, got))

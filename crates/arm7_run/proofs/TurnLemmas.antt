@@ -86,49 +86,41 @@ stops most core s before n core1 s1 after1 core2 s2 after2 rose rose' turn.On en
 stops most core s before n core1 s1 after1 core2 s2 after2 rose rose' turn.Exits end few w (e, step, (host, same)) up is =
     told most core s before core2 s2 after2 rose' _ end is (
       w.text,
-      (
-        record { count = n; core1 = core1; s1 = s1; leads = w.leads; ends = (few, refl, subst (λ (x : Event). IsStep core1 s1 x core2 s2) host step) },
-        subst (λ (b : Option (List ℕ)). Got before b w.text) (sym same) w.got,
-      ),
+      record { count = n; core1 = core1; s1 = s1; leads = w.leads; ends = (few, refl, subst (λ (x : Event). IsStep core1 s1 x core2 s2) host step) },
+      subst (λ (b : Option (List ℕ)). Got before b w.text) (sym same) w.got,
     )
 stops most core s before n core1 s1 after1 core2 s2 after2 rose rose' (turn.Breaks a) end few w (e, step, (host, broken, same)) up is =
     told most core s before core2 s2 after2 rose' _ end is (
       w.text,
-      (
-        record { count = n; core1 = core1; s1 = s1; leads = w.leads; ends = (few, refl, subst (λ (x : Event). IsStep core1 s1 x core2 s2) host step, broken) },
-        subst (λ (b : Option (List ℕ)). Got before b w.text) (sym same) w.got,
-      ),
+      record { count = n; core1 = core1; s1 = s1; leads = w.leads; ends = (few, refl, subst (λ (x : Event). IsStep core1 s1 x core2 s2) host step, broken) },
+      subst (λ (b : Option (List ℕ)). Got before b w.text) (sym same) w.got,
     )
 stops most core s before n core1 s1 after1 core2 s2 after2 rose rose' turn.Chokes end few w (e, step, (higher, (piece, on, printed, part))) up is =
     told most core s before core2 s2 after2 rose' _ end is (
-      record {
-        count = n;
-        few = few;
-        made_is = refl;
-        text = w.text;
-        core1 = core1;
-        s1 = s1;
-        leads = w.leads;
-        middle = after1;
-        got = w.got;
-        chokes = record { event = e; step = step; piece = piece; goes_on = on; printed = printed; part = part; counted = up higher };
-      }
+    record {
+      count = n;
+      few = few;
+      made_is = refl;
+      text = w.text;
+      core1 = core1;
+      s1 = s1;
+      leads = w.leads;
+      middle = after1;
+      got = w.got;
+      chokes = record { event = e; step = step; piece = piece; goes_on = on; printed = printed; part = part; counted = up higher };
+    }
     )
 stops most core s before n core1 s1 after1 core2 s2 after2 rose rose' (turn.Unpredictable a x) end few w (e, step, (word, at, same)) up is =
     told most core s before core2 s2 after2 rose' _ end is (
       w.text,
-      (
-        record { count = n; core1 = core1; s1 = s1; leads = w.leads; ends = (few, refl, at, subst (λ (x : Event). IsStep core1 s1 x core2 s2) word step) },
-        subst (λ (b : Option (List ℕ)). Got before b w.text) (sym same) w.got,
-      ),
+      record { count = n; core1 = core1; s1 = s1; leads = w.leads; ends = (few, refl, at, subst (λ (x : Event). IsStep core1 s1 x core2 s2) word step) },
+      subst (λ (b : Option (List ℕ)). Got before b w.text) (sym same) w.got,
     )
 stops most core s before n core1 s1 after1 core2 s2 after2 rose rose' (turn.NoFrame a) end few w (e, step, (word, same)) up is =
     told most core s before core2 s2 after2 rose' _ end is (
       w.text,
-      (
-        record { count = n; core1 = core1; s1 = s1; leads = w.leads; ends = (few, refl, subst (λ (x : Event). IsStep core1 s1 x core2 s2) word step) },
-        subst (λ (b : Option (List ℕ)). Got before b w.text) (sym same) w.got,
-      ),
+      record { count = n; core1 = core1; s1 = s1; leads = w.leads; ends = (few, refl, subst (λ (x : Event). IsStep core1 s1 x core2 s2) word step) },
+      subst (λ (b : Option (List ℕ)). Got before b w.text) (sym same) w.got,
     )
 
 pub turned : (t : Turn) (e : Event) (at : ℕ) (core : ArmState) (s : State) (core' : ArmState) (s' : State) (before after : Option (List ℕ)) (rose : Type 0)

@@ -17,11 +17,11 @@ step_makes n made core s why o core' s' before after rose e h =
     subst (λ (x : Option Reason). Makes (Steps core s) n x made core' s' before after rose) (sym e) (go why h)
   where
     go : (w : Stop) → RunsInto n core s w made core' s' before after rose → Makes (Steps core s) n (reason_of w) made core' s' before after rose
-    go stop.Budget (text, (runs, got)) = (text, (stop.Budget, refl, runs), got)
-    go stop.Exit (text, (runs, got)) = (text, (stop.Exit, refl, runs), got)
-    go (stop.Unpredictable a w) (text, (runs, got)) = (text, (stop.Unpredictable a w, refl, runs), got)
-    go (stop.BadString a) (text, (runs, got)) = (text, (stop.BadString a, refl, runs), got)
-    go (stop.NoFrame a) (text, (runs, got)) = (text, (stop.NoFrame a, refl, runs), got)
+    go stop.Budget (text, runs, got) = (text, (stop.Budget, refl, runs), got)
+    go stop.Exit (text, runs, got) = (text, (stop.Exit, refl, runs), got)
+    go (stop.Unpredictable a w) (text, runs, got) = (text, (stop.Unpredictable a w, refl, runs), got)
+    go (stop.BadString a) (text, runs, got) = (text, (stop.BadString a, refl, runs), got)
+    go (stop.NoFrame a) (text, runs, got) = (text, (stop.NoFrame a, refl, runs), got)
     go stop.Sink c = record {
       count = c.count;
       few = c.few;
