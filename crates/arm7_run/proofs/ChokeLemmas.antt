@@ -6,7 +6,7 @@ use Rattle.sdt_fault.specs.declared.answer.Stop.TheVariants as stop
 use Rattle.sdt_outside.specs.Sinks.{Got, GotPart}
 use Rattle.arm7_model.specs.declared.state.ArmState.{ArmState}
 use Rattle.arm7_bus.specs.States.{State}
-use Rattle.arm7_run.specs.Runs.{Leads, goes, RunChokes, Runs, RunsInto, is_sink}
+use Rattle.arm7_run.specs.Runs.{goes, RunChokes, Runs, RunsInto, is_sink}
 use Rattle.arm7_run.proofs.StringLemmas.{no_more, part_more}
 
 one-more : (n : ℕ) → suc n ≡ n + 1
