@@ -1,2 +1,3 @@
+pub mod ChokeLemmas
 pub mod StringLemmas
 pub mod TurnLemmas

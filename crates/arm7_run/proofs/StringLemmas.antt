@@ -160,3 +160,12 @@ part_of_text b0 b1 b2 c a n m count piece e le got part =
     let all : n + m + (count - (n + m)) ≡ count = omega arith in
     part_more b0 b1 b2 (bytes_behind c a n) piece (bytes_behind c a count) rest got part
     (ap (bytes_behind c a) (sym all) ∙ is ∙ ap (λ (l : List ℕ). l ++ rest) e)
+
+not_empty : (xs : List ℕ) (x : ℕ) → xs ++ x ∷ [] ≢ []
+not_empty [] x e = cc
+not_empty (y ∷ xs) x e = cc
+
+-- a string with a byte isn't empty
+pub some_bytes : (c : Contents) (a n : ℕ) → 0 < n → bytes_behind c a n ≢ []
+some_bytes c a zero few e = absurd (omega arith)
+some_bytes c a (suc n) few e = not_empty (bytes_behind c a n) (unwrap_or (byte_behind c a n) 0) e

@@ -12,7 +12,7 @@ use Rattle.arm7_run.specs.declared.host.Turn.TheVariants as turn
 use Rattle.arm7_run.specs.declared.host.RunEnd.{RunEnd}
 use Rattle.arm7_run.specs.Runs.{Leads, goes, stays, RunsInto}
 use Rattle.arm7_run.specs.Turns.{Bytes, Strings, Turned, Turns, ended}
-use Rattle.arm7_run.proofs.StringLemmas.{got_more, no_more, part_more}
+use Rattle.arm7_run.proofs.StringLemmas.{got_more}
 use Rattle.sdt_outside.proofs.SharedLemmas.{got_none}
 
 string : (t : Turn) (at : ℕ) (core : ArmState) (s : State) (before after : Option (List ℕ)) (rose : Type 0)
@@ -32,7 +32,7 @@ turns_string t e n a at core s before after rose is two of h =
 byte : (t : Turn) (at : ℕ) (core : ArmState) (s : State) (before after : Option (List ℕ)) (rose : Type 0)
     → Bytes t (register core 0 % 256) before after rose → Turns t (event.Host 0) at core s before after rose
 byte turn.On at core s before after rose h = (register core 0 % 256 ∷ [], refl, h)
-byte turn.Chokes at core s before after rose h = (h.0, (register core 0 % 256 ∷ [], refl, h.1))
+byte turn.Chokes at core s before after rose h = (h.0, (register core 0 % 256 ∷ [], refl, (λ e. cc), h.1))
 byte (turn.Breaks told) at core s before after rose h = absurd h
 byte turn.Exits at core s before after rose h = absurd h
 byte (turn.Unpredictable a w) at core s before after rose h = absurd h
@@ -86,43 +86,41 @@ stops most core s before n core1 s1 after1 core2 s2 after2 rose rose' turn.On en
 stops most core s before n core1 s1 after1 core2 s2 after2 rose rose' turn.Exits end few w (e, step, (host, same)) up is =
     told most core s before core2 s2 after2 rose' _ end is (
       w.text,
-      (
-        record { count = n; core1 = core1; s1 = s1; leads = w.leads; ends = (few, refl, subst (λ (x : Event). IsStep core1 s1 x core2 s2) host step) },
-        subst (λ (b : Option (List ℕ)). Got before b w.text) (sym same) w.got,
-      ),
+      record { count = n; core1 = core1; s1 = s1; leads = w.leads; ends = (few, refl, subst (λ (x : Event). IsStep core1 s1 x core2 s2) host step) },
+      subst (λ (b : Option (List ℕ)). Got before b w.text) (sym same) w.got,
     )
 stops most core s before n core1 s1 after1 core2 s2 after2 rose rose' (turn.Breaks a) end few w (e, step, (host, broken, same)) up is =
     told most core s before core2 s2 after2 rose' _ end is (
       w.text,
-      (
-        record { count = n; core1 = core1; s1 = s1; leads = w.leads; ends = (few, refl, subst (λ (x : Event). IsStep core1 s1 x core2 s2) host step, broken) },
-        subst (λ (b : Option (List ℕ)). Got before b w.text) (sym same) w.got,
-      ),
+      record { count = n; core1 = core1; s1 = s1; leads = w.leads; ends = (few, refl, subst (λ (x : Event). IsStep core1 s1 x core2 s2) host step, broken) },
+      subst (λ (b : Option (List ℕ)). Got before b w.text) (sym same) w.got,
     )
-stops most core s before n core1 s1 after1 core2 s2 after2 rose rose' turn.Chokes end few w (e, step, (higher, (piece, on, part))) up is =
+stops most core s before n core1 s1 after1 core2 s2 after2 rose rose' turn.Chokes end few w (e, step, (higher, (piece, on, printed, part))) up is =
     told most core s before core2 s2 after2 rose' _ end is (
-      w.text ++ piece,
-      (
-        up higher,
-        record { count = suc n; core1 = core2; s1 = s2; leads = goes piece e w.leads step on; ends = (one-more n, sym (one-more n), refl, refl) },
-        part_more before after1 after2 w.text piece (w.text ++ piece) [] w.got part (sym (no_more (w.text ++ piece))),
-      ),
+    record {
+      count = n;
+      few = few;
+      made_is = refl;
+      text = w.text;
+      core1 = core1;
+      s1 = s1;
+      leads = w.leads;
+      middle = after1;
+      got = w.got;
+      chokes = record { event = e; step = step; piece = piece; goes_on = on; printed = printed; part = part; counted = up higher };
+    }
     )
 stops most core s before n core1 s1 after1 core2 s2 after2 rose rose' (turn.Unpredictable a x) end few w (e, step, (word, at, same)) up is =
     told most core s before core2 s2 after2 rose' _ end is (
       w.text,
-      (
-        record { count = n; core1 = core1; s1 = s1; leads = w.leads; ends = (few, refl, at, subst (λ (x : Event). IsStep core1 s1 x core2 s2) word step) },
-        subst (λ (b : Option (List ℕ)). Got before b w.text) (sym same) w.got,
-      ),
+      record { count = n; core1 = core1; s1 = s1; leads = w.leads; ends = (few, refl, at, subst (λ (x : Event). IsStep core1 s1 x core2 s2) word step) },
+      subst (λ (b : Option (List ℕ)). Got before b w.text) (sym same) w.got,
     )
 stops most core s before n core1 s1 after1 core2 s2 after2 rose rose' (turn.NoFrame a) end few w (e, step, (word, same)) up is =
     told most core s before core2 s2 after2 rose' _ end is (
       w.text,
-      (
-        record { count = n; core1 = core1; s1 = s1; leads = w.leads; ends = (few, refl, subst (λ (x : Event). IsStep core1 s1 x core2 s2) word step) },
-        subst (λ (b : Option (List ℕ)). Got before b w.text) (sym same) w.got,
-      ),
+      record { count = n; core1 = core1; s1 = s1; leads = w.leads; ends = (few, refl, subst (λ (x : Event). IsStep core1 s1 x core2 s2) word step) },
+      subst (λ (b : Option (List ℕ)). Got before b w.text) (sym same) w.got,
     )
 
 pub turned : (t : Turn) (e : Event) (at : ℕ) (core : ArmState) (s : State) (core' : ArmState) (s' : State) (before after : Option (List ℕ)) (rose : Type 0)

@@ -1,7 +1,7 @@
 -- The run of a machine over a bus: steps that go on, with what the host's interrupts print, and then the stop. The host's
 -- interrupts are 0x00, which prints the low byte of r0; 0x02, which prints the string at r0; and 0x11, which ends the
 -- run. This project's.
-use Rattle.std.specs.Prelude.{◌≡◌, ℕ, zero, suc, ◌+◌, ◌%◌, ◌<◌, ◌==◌, Bool, true, false, List, [], ◌∷◌, ◌++◌, Option, MatchBool}
+use Rattle.std.specs.Prelude.{◌≡◌, ◌≢◌, ℕ, zero, suc, ◌+◌, ◌%◌, ◌<◌, ◌==◌, Bool, true, false, List, [], ◌∷◌, ◌++◌, Option, MatchBool}
 use Rattle.sdt_fault.specs.declared.answer.Stop.{Stop}
 use Rattle.sdt_fault.specs.declared.answer.Stop.TheVariants as stop
 use Rattle.sdt_outside.specs.Sinks.{Got, GotPart}
@@ -57,11 +57,31 @@ is_sink (stop.BadString a) = false
 is_sink (stop.NoFrame a) = false
 is_sink stop.Sink = true
 
--- the run with its text appended to a sink; where the sink failed, the run of as many steps as were made, with a
--- beginning of its text
+-- a step printed, and the sink got a beginning of that alone; a fault was counted
+pub record Chokes (core : ArmState) (s : State) (core' : ArmState) (s' : State) (before after : Option (List ℕ)) (rose : Type 0) : Type 0 where
+  pub event : Event
+  pub step : IsStep core s event core' s'
+  pub piece : List ℕ
+  pub goes_on : GoesOn event core' s' piece
+  pub printed : piece ≢ []
+  pub part : GotPart before after piece
+  pub counted : rose
+
+-- the last step of at most so many choked, and the others went on, with their text in the sink
+pub record RunChokes (most : ℕ) (core : ArmState) (s : State) (made : ℕ) (core' : ArmState) (s' : State) (before after : Option (List ℕ)) (rose : Type 0) : Type 0 where
+  pub count : ℕ
+  pub few : count < most
+  pub made_is : made ≡ count + 1
+  pub text : List ℕ
+  pub core1 : ArmState
+  pub s1 : State
+  pub leads : Leads core s count text core1 s1
+  pub middle : Option (List ℕ)
+  pub got : Got before middle text
+  pub chokes : Chokes core1 s1 core' s' middle after rose
+
+-- the run with its text appended to a sink; where the sink failed, it ends with the step whose text failed
 abbrev pub RunsInto : ℕ → ArmState → State → Stop → ℕ → ArmState → State → Option (List ℕ) → Option (List ℕ) → Type 0 → Type 0
 RunsInto most core s why made core' s' before after rose =
-    (text : List ℕ)
-    × MatchBool (is_sink why)
-    (rose × Runs made core s stop.Budget made text core' s' × GotPart before after text)
-    (Runs most core s why made text core' s' × Got before after text)
+    MatchBool (is_sink why) (RunChokes most core s made core' s' before after rose)
+    ((text : List ℕ) × Runs most core s why made text core' s' × Got before after text)

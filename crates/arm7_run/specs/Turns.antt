@@ -1,5 +1,5 @@
 -- What the host does behind a step. This project's.
-use Rattle.std.specs.Prelude.{◌≡◌, ℕ, ◌+◌, List, [], ◌∷◌, Option, Some, None}
+use Rattle.std.specs.Prelude.{◌≡◌, ◌≢◌, ℕ, ◌+◌, List, [], ◌∷◌, Option, Some, None}
 use Rattle.sdt_fault.specs.declared.answer.Stop.TheVariants as stop
 use Rattle.sdt_outside.specs.Sinks.{Got, GotPart}
 use Rattle.arm7_model.specs.declared.state.ArmState.{ArmState}
@@ -14,10 +14,10 @@ use Rattle.arm7_run.specs.declared.host.RunEnd.{RunEnd}
 use Rattle.arm7_run.specs.Runs.{GoesOn}
 use Rattle.arm7_run.specs.Strings.{IsBroken, IsString}
 
--- the string at an address was printed, or a beginning of it, or it is broken
+-- the string at an address was printed, or a beginning of it where it isn't empty, or it is broken
 abbrev pub Strings : Turn → Contents → ℕ → Option (List ℕ) → Option (List ℕ) → Type 0 → Type 0
 Strings turn.On c a before after rose = (piece : List ℕ) × IsString c a piece × Got before after piece
-Strings turn.Chokes c a before after rose = rose × ((piece : List ℕ) × IsString c a piece × GotPart before after piece)
+Strings turn.Chokes c a before after rose = rose × ((piece : List ℕ) × IsString c a piece × (piece ≢ []) × GotPart before after piece)
 Strings (turn.Breaks told) c a before after rose = IsBroken c a told × (after ≡ before)
 Strings turn.Exits c a before after rose = ⊥
 Strings (turn.Unpredictable at w) c a before after rose = ⊥
@@ -37,7 +37,7 @@ abbrev pub Turns : Turn → Event → ℕ → ArmState → State → Option (Lis
 Turns turn.On e at core s before after rose = (piece : List ℕ) × GoesOn e core s piece × Got before after piece
 Turns turn.Exits e at core s before after rose = (e ≡ event.Host 0x11) × (after ≡ before)
 Turns (turn.Breaks a) e at core s before after rose = (e ≡ event.Host 0x02) × IsBroken s.contents (register core 0) a × (after ≡ before)
-Turns turn.Chokes e at core s before after rose = rose × ((piece : List ℕ) × GoesOn e core s piece × GotPart before after piece)
+Turns turn.Chokes e at core s before after rose = rose × ((piece : List ℕ) × GoesOn e core s piece × (piece ≢ []) × GotPart before after piece)
 Turns (turn.Unpredictable a w) e at core s before after rose = (e ≡ event.Unpredictable w) × (a ≡ at) × (after ≡ before)
 Turns (turn.NoFrame a) e at core s before after rose = (e ≡ event.NoFrame a) × (after ≡ before)
 

@@ -60,6 +60,7 @@ pub fn print_bytes<K: Sink>(bus: &Bus, a: u32, count: u64, sink: &mut K) -> Resu
     requires few { count ≤ 2 ^ 32 }
     ensures ok { OnOk result (Got (K.bytes sink.old) (K.bytes sink.new) (bytes_behind (state_of base size state touched bus.now).contents a count)) }
     ensures failed { OnErr result (Rose (K.faults sink.old) (K.faults sink.new) × GotPart (K.bytes sink.old) (K.bytes sink.new) (bytes_behind (state_of base size state touched bus.now).contents a count)) }
+    ensures some { OnErr result (0 < count) }
     ensures faults { K.faults sink.old ≤ K.faults sink.new }
 {
     let mut n: u64 = 0;
