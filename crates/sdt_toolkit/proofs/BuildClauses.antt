@@ -15,6 +15,7 @@ use Rattle.sdt_toolkit.specs.Commands.{Commanded, IsFirst}
 use Rattle.sdt_toolkit.specs.Exact.{Exact}
 use Rattle.sdt_toolkit.specs.Links.{LinkAnswers, OneLinkAsked, WordsAsk}
 use Rattle.sdt_toolkit.specs.Reads.{Reads, reads_of}
+use Rattle.sdt_toolkit.proofs.BuildSources.{sources_asked}
 
 module _ (law : BuildsAreLinks) (one : OneLinkAsked) (w : LinkWords) (o : Outside) (files : Files) (told : o.before ≡ Some files) where
   -- what was asked for and written
@@ -41,6 +42,8 @@ build_answers asked o seats left a commanded w is done =
 pub builds_told : BuildsAreLinks → OneLinkAsked → (words : List (List ℕ)) (o : Outside) (seats left : List Seat) (a : Answer)
     → Commanded (command_of words) o seats left a → Exact (command_of words) o seats a → BuildsAsLinked (command_of words) o a
 builds_told law one words o seats left a commanded exact w files is told = record {
+  each = λ e. let (out, asks, written) = built law one w o files told (build_answers (command_of words) o seats left a commanded w is e) in
+      sources_asked (reads_of o) files told w out asks;
   done = λ e. done law one w o files told (build_answers (command_of words) o seats left a commanded w is e);
   accepted = λ calm t others told_others has out asks.
       (exact files told calm).accepted (λ r first.

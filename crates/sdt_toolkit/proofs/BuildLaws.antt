@@ -40,10 +40,10 @@ use Rattle.sdt_toolkit.specs.Starting.{AreSound, HasBytes}
 use Rattle.sdt_toolkit.proofs.ImageLemmas.{image_is}
 use Rattle.sdt_toolkit.proofs.BuildLemmas.{IsFor, OneOf, built_as, linked_as, same_module}
 
-abbrev Inputs : Type 0
+abbrev pub Inputs : Type 0
 Inputs = List (Named Linkable)
 
-came : {A B : Type 0} (x : Result A Refusal) (f : A → Result B Refusal) (b : B) → Ok b ≡ (x >>= f) → (a : A) × (x ≡ Ok a) × (Ok b ≡ f a)
+pub came : {A B : Type 0} (x : Result A Refusal) (f : A → Result B Refusal) (b : B) → Ok b ≡ (x >>= f) → (a : A) × (x ≡ Ok a) × (Ok b ≡ f a)
 came (Ok a) f b h = (a, refl, h)
 came {B = B} (Err r) f b h = absurd (let bad : ◌≡◌ {A = Result B Refusal} (Ok b) (Err r) = h in cc)
 
@@ -190,14 +190,14 @@ AreCarried s a (name ∷ names) (bytes ∷ contents) t b [] others = ⊥
 AreCarried s a (name ∷ names) (bytes ∷ contents) t b (label ∷ labels) [] = ⊥
 AreCarried s a (name ∷ names) (bytes ∷ contents) t b (label ∷ labels) (others ∷ rest) = IsCarried s a name bytes t b label others × AreCarried s a names contents t b labels rest
 
-record IsFirst (s : Reads) (a : Bool) (name bytes : List ℕ) (behind : Result Inputs Refusal → Type 0) (xs : Inputs) : Type 0 where
-  value : Linkable
-  is : InputIs s a name bytes (Ok value)
-  rest : Inputs
-  others : behind (Ok rest)
-  all : named name value ∷ rest ≡ xs
+pub record IsFirst (s : Reads) (a : Bool) (name bytes : List ℕ) (behind : Result Inputs Refusal → Type 0) (xs : Inputs) : Type 0 where
+  pub value : Linkable
+  pub is : InputIs s a name bytes (Ok value)
+  pub rest : Inputs
+  pub others : behind (Ok rest)
+  pub all : named name value ∷ rest ≡ xs
 
-first_is : (s : Reads) (a : Bool) (name bytes : List ℕ) (behind : Result Inputs Refusal → Type 0) (first : Result (Named Linkable) Refusal) (xs : Inputs)
+pub first_is : (s : Reads) (a : Bool) (name bytes : List ℕ) (behind : Result Inputs Refusal → Type 0) (first : Result (Named Linkable) Refusal) (xs : Inputs)
     → NamedIs s a name bytes first → Behind first behind (Ok xs) → IsFirst s a name bytes behind xs
 first_is s a name bytes behind (Err r) xs n h = absurd (let bad : ◌≡◌ {A = Result Inputs Refusal} (Ok xs) (Err r) = h in cc)
 first_is s a name bytes behind (Ok x) xs n h =

@@ -28,13 +28,13 @@ use Rattle.aof_object.proofs.ObjectLaw.{object_law}
 use Rattle.aof_object.proofs.SpelledObject.{spelling_law}
 use Rattle.alf_archive.specs.Archives.{is_library, is_library_by}
 use Rattle.armasm_core.specs.Assembling.{AssembledFrom}
-use Rattle.armasm_core.specs.Standing.{StandsFrom}
 use Rattle.tool_library.specs.declared.linkables.Linkable.{Linkable}
 use Rattle.tool_library.specs.declared.linkables.Linkable.TheVariants as input
 use Rattle.tool_library.specs.Linkables.{linkable_of}
 use Rattle.sdt_toolkit.specs.Builds.{IsObjectFile, link_name}
 use Rattle.sdt_toolkit.specs.Inputs.{InputBy, is_source_name, last_part, module_of, object_name}
 use Rattle.sdt_toolkit.specs.Reads.{Reads}
+use Rattle.sdt_toolkit.specs.Sources.{IsObjectOf}
 
 -- ---- the file of an object
 
@@ -152,8 +152,8 @@ built_as s files told true name bytes others f v h = record {
   assembled = subst (λ (t : Option Files). AssembledFrom t name bytes (Ok f.object)) (sym told) f.assembled;
   caused = tt;
   as_input = h ∙ object_read (object_name name) others f.object f.sound.valid f.sound.fits f.spelled;
-  stands = λ o e.
+  sound = λ o e.
       let same : ◌≡◌ {A = Result Object Refusal} (Ok f.object) (Ok o) = e in
       let is : f.object ≡ o = cc in
-      subst (StandsFrom s.told name bytes) is (subst (λ (t : Option Files). StandsFrom t name bytes f.object) (sym told) f.sound.stands);
+      subst (IsObjectOf s.told name bytes) is (subst (λ (t : Option Files). IsObjectOf t name bytes f.object) (sym told) f.sound);
 }

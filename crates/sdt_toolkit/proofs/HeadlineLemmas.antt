@@ -144,7 +144,7 @@ source_first s name text x xs is h =
       before = refl;
       there = refl;
       assembled = subst (AssembledFrom s.told name text) object source.assembled;
-      stands = source.stands o object;
+      stands = (source.sound o object).stands;
     } in
     subst (λ (y : Named Linkable). IsObjectAmong s.told (y ∷ xs) 0 name text) whole first
 

@@ -15,13 +15,13 @@ use Rattle.aof_object.specs.Validity as object
 use Rattle.alf_archive.specs.declared.records.Archive.{Archive}
 use Rattle.alf_archive.specs.Grammar as library
 use Rattle.armasm_core.specs.Assembling.{Assembles, IsCaused, MayGet}
-use Rattle.armasm_core.specs.Standing.{StandsFrom}
 use Rattle.link_model.specs.declared.selection.Named.{Named}
 use Rattle.tool_library.specs.declared.linkables.Linkable.{Linkable}
 use Rattle.tool_library.specs.declared.linkables.Linkable.TheVariants as input
 use Rattle.tool_library.specs.Linkables.{linkable_of, IsValidInput}
 use Rattle.sdt_toolkit.specs.Inputs.{AreValid, InputBy, InputIs, InputsAre, IsGot, IsGotBy, IsSource, NamedIs, archives_among, as_archive, as_object, is_source_name, last_part, named, objects_among}
 use Rattle.sdt_toolkit.specs.Reads.{Reads, IsAmong, TellsOf, Told}
+use Rattle.sdt_toolkit.specs.Sources.{IsObjectOf}
 use Rattle.sdt_toolkit.proofs.ReadLemmas.{assembled_among, cause_among, failed_among, got_among}
 
 -- ---- the last part of a name
@@ -66,16 +66,16 @@ part_other name part i lt differs h =
 -- ---- an input
 
 module _ (told : Option Files) (before now : ℕ) (s : Reads) (among : IsAmong told before now s) where
-  pub assembled_as : (name bytes : List ℕ) (o : Object) → Assembles told name bytes (Ok o) → StandsFrom told name bytes o → IsSource s name bytes (Ok (input.Object o))
-  assembled_as name bytes o h stands = record {
+  pub assembled_as : (name bytes : List ℕ) (o : Object) → Assembles told name bytes (Ok o) → IsObjectOf told name bytes o → IsSource s name bytes (Ok (input.Object o))
+  assembled_as name bytes o h sound = record {
     object = Ok o;
     assembled = assembled_among told before now s among name bytes (Ok o) h;
     caused = tt;
     as_input = refl;
-    stands = λ p e.
+    sound = λ p e.
         let same : ◌≡◌ {A = Result Object Refusal} (Ok o) (Ok p) = e in
         let is : o ≡ p = cc in
-        subst (StandsFrom s.told name bytes) is (subst (λ (t : Option Files). StandsFrom t name bytes o) (sym among.files) stands);
+        subst (IsObjectOf s.told name bytes) is (subst (λ (t : Option Files). IsObjectOf t name bytes o) (sym among.files) sound);
   }
 
   pub unassembled_as : (name bytes : List ℕ) (f : Fault) → Assembles told name bytes (Err f) → IsCaused told (Rose before now) f
@@ -85,7 +85,7 @@ module _ (told : Option Files) (before now : ℕ) (s : Reads) (among : IsAmong t
     assembled = assembled_among told before now s among name bytes (Err r) h;
     caused = cause_among told before now s among r cause;
     as_input = refl;
-    stands = λ p e. absurd (let bad : ◌≡◌ {A = Result Object Refusal} (Err r) (Ok p) = e in cc);
+    sound = λ p e. absurd (let bad : ◌≡◌ {A = Result Object Refusal} (Err r) (Ok p) = e in cc);
   }
   unassembled_as name bytes (fault.ReadFault q) h cause = (failed_among told before now s among cause, got_among told before now s among name bytes q h)
   unassembled_as name bytes fault.NoMemory h cause = tt

@@ -6,6 +6,7 @@ mod AskLemmas
 mod BuildLemmas
 mod BuildLaws
 mod BuildClauses
+mod BuildSources
 mod EndLemmas
 mod EndsLemmas
 mod ExactLemmas

@@ -1,5 +1,5 @@
 -- What `build` makes of sources is what `link` makes of the object files that `asm` makes of them. This project's.
-use Rattle.std.specs.Prelude.{◌≡◌, ◌↔◌, ℕ, Bool, true, false, if◌then◌else◌, List, map, Some, Result, Ok}
+use Rattle.std.specs.Prelude.{◌≡◌, ◌↔◌, ◌⊎◌, ℕ, Bool, true, false, if◌then◌else◌, List, map, Some, Result, Ok, Err}
 use Rattle.std.specs.List.{AllByRecursion}
 use Rattle.sdt_fault.specs.declared.answer.Answer.{Answer}
 use Rattle.sdt_fault.specs.declared.answer.Answer.TheVariants as answer
@@ -15,9 +15,9 @@ use Rattle.tool_words.specs.declared.command.LinkWords.{LinkWords}
 use Rattle.tool_answers.specs.Outcomes.{AreWritten, Outcome, Outside}
 use Rattle.sdt_toolkit.specs.Exact.{IsAccepted, IsCalm}
 use Rattle.sdt_toolkit.specs.Inputs.{is_source_name, object_name}
-use Rattle.sdt_toolkit.specs.Links.{WordsAsk}
-use Rattle.sdt_toolkit.specs.Reads.{Reads}
-use Rattle.sdt_toolkit.specs.Sources.{IsObjectOf, Spells}
+use Rattle.sdt_toolkit.specs.Links.{WordsAsk, too_large}
+use Rattle.sdt_toolkit.specs.Reads.{Reads, reads_of}
+use Rattle.sdt_toolkit.specs.Sources.{IsObjectOf, SourceAsks, Spells}
 
 -- ---- words
 
@@ -81,11 +81,22 @@ BuildsAreLinks =
     → s.told ≡ Some files → t.told ≡ Some others → HasObjects files others w
     → (WordsAsk s true w (Ok o)) ↔ (WordsAsk t false (link_words w) (Ok o))
 
+-- ---- each source alone
+
+-- `asm` of a source asks for the file of its object, unless that would have 2^32 bytes or more
+abbrev pub AsksAlone : Reads → List ℕ → Type 0
+AsksAlone s name = (output : List ℕ) → ((out : Outcome) × SourceAsks s name output (Ok out)) ⊎ SourceAsks s name output (Err too_large)
+
+abbrev pub EachAsksAlone : Reads → LinkWords → Type 0
+EachAsksAlone s w = AllByRecursion (λ name. is_source_name name ≡ true → AsksAlone s name) w.names
+
 -- ---- the clause of the top call
 
--- Beside the files that a build reads are others, with what `asm` writes of each source. Where the build is done, the link of the
--- objects asks for the same files; and where that link asks for files, the build is accepted, if nothing fails.
+-- Where a build is done, `asm` of each of its sources is too, if its file isn't too long. Beside the files that a build reads are
+-- others, with what `asm` writes of each source. Where the build is done, the link of the objects asks for the same files; and
+-- where that link asks for files, the build is accepted, if nothing fails.
 pub record IsLinkOfObjects (w : LinkWords) (o : Outside) (files : Files) (a : Answer) : Type 0 where
+  pub each : a ≡ answer.Done → EachAsksAlone (reads_of o) w
   pub done : a ≡ answer.Done → (t : Reads) (others : Files) → t.told ≡ Some others → HasObjects files others w
       → (out : Outcome) × WordsAsk t false (link_words w) (Ok out) × AreWritten o.before o.after out.files
   pub accepted : IsCalm o → (t : Reads) (others : Files) → t.told ≡ Some others → HasObjects files others w

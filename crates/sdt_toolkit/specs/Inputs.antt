@@ -10,12 +10,12 @@ use Rattle.chunk_file.specs.Reading.{◌>>=◌}
 use Rattle.aof_object.specs.declared.records.Object.{Object}
 use Rattle.alf_archive.specs.declared.records.Archive.{Archive}
 use Rattle.armasm_core.specs.Assembling.{AssembledFrom, MayGet}
-use Rattle.armasm_core.specs.Standing.{StandsFrom}
 use Rattle.link_model.specs.declared.selection.Named.{Named}
 use Rattle.tool_library.specs.declared.linkables.Linkable.{Linkable}
 use Rattle.tool_library.specs.declared.linkables.Linkable.TheVariants as input
 use Rattle.tool_library.specs.Linkables.{linkable_of, IsValidInput}
 use Rattle.sdt_toolkit.specs.Reads.{Reads, HasCause}
+use Rattle.sdt_toolkit.specs.Sources.{IsObjectOf}
 
 -- what a call gives, of which this is told; want of memory is free
 abbrev pub Tells : {A : Type 0} → Result A Fault → (Result A Refusal → Type 0) → Type 0
@@ -44,13 +44,13 @@ module_of name = if is_source_name (last_part name) then object_name (last_part 
 
 -- ---- an input
 
--- the object of a source, whose statements stand wherever it is placed, or its first refusal
+-- the object of a source, which is valid and whose statements stand wherever it is placed, or its first refusal
 pub record IsSource (s : Reads) (name bytes : List ℕ) (made : Result Linkable Refusal) : Type 0 where
   pub object : Result Object Refusal
   pub assembled : AssembledFrom s.told name bytes object
   pub caused : HasCause s object
   pub as_input : made ≡ (object >>= λ o. Ok (input.Object o))
-  pub stands : (o : Object) → object ≡ Ok o → StandsFrom s.told name bytes o
+  pub sound : (o : Object) → object ≡ Ok o → IsObjectOf s.told name bytes o
 
 abbrev pub InputBy : Reads → Bool → List ℕ → List ℕ → Result Linkable Refusal → Type 0
 InputBy s true name bytes made = IsSource s name bytes made

@@ -9,6 +9,7 @@ ghost use Rattle.sdt_toolkit.specs.Links.{files_read, inputs_in, read_by, text_i
 ghost use Rattle.tool_library.specs.Linkables.{IsValidInput};
 
 use crate::names::{is_source_name, module_of};
+use crate::sound::object_fits;
 use armasm_core::assemble;
 use link_model::Named;
 use sdt_fault::answer::Fault;
@@ -96,6 +97,7 @@ fn source_input<S: Store>(
     ensures write_faults { S.write_faults store.new ≡ S.write_faults store.old }
 {
     let object = assemble(alloc, name, bytes, store)?;
+    object_fits(&object);
     Ok(Linkable::Object(object))
 }
 

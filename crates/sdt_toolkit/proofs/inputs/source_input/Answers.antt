@@ -18,4 +18,5 @@ returns-clause-value g c = λ s among.
     let files = g.S.Store.files c.args.store.now in
     let before = g.S.Store.read_faults c.args.store.now in
     let now = g.S.Store.read_faults c.assemble.new.store in
-    assembled_as files before now s among c.args.name.now c.args.bytes.now c.in_ok-object.object c.in_ok-object.ensures.assembled c.in_ok-object.ensures.stands
+    assembled_as files before now s among c.args.name.now c.args.bytes.now c.in_ok-object.object c.in_ok-object.ensures.assembled
+    (record { stands = c.in_ok-object.ensures.stands; valid = c.in_ok-object.ensures.valid; fits = c.object_fits.ensures })
