@@ -39,7 +39,7 @@ assoc (Ok a) f g = refl
 assoc (Err r) f g = refl
 
 -- where a step that can't refuse follows, the first refuses
-refused_first : {A B : Type 0} (x : Result A Refusal) (f : A → B) (r : Refusal) → (x >>= λ a. Ok (f a)) ≡ Err r → x ≡ Err r
+pub refused_first : {A B : Type 0} (x : Result A Refusal) (f : A → B) (r : Refusal) → (x >>= λ a. Ok (f a)) ≡ Err r → x ≡ Err r
 refused_first {A = A} {B = B} (Ok a) f r h = absurd (let bad : ◌≡◌ {A = Result B Refusal} (Ok (f a)) (Err r) = h in cc)
 refused_first {A = A} {B = B} (Err q) f r h = err_same {A = B} {B = A} q r h
 

@@ -26,7 +26,7 @@ use Rattle.place_model.specs.declared.scatter.Scatter.{Scatter}
 use Rattle.scatter_text.specs.Reading.{scatter_of}
 use Rattle.armlink_core.specs.declared.naming.NamedImage.{NamedImage}
 use Rattle.armlink_core.specs.Images.{linking, scatter_linking}
-use Rattle.armlink_core.specs.Tables.{link_tables, scatter_tables}
+use Rattle.armlink_core.specs.Tables.{link_tables, named_scatter, scatter_tables}
 use Rattle.bin_image.specs.declared.records.OutFile.{OutFile}
 use Rattle.bin_image.specs.Files.{binary_file, load_files}
 use Rattle.elf_image.specs.declared.tables.Tables.{Tables}
@@ -135,6 +135,10 @@ HasNamedImage f text banks inputs (Err r) = HasImage f text banks inputs (Err r)
 abbrev pub IsScatterImage : List (Named Object) → List (Named Archive) → List ℕ → Option (List Bank) → Result Image Refusal → Type 0
 IsScatterImage objects archives text banks image = (os : List (Named Object)) × AreLinked objects archives os × ScattersTo text banks os image
 
+abbrev pub IsNamedScatter : List (Named Object) → List (Named Archive) → List ℕ → Option (List Bank) → Result NamedImage Refusal → Type 0
+IsNamedScatter objects archives text banks named =
+    (os : List (Named Object)) × AreLinked objects archives os × (ram : Option (List Range32)) × IsRam banks ram × (named ≡ named_scatter text ram os)
+
 abbrev pub IsAifImage : List (Named Object) → List (Named Archive) → ℕ → Bool → Option (List Bank) → Result Image Refusal → Type 0
 IsAifImage objects archives base relocatable banks image = (os : List (Named Object)) × AreLinked objects archives os × AsAif base relocatable banks os image
 
@@ -166,6 +170,11 @@ unless_long fs = if list_any is_long fs then Err too_large else Ok fs
 
 abbrev pub filed : Container → List ℕ → Tables → Image → Result (List OutFile) Refusal
 filed c out t i = unless_long (image_files c out t i)
+
+-- these are asked for
+abbrev pub has_tables : Container → Bool
+has_tables (container.Elf symbols) = symbols
+has_tables other = false
 
 -- an ELF file counts the load regions by a half-word
 abbrev pub AreCounted : Container → List LoadRegion → Type 0
