@@ -1,4 +1,3 @@
-use Rattle.armlink_core.proofs.PlaceLemmas.{made_on, fault_on, named_ok, named_err, made_roomy}
 use Rattle.armlink_core.proofs.NameLaws.{nameless_scatter_tables, nameless_tables}
 use Rattle.armlink_core.proofs.laws.table_names.Goals as goal
 
