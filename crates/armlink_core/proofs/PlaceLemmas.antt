@@ -1,4 +1,5 @@
 -- What is placed of linked objects, and images and tables that are made of it.
+use Rattle.std.specs.Prelude.{IfOk}
 use Rattle.std.proofs.Common.{◌≡◌, ℕ, List, Option, Some, None, Result, Ok, Err, refl, sym, ap, ◌∙◌, subst}
 use Rattle.sdt_word.specs.declared.ranges.Range32.{Range32}
 use Rattle.sdt_fault.specs.declared.answer.Fault.{Fault}
@@ -20,6 +21,7 @@ use Rattle.armlink_core.specs.declared.placing.PlacedLink.{PlacedLink}
 use Rattle.armlink_core.specs.Images.{Links, described, image_made, linking, scatter_linking}
 use Rattle.armlink_core.specs.Linking.{made_of, symbols_of}
 use Rattle.armlink_core.specs.Placing.{IsRoomy, as_link, placed_by, placed_link, placed_scatter, placing}
+use Rattle.armlink_core.specs.Sizes.{IsSmall}
 use Rattle.armlink_core.specs.Tables.{named_of, named_scatter, tables_by, with_tables}
 use Rattle.armlink_core.proofs.MadeLemmas.{made_small}
 use Rattle.armlink_core.proofs.SizeLaws.{made_small as each_small}
@@ -119,3 +121,13 @@ module _ (text : List ℕ) (ram : Option (List Range32)) (os : Objects) where
 
 pub made_roomy : (k : Kind) (ram : Option (List Range32)) (l : Linked) (m : PlacedImage) → made_of k ram l ≡ Ok m → IsRoomy m
 made_roomy k ram l m h = record { whole = made_small k ram l m h; each = each_small k ram l m h }
+
+-- ---- answers that have an image
+
+pub roomy_if : (k : Kind) (ram : Option (List Range32)) (l : Linked) (r : Result PlacedImage Fault) → Gives r (made_of k ram l) → IfOk r IsRoomy
+roomy_if k ram l (Ok m) h = made_roomy k ram l m h
+roomy_if k ram l (Err e) h = tt
+
+pub small_if : (k : Kind) (r : Result PlacedLink Fault) → IsSmall k → IfOk r (λ p. p.kind ≡ k) → IfOk r (λ p. IsSmall p.kind)
+small_if k (Ok p) small h = subst IsSmall (sym h) small
+small_if k (Err e) small h = tt
