@@ -7,8 +7,8 @@ ghost use Rattle.sdt_toolkit.specs.Links.{InputsMake, LinkAnswersOver, LinkMakes
 ghost use Rattle.tool_words.specs.Commands.{IsLinked};
 
 use crate::images::{files_of, image_of};
-use crate::named::{named_file, named_image_of};
 use crate::inputs::{files_read, inputs_in, inputs_of, text_in};
+use crate::named::{named_file, named_image_of};
 use crate::writing::write_files;
 use armlink_core::laws::image_sizes;
 use bin_image::OutFile;

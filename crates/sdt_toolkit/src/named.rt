@@ -96,25 +96,16 @@ fn names_size(sections: &[Section]) -> u64
 
 /// Whether the ELF file of load regions and tables would have 2^32 bytes or more.
 fn is_long_named(loads: &[LoadRegion], names: &Tables) -> bool
-    requires counted { length loads.now < 2 ^ 16 }
-    requires few { length names.now.sections < 0xFEFC }
+    requires { length loads.now < 2 ^ 16 }
     ensures { result ≡ nat_le (2 ^ 32) (tables.named_size loads.now names.now) }
 {
-    let loaded = elf_size(loads);
-    let strings = strings_size(names.symbols.as_slice());
-    let section_names = names_size(names.sections.as_slice());
-    if loaded >= 0x1_0000_0000 {
-        return true;
-    }
-    if strings >= 0x1_0000_0000 {
-        return true;
-    }
-    if section_names >= 0x1_0000_0000 {
-        return true;
-    }
-    let sections = names.sections.as_slice().len() as u64;
-    let symbols = names.symbols.as_slice().len() as u64;
-    (loaded + 3) / 4 * 4 + 40 * (sections + 4) + 16 * (symbols + 1) + strings + section_names >= 0x1_0000_0000
+    let loaded = u128::from(elf_size(loads));
+    let sections = names.sections.as_slice().len() as u128;
+    let symbols = names.symbols.as_slice().len() as u128;
+    let strings = u128::from(strings_size(names.symbols.as_slice()));
+    let section_names = u128::from(names_size(names.sections.as_slice()));
+    let headers = 40 * (sections + 4) + 16 * (symbols + 1);
+    (loaded + 3) / 4 * 4 + headers + strings + section_names >= 0x1_0000_0000
 }
 
 /// The ELF file with sections and symbols, which is made only where it is short enough.
