@@ -9,6 +9,7 @@ use Rattle.link_model.specs.declared.images.ImageKind.TheVariants as form
 use Rattle.link_model.specs.declared.selection.Named.{Named}
 use Rattle.place_model.specs.declared.scatter.Kind.{Kind}
 use Rattle.armlink_core.specs.Images.{form_of, linking, scatter_linking}
+use Rattle.armlink_core.specs.Tables.{link_tables, scatter_tables}
 
 -- an image of a form, whose regions have 64 MiB at most
 pub record IsSized (f : ImageKind) (i : Image) : Type 0 where
@@ -41,3 +42,14 @@ abbrev pub NamelessScatters : Type 0
 NamelessScatters =
     (text : List ℕ) (ram : Option (List Range32)) (os ps : List (Named Object)) (i : Image)
     → AreAlike os ps → scatter_linking text ram os ≡ Ok i → scatter_linking text ram ps ≡ Ok i
+
+-- nor of its tables
+abbrev pub NamelessTables : Type 0
+NamelessTables =
+    (k : Kind) (ram : Option (List Range32)) (os ps : List (Named Object)) (i : Image)
+    → AreAlike os ps → linking k ram os ≡ Ok i → link_tables k ram os ≡ link_tables k ram ps
+
+abbrev pub NamelessScatterTables : Type 0
+NamelessScatterTables =
+    (text : List ℕ) (ram : Option (List Range32)) (os ps : List (Named Object)) (i : Image)
+    → AreAlike os ps → scatter_linking text ram os ≡ Ok i → scatter_tables text ram os ≡ scatter_tables text ram ps

@@ -2,5 +2,7 @@
 pub mod Sizes
 pub mod Linking
 pub mod Moves
+pub mod Placing
 pub mod Images
+pub mod Tables
 pub mod Laws

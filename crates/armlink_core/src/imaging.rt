@@ -2,22 +2,20 @@
 
 ghost use Rattle.std.specs.Prelude.{◌≡◌, ◌+◌, ◌^◌, ◌≤◌, sum_by, IfOk};
 ghost use Rattle.std.specs.List.{AllByRecursion};
-ghost use Rattle.std.specs.Option.{option_copied};
-ghost use Rattle.aof_object.specs.Validity.{IsValid};
 ghost use Rattle.chunk_file.specs.Reading.{Gives};
-ghost use Rattle.armlink_core.specs.Images.{form_of, image_of, image_with};
+ghost use Rattle.armlink_core.specs.Images.{form_of, image_made, image_of};
 ghost use Rattle.armlink_core.specs.Moves.{can_move, moves_in};
-ghost use Rattle.armlink_core.specs.Sizes.{region_size, IsSmall};
+ghost use Rattle.armlink_core.specs.Placing.{IsRoomy};
+ghost use Rattle.armlink_core.specs.Sizes.{region_size};
 
 use crate::loads::load_regions;
-use crate::making::{PlacedImage, make};
+use crate::making::PlacedImage;
 use crate::starting::{bound_in, call_of, entry_of, start_of};
-use link_model::{Image, ImageKind, Linked};
+use link_model::{Image, ImageKind};
 use link_shifts::movements;
 use place_model::Kind;
 use sdt_fault::answer::Fault;
 use sdt_fault::{List, NoMemory};
-use sdt_word::Range32;
 use std::alloc::Global;
 
 fn form_of(kind: &Kind) -> ImageKind
@@ -80,18 +78,11 @@ fn moves_in(alloc: Global, kind: &Kind, made: &PlacedImage) -> Result<List<u32>,
     movements(alloc, &made.linked, &made.placement)
 }
 
-/// The image of what is selected.
-pub fn image_by(
-    alloc: Global,
-    linked: Linked,
-    kind: &Kind,
-    ram: Option<&[Range32]>,
-) -> Result<Image, Fault>
-    requires objects { AllByRecursion (λ o. IsValid o.value) linked.objects }
-    requires small { IsSmall kind.now }
-    ensures { Gives result (image_with kind.now (option_copied ram.entry) linked) }
+/// The image of what is placed.
+pub fn image_by(alloc: Global, made: PlacedImage, kind: &Kind) -> Result<Image, Fault>
+    requires roomy { IsRoomy made }
+    ensures { Gives result (image_made kind.now made) }
 {
-    let made = make(alloc, linked, kind, ram)?;
     let moves = moves_in(alloc, kind, &made)?;
     Ok(image_of(alloc, kind, made, moves)?)
 }

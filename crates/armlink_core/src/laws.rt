@@ -1,6 +1,6 @@
 //! Laws of the definitions, each proved as the contract of an empty function.
 
-ghost use Rattle.armlink_core.specs.Laws.{LinkedSizes, NamelessImages, NamelessScatters, ScatterSizes};
+ghost use Rattle.armlink_core.specs.Laws.{LinkedSizes, NamelessImages, NamelessScatters, NamelessScatterTables, NamelessTables, ScatterSizes};
 
 /// An image has the form that was asked for, and no region of more than 64 MiB.
 pub fn image_sizes()
@@ -12,4 +12,10 @@ pub fn image_sizes()
 pub fn image_names()
     ensures linked { NamelessImages }
     ensures scattered { NamelessScatters }
+{}
+
+/// Nor of its tables.
+pub fn table_names()
+    ensures linked { NamelessTables }
+    ensures scattered { NamelessScatterTables }
 {}

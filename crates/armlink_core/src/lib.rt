@@ -6,7 +6,12 @@ pub mod laws;
 mod linking;
 mod loads;
 mod making;
+mod naming;
+mod placing;
 mod starting;
 mod symbols;
 
-pub use crate::linking::{link, link_aif, link_plain, link_scatter};
+pub use crate::linking::{link, link_aif, link_named_scatter, link_plain, link_scatter};
+pub use crate::making::PlacedImage;
+pub use crate::naming::NamedImage;
+pub use crate::placing::{PlacedLink, place_link, place_scatter};

@@ -1,24 +1,23 @@
 //! Links, without a scatter description and with one.
 
-ghost use Rattle.std.specs.Prelude.{◌≡◌, ◌%◌, None};
+ghost use Rattle.std.specs.Prelude.{◌≡◌, ◌%◌, ◌<◌, IfOk, None, length};
 ghost use Rattle.std.specs.List.{AllByRecursion};
 ghost use Rattle.std.specs.Option.{option_copied};
 ghost use Rattle.alf_archive.specs.Grammar.{IsValid as IsValidArchive};
 ghost use Rattle.aof_object.specs.Validity.{IsValid};
-ghost use Rattle.armlink_core.specs.Images.{linking, scatter_linking, undescribed, Links};
+ghost use Rattle.armlink_core.specs.Images.{linking, scatter_linking, Links};
 ghost use Rattle.armlink_core.specs.Sizes.{IsSmall};
+ghost use Rattle.armlink_core.specs.Tables.{named_scatter};
 ghost use Rattle.place_model.specs.declared.scatter.Kind.TheVariants as kind;
 
 use crate::imaging::image_by;
-use crate::symbols::region_symbols;
+use crate::naming::{NamedImage, named_by};
+use crate::placing::{place_parts, place_scatter};
 use alf_archive::Archive;
 use aof_object::Object;
 use link_model::{Image, Named};
-use link_select::select;
 use place_model::Kind;
-use scatter_text::read_scatter;
 use sdt_fault::answer::Fault;
-use sdt_fault::refusal::Refusal;
 use sdt_word::Range32;
 use std::alloc::Global;
 
@@ -39,23 +38,10 @@ pub fn link(
     requires small { IsSmall kind.now }
     ensures exact { Links objects.items archives.items (linking kind.now (option_copied ram.entry)) result }
 {
-    let symbols = region_symbols(alloc, kind)?;
-    let linked = select(alloc, objects, archives, Some(symbols.as_slice()))?;
-    image_by(alloc, linked, kind, ram)
-}
-
-/// The refusal of a description that can't be read, behind those of a selection for which every name of a region
-/// symbol's form has a meaning.
-fn refuse(
-    alloc: Global,
-    objects: Vec<Named<Object>>,
-    archives: Vec<Named<Archive>>,
-    refusal: Refusal,
-) -> Result<Image, Fault>
-    ensures { Links objects.items archives.items (undescribed refusal) result }
-{
-    let _ = select(alloc, objects, archives, None)?;
-    Err(Fault::Refused(refusal))
+    match place_parts(alloc, objects, archives, kind, ram) {
+        Ok(parts) => image_by(alloc, parts, kind),
+        Err(fault) => Err(fault),
+    }
 }
 
 /// The image of bytes alone, linked from a base on, a multiple of 4: its one load region has the read-only and
@@ -117,9 +103,28 @@ pub fn link_scatter(
     requires archives { AllByRecursion (λ a. IsValidArchive a.value) archives.items }
     ensures exact { Links objects.items archives.items (scatter_linking text.now (option_copied ram.entry)) result }
 {
-    match read_scatter(alloc, text) {
-        Ok(scatter) => link(alloc, objects, archives, &Kind::Scatter(scatter), ram),
-        Err(Fault::Refused(refusal)) => refuse(alloc, objects, archives, refusal),
+    match place_scatter(alloc, objects, archives, text, ram) {
+        Ok(placed) => image_by(alloc, placed.parts, &placed.kind),
+        Err(fault) => Err(fault),
+    }
+}
+
+/// The image that `link_scatter` gives, with the tables of its link: sections and symbols, for `write_named_elf`. Memory
+/// is refused too, where there would be 0xFEFC sections or more.
+pub fn link_named_scatter(
+    alloc: Global,
+    objects: Vec<Named<Object>>,
+    archives: Vec<Named<Archive>>,
+    text: &[u8],
+    ram: Option<&[Range32]>,
+) -> Result<NamedImage, Fault>
+    requires objects { AllByRecursion (λ o. IsValid o.value) objects.items }
+    requires archives { AllByRecursion (λ a. IsValidArchive a.value) archives.items }
+    ensures exact { Links objects.items archives.items (named_scatter text.now (option_copied ram.entry)) result }
+    ensures few { IfOk result (λ n. length n.tables.sections < 0xFEFC) }
+{
+    match place_scatter(alloc, objects, archives, text, ram) {
+        Ok(placed) => named_by(alloc, placed),
         Err(fault) => Err(fault),
     }
 }

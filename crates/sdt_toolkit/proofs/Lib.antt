@@ -14,6 +14,8 @@ mod ImageLemmas
 mod InputLemmas
 mod LinkLemmas
 mod LinkOnce
+mod NamedLemmas
+mod TableLemmas
 mod ReadLemmas
 mod RefusalLemmas
 mod RunBytes
