@@ -15,6 +15,9 @@ mod LinkLemmas
 mod LinkOnce
 mod ReadLemmas
 mod RefusalLemmas
+mod ReportLemmas
+mod ReportPlans
+mod ReportRefusals
 mod RunBytes
 mod RunClauses
 mod RunCommands

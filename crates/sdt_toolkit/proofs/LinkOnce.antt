@@ -27,14 +27,14 @@ use Rattle.sdt_toolkit.specs.Links.{AsAif, FilesAsk, ImageIs, InputsMake, IsRam,
 
 -- ---- inputs
 
-abbrev Inputs : Type 0
+abbrev pub Inputs : Type 0
 Inputs = List (Named Linkable)
 
 as_input : Object → Result Linkable Refusal
 as_input o = Ok (input.Object o)
 
 -- of files that are told
-abbrev OverFiles : Reads → Files → Type 0
+abbrev pub OverFiles : Reads → Files → Type 0
 OverFiles s files = s.told ≡ Some files
 
 assembled_once : OneAssembly → (s : Reads) (files : Files) → OverFiles s files → (name text : List ℕ) (x y : Result Object Refusal)
@@ -64,7 +64,7 @@ behind_once (Ok first) others x y one h k =
     let same : h.0 ≡ k.0 = one h.0 k.0 h.1 k.1 in
     h.2 ∙ (ap (λ (r : Result Inputs Refusal). r >>= λ xs. Ok (first ∷ xs)) same ∙ sym k.2)
 
-inputs_once : OneAssembly → (s : Reads) (files : Files) → OverFiles s files → (sources : Bool) (names contents : List (List ℕ)) (x y : Result Inputs Refusal)
+pub inputs_once : OneAssembly → (s : Reads) (files : Files) → OverFiles s files → (sources : Bool) (names contents : List (List ℕ)) (x y : Result Inputs Refusal)
     → InputsAre s sources names contents x → InputsAre s sources names contents y → x ≡ y
 inputs_once law s files is sources [] contents x y h k = h ∙ sym k
 inputs_once law s files is sources (name ∷ names) [] x y h k = h ∙ sym k
@@ -99,7 +99,7 @@ ranges_once (x ∷ xs) (y ∷ ys) h =
     let one : x ≡ y = range_once x.base x.size y.base y.size (ap (λ (p : ℕ × ℕ). p.0) both.0) (ap (λ (p : ℕ × ℕ). p.1) both.0) x.in_space y.in_space in
     ap (λ (r : Range32). r ∷ xs) one ∙ ap (λ (rs : List Range32). y ∷ rs) (ranges_once xs ys both.1)
 
-ram_once : (banks : Option (List Bank)) (x y : Option (List Range32)) → IsRam banks x → IsRam banks y → x ≡ y
+pub ram_once : (banks : Option (List Bank)) (x y : Option (List Range32)) → IsRam banks x → IsRam banks y → x ≡ y
 ram_once None x y h k = h ∙ sym k
 ram_once (Some banks) x y h k = h.2 ∙ (ap Some (ranges_once h.0 k.0 (h.1 ∙ sym k.1)) ∙ sym k.2)
 

@@ -256,7 +256,7 @@ judged_entry regions os e h =
 
 -- ---- what is selected
 
-record IsSelected (os : List (Named Object)) (l : Linked) : Type 0 where
+pub record IsSelected (os : List (Named Object)) (l : Linked) : Type 0 where
   pub objects : l.objects ≡ os
   pub selection : IsSelection l
 
@@ -274,7 +274,7 @@ selected_by os e once f =
       };
     }
 
-selected : (regions : Option (List (List ℕ))) (os : List (Named Object)) (l : Linked) → AllByRecursion (λ o. IsValid o.value) os → selection_of regions os ≡ Ok l → IsSelected os l
+pub selected : (regions : Option (List (List ℕ))) (os : List (Named Object)) (l : Linked) → AllByRecursion (λ o. IsValid o.value) os → selection_of regions os ≡ Ok l → IsSelected os l
 unfolding selection_of
 selected regions os l valid h =
     let (e, judge, is) = steps_ok (judged regions os) (λ e. Ok (record { objects = os; definitions = definitions_from 0 (objects_in os); entry = e })) l h in

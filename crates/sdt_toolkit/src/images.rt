@@ -34,12 +34,12 @@ use tool_words::{Bank, Container, LinkPlacement};
 
 /// The objects and the libraries among inputs, in their order.
 #[derive(Drop)]
-struct Parts {
-    objects: Vec<Named<Object>>,
-    archives: Vec<Named<Archive>>,
+pub struct Parts {
+    pub objects: Vec<Named<Object>>,
+    pub archives: Vec<Named<Archive>>,
 }
 
-fn parts_of(alloc: Global, inputs: Vec<Named<Linkable>>) -> Result<Parts, NoMemory>
+pub fn parts_of(alloc: Global, inputs: Vec<Named<Linkable>>) -> Result<Parts, NoMemory>
     ensures objects { IfOk result (λ parts. parts.objects.items ≡ objects_among inputs.items) }
     ensures archives { IfOk result (λ parts. parts.archives.items ≡ archives_among inputs.items) }
 {
