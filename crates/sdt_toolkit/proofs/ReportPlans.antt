@@ -5,7 +5,8 @@ use Rattle.sdt_word.specs.declared.ranges.Range32.{Range32}
 use Rattle.sdt_fault.specs.declared.answer.Fault.{Fault}
 use Rattle.sdt_fault.specs.declared.answer.Fault.TheVariants as fault
 use Rattle.sdt_fault.specs.declared.refusal.Refusal.{Refusal}
-use Rattle.chunk_file.specs.Reading.{◌>>=◌}
+use Rattle.chunk_file.specs.Reading.{◌>>=◌, Gives}
+use Rattle.alf_archive.specs.declared.records.Archive.{Archive}
 use Rattle.aof_object.specs.declared.records.Entry.{Entry}
 use Rattle.aof_object.specs.declared.records.Object.{Object}
 use Rattle.boot_code.specs.Boots.{ByteMap}
@@ -59,6 +60,23 @@ err_same q r h = let same : q ≡ r = cc in ap (λ (e : Refusal). Err e) same
 assoc : {A B C : Type 0} (x : Result A Refusal) (f : A → Result B Refusal) (g : B → Result C Refusal) → (x >>= λ a. f a >>= g) ≡ ((x >>= f) >>= g)
 assoc (Ok a) f g = refl
 assoc (Err r) f g = refl
+
+-- ---- what a call reports of a link that is placed
+
+module _ (objects : List (Named Object)) (archives : List (Named Archive)) (f : List (Named Object) → Result PlacedLink Refusal) (given : ℕ) where
+  abbrev pub its_report : List (Named Object) → Result (List ℕ) Refusal
+  its_report os = f os >>= report_made given
+
+  pub reported : (p : PlacedLink) → Links objects archives f (Ok p) → (r : Result (List ℕ) Fault) → Gives r (report_made given p) → Links objects archives its_report r
+  reported p is (Ok text) g = (is.0, is.1, ap (λ (x : Result PlacedLink Refusal). x >>= report_made given) is.2 ∙ g)
+  reported p is (Err (fault.Refused e)) g = (is.0, is.1, ap (λ (x : Result PlacedLink Refusal). x >>= report_made given) is.2 ∙ g)
+  reported p is (Err (fault.ReadFault name)) g = absurd g
+  reported p is (Err fault.NoMemory) g = tt
+
+  pub unplaced : (e : Fault) → Links {A = PlacedLink} objects archives f (Err e) → Links {A = List ℕ} objects archives its_report (Err e)
+  unplaced (fault.Refused r) is = (is.0, is.1, ap (λ (x : Result PlacedLink Refusal). x >>= report_made given) is.2)
+  unplaced (fault.ReadFault name) is = is
+  unplaced fault.NoMemory is = tt
 
 -- ---- objects are selected as one link
 
