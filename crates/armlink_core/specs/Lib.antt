@@ -5,4 +5,5 @@ pub mod Moves
 pub mod Placing
 pub mod Images
 pub mod Tables
+pub mod Reports
 pub mod Laws

@@ -69,7 +69,7 @@ fn can_move(kind: &Kind) -> bool
 }
 
 /// The offsets of what is shifted where an image of a form is moved.
-fn moves_in(alloc: Global, kind: &Kind, made: &PlacedImage) -> Result<List<u32>, Fault>
+pub fn moves_in(alloc: Global, kind: &Kind, made: &PlacedImage) -> Result<List<u32>, Fault>
     ensures { Gives result (moves_in kind.now made.now.linked made.now.placement) }
 {
     if !can_move(kind) {

@@ -8,6 +8,7 @@ mod loads;
 mod making;
 mod naming;
 mod placing;
+mod reporting;
 mod starting;
 mod symbols;
 
@@ -15,3 +16,4 @@ pub use crate::linking::{link, link_aif, link_named_scatter, link_plain, link_sc
 pub use crate::making::PlacedImage;
 pub use crate::naming::NamedImage;
 pub use crate::placing::{PlacedLink, place_link, place_scatter};
+pub use crate::reporting::report;

@@ -1,5 +1,7 @@
+mod KeyLemmas
 mod MemberLemmas
 mod OrderingLemmas
 mod Rows
+mod SelectionLemmas
 mod TextLemmas
 mod ValueLemmas

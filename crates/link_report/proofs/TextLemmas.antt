@@ -20,3 +20,9 @@ in_turn o p q r s t u v a b c d e f g first second third fourth fifth sixth last
     (then r s v d (e ++ (f ++ g)) fourth
     (then s t v e (f ++ g) fifth
     (then t u v f g sixth last)))))
+
+-- and eight
+pub then_in_turn : (o p q r s t u v w a b c d e f g h : List ℕ) → Grows o p a → Grows p q b → Grows q r c → Grows r s d → Grows s t e → Grows t u f → Grows u v g → Grows v w h
+    → Grows o w (a ++ (b ++ (c ++ (d ++ (e ++ (f ++ (g ++ h)))))))
+then_in_turn o p q r s t u v w a b c d e f g h first second third fourth fifth sixth seventh last =
+    then o p w a (b ++ (c ++ (d ++ (e ++ (f ++ (g ++ h)))))) first (in_turn p q r s t u v w b c d e f g h second third fourth fifth sixth seventh last)

@@ -12,6 +12,7 @@ use Rattle.link_report.specs.Lines.{line, eight, state_word, object_name, name_o
 use Rattle.link_report.specs.Regions.{loads_text, regions_text}
 use Rattle.link_report.specs.Symbols.{symbols_text}
 use Rattle.link_report.specs.Members.{members_text}
+use Rattle.link_report.specs.Selections.{selections_text}
 
 -- ---- the image's first byte, and the entry
 
@@ -46,6 +47,7 @@ report_text k given l p =
     ++ (regions_text k l.objects p 0 p.regions
     ++ (symbols_text l p
     ++ (members_text l given
+    ++ (selections_text k l.objects
     ++ (first_line k l p
     ++ (entry_line l p
-    ++ codes "end\n"))))))
+    ++ codes "end\n")))))))

@@ -8,6 +8,7 @@ ghost use Rattle.link_report.specs.Reports as reports;
 use crate::lines::{name_of_area, object_name, place_of, push, push_eight, push_field, state_word};
 use crate::members::push_members;
 use crate::regions::{push_loads, push_regions};
+use crate::selections::push_selections;
 use crate::symbols::push_symbols;
 use link_model::{AreaName, Linked, LinkedEntry, Placement};
 use link_values::{AreaBases, area_at, area_bases};
@@ -96,6 +97,7 @@ fn push_report(
     push_regions(out, kind, linked.objects.as_slice(), placement, &bases)?;
     push_symbols(alloc, out, linked, placement, &bases)?;
     push_members(alloc, out, linked, given)?;
+    push_selections(alloc, out, kind, linked.objects.as_slice())?;
     push_first(out, kind, linked, placement, &bases)?;
     push_entry(out, linked, placement, &bases)?;
     push(out, b"end\n")?;
@@ -103,8 +105,8 @@ fn push_report(
 }
 
 /// Where everything of a link went that is placed: its load regions, its execution regions with what stands in them, the
-/// names that its objects export, by value, the members that were chosen, and the entry. So many objects as are given stand
-/// on the command line; the others are members.
+/// names that its objects export, by value, the members that were chosen, the selections that took no area, and the entry. So
+/// many objects as are given stand on the command line; the others are members.
 pub fn report_text(
     alloc: Global,
     kind: &Kind,

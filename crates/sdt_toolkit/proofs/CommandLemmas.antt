@@ -22,13 +22,14 @@ use Rattle.tool_library.proofs.AnswerLemmas as answers
 use Rattle.tool_run.proofs.RunLemmas.{no_memory}
 use Rattle.sdt_toolkit.specs.Commands.{Commanded, RefusesWords, RefusedBy}
 use Rattle.sdt_toolkit.specs.Links.{LinkAnswers}
+use Rattle.sdt_toolkit.specs.Reports.{ReportAnswers}
 
 pub asked : (c : Command) (x : Result Command ℕ) (o : Outside) (seats left : List Seat) (a : Answer) → Reads (Ok c) x → Commanded (Ok c) o seats left a → Commanded x o seats left a
 asked c (Ok d) o seats left a h says = subst (λ (e : Command). Commanded (Ok e) o seats left a) h says
 asked c (Err place) o seats left a h says = absurd h
 
 unasked : (c : Command) (o : Outside) (seats : List Seat) → IsLeft o → Commanded (Ok c) o seats seats answer.NoMemory
-unfolding LinkAnswers Commanded
+unfolding LinkAnswers ReportAnswers Commanded
 unasked (command.Assemble source output) o seats left = (left, refl)
 unasked (command.CreateLibrary library objects) o seats left = (answers.no_memory (created library objects) (OfAll (creates library objects) objects) objects o (creates library objects objects) (objects, refl, refl) left, refl)
 unasked (command.ListMembers library) o seats left = (answers.no_memory (listed library) (OfOne (lists library)) (library ∷ []) o (lists library []) ([], refl) left, refl)
@@ -36,6 +37,7 @@ unasked (command.ExtractMember library member output) o seats left = (answers.no
 unasked (command.List file) o seats left = (answers.no_memory (listing_of file) (OfOne (listing.lists file)) (file ∷ []) o (listing.lists file []) ([], refl) left, refl)
 unasked (command.Link words) o seats left = (inl left, refl)
 unasked (command.Build words) o seats left = (inl left, refl)
+unasked (command.Report words) o seats left = (left, refl)
 unasked (command.InterruptKit output acknowledge) o seats left = ((left.files, left.sink), refl)
 unasked (command.Run run) o seats left = no_memory run o seats seats (record { outside = left; devices = refl })
 

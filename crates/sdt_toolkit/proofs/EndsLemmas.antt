@@ -9,6 +9,7 @@ use Rattle.arm7_bus.specs.Seats.{Seat}
 use Rattle.tool_words.specs.declared.command.Command.{Command}
 use Rattle.tool_words.specs.declared.command.Command.TheVariants as command
 use Rattle.tool_words.specs.declared.command.LinkWords.{LinkWords}
+use Rattle.tool_words.specs.declared.command.ReportWords.{ReportWords}
 use Rattle.tool_words.specs.declared.command.RunWords.{RunWords}
 use Rattle.tool_words.specs.Commands.{command_of}
 use Rattle.tool_answers.specs.Outcomes.{Outcome, Outside, Answers, IsAsked, OfAll, OfOne, Says}
@@ -20,6 +21,7 @@ use Rattle.sdt_toolkit.specs.Commands.{Commanded, Ends, IsFirst, RefusesWords}
 use Rattle.sdt_toolkit.specs.Kits.{KitAnswers}
 use Rattle.sdt_toolkit.specs.Links.{LinkAnswers, WordsAsk}
 use Rattle.sdt_toolkit.specs.Reads.{reads_of}
+use Rattle.sdt_toolkit.specs.Reports.{ReportAnswers, ReportAsked}
 use Rattle.sdt_toolkit.specs.Sources.{AssemblyAnswers, SourceAsks}
 
 module _ (x : Result Command ℕ) (o : Outside) (seats : List Seat) where
@@ -60,6 +62,16 @@ link_ends x sources w o seats first (answer.WriteFault q) h = (h.2.0, h.2.2, ref
 link_ends x sources w o seats first answer.SinkFault h = h.2.0
 link_ends x sources w o seats first (answer.Stopped why) h = absurd h.2
 link_ends x sources w o seats first answer.NoMemory h = tt
+
+report_ends : (w : ReportWords) (o : Outside) (seats : List Seat) (a : Answer) → ReportAnswers w o a → Ends (Ok (command.Report w)) o seats seats a
+unfolding ReportAnswers
+report_ends w o seats answer.Done h = tt
+report_ends w o seats (answer.Refused r) h = (subst (ReportAsked (reads_of o) w) h.2.0 h.1, record { outside = h.2.1; devices = refl })
+report_ends w o seats (answer.ReadFault q) h = (h.0, record { outside = h.2; devices = refl })
+report_ends w o seats (answer.WriteFault q) h = (h.2.0, h.2.2, refl)
+report_ends w o seats answer.SinkFault h = h.2.0
+report_ends w o seats (answer.Stopped why) h = absurd h.2
+report_ends w o seats answer.NoMemory h = tt
 
 kit_ends : (output : List ℕ) (acknowledge : ℕ) (o : Outside) (seats : List Seat) (a : Answer) → KitAnswers output acknowledge o a
     → Ends (Ok (command.InterruptKit output acknowledge)) o seats seats a
@@ -113,6 +125,7 @@ command_ends (Ok (command.Link words)) o seats left a h =
     let x = Ok (command.Link words) in still x o seats left a h.1 (link_ends x false words o seats (λ r k. k) a h.0)
 command_ends (Ok (command.Build words)) o seats left a h =
     let x = Ok (command.Build words) in still x o seats left a h.1 (link_ends x true words o seats (λ r k. k) a h.0)
+command_ends (Ok (command.Report words)) o seats left a h = still (Ok (command.Report words)) o seats left a h.1 (report_ends words o seats a h.0)
 command_ends (Ok (command.InterruptKit output acknowledge)) o seats left a h =
     still (Ok (command.InterruptKit output acknowledge)) o seats left a h.1 (kit_ends output acknowledge o seats a h.0)
 

@@ -11,6 +11,7 @@ use Rattle.run_opening.specs.declared.image.Image.{Image}
 use Rattle.tool_words.specs.declared.command.Command.{Command}
 use Rattle.tool_words.specs.declared.command.Command.TheVariants as command
 use Rattle.tool_words.specs.declared.command.LinkWords.{LinkWords}
+use Rattle.tool_words.specs.declared.command.ReportWords.{ReportWords}
 use Rattle.tool_words.specs.declared.command.RunWords.{RunWords}
 use Rattle.tool_words.specs.Commands.{command_of}
 use Rattle.tool_answers.specs.Outcomes.{Answers, IsAsked, OfAll, OfOne, Outcome, Outside, Says}
@@ -23,6 +24,7 @@ use Rattle.sdt_toolkit.specs.Commands.{Commanded, Ends, FirstOf, IsFirst, Refuse
 use Rattle.sdt_toolkit.specs.Exact.{Exact, IsAccepted, IsCalm, IsRefusedBy}
 use Rattle.sdt_toolkit.specs.Links.{LinkAnswers, OneLinkAsked, WordsAsk, files_read}
 use Rattle.sdt_toolkit.specs.Reads.{reads_of}
+use Rattle.sdt_toolkit.specs.Reports.{OneReportAsked, ReportAnswers, ReportAsked, report_reads}
 use Rattle.sdt_toolkit.specs.Sources.{AssemblyAnswers, OneAsked, SourceAsks}
 use Rattle.sdt_toolkit.proofs.EndsLemmas.{ends_of}
 use Rattle.sdt_toolkit.proofs.RunOnce.{no_refusal, refusal_once}
@@ -85,6 +87,16 @@ module _ (o : Outside) (files : Files) (told : o.before ≡ Some files) (calm : 
   link_refused law sources w (answer.Stopped why) h first = absurd h.2
   link_refused law sources w answer.NoMemory h first = tt
 
+  report_refused : OneReportAsked → (w : ReportWords) (a : Answer) → ReportAnswers w o a → ReportAsked (reads_of o) w (Err r) → IsRefusedBy r a
+  unfolding ReportAnswers
+  report_refused law w answer.Done h first = says_refused h.0 (report_reads w) o r calm (law (reads_of o) w files h.0 (Err r) told h.1 first) answer.Done h.2
+  report_refused law w (answer.Refused q) h first = says_refused h.0 (report_reads w) o r calm (law (reads_of o) w files h.0 (Err r) told h.1 first) (answer.Refused q) h.2
+  report_refused law w (answer.ReadFault q) h first = absurd (calm.reads h.0)
+  report_refused law w (answer.WriteFault q) h first = absurd (calm.writes h.2.0)
+  report_refused law w answer.SinkFault h first = absurd (calm.sink h.2.0)
+  report_refused law w (answer.Stopped why) h first = absurd h.2
+  report_refused law w answer.NoMemory h first = tt
+
   run_refused : (run : RunWords) (seats left : List Seat) (a : Answer) → RunAnswers run o seats left a → FirstOf (command.Run run) (reads_of o) seats r → IsRefusedBy r a
   run_refused run seats left a h first = go a (subst (λ (x : Result Image Refusal). RunSays run x o seats left a) same h.says)
     where
@@ -118,26 +130,27 @@ module _ (o : Outside) (files : Files) (told : o.before ≡ Some files) (calm : 
   words_refused place (answer.Stopped why) h first = absurd h
   words_refused place answer.NoMemory h first = tt
 
-  refused : OneAsked → OneLinkAsked → (x : Result Command ℕ) (seats left : List Seat) (a : Answer) → Commanded x o seats left a → IsFirst x (reads_of o) seats r → IsRefusedBy r a
+  refused : OneAsked → OneLinkAsked → OneReportAsked → (x : Result Command ℕ) (seats left : List Seat) (a : Answer) → Commanded x o seats left a → IsFirst x (reads_of o) seats r → IsRefusedBy r a
   unfolding Commanded
-  refused one link (Err place) seats left a h first = words_refused place a h.0 first
-  refused one link (Ok (command.Assemble source output)) seats left a h first = assembly_refused one source output a h.0 first
-  refused one link (Ok (command.CreateLibrary library objects)) seats left a h first =
+  refused one link reported (Err place) seats left a h first = words_refused place a h.0 first
+  refused one link reported (Ok (command.Assemble source output)) seats left a h first = assembly_refused one source output a h.0 first
+  refused one link reported (Ok (command.CreateLibrary library objects)) seats left a h first =
       answers_refused (created library objects) (OfAll (creates library objects) objects) objects a h.0 first
-  refused one link (Ok (command.ListMembers library)) seats left a h first = answers_refused (listed library) (OfOne (lists library)) (library ∷ []) a h.0 first
-  refused one link (Ok (command.ExtractMember library member output)) seats left a h first =
+  refused one link reported (Ok (command.ListMembers library)) seats left a h first = answers_refused (listed library) (OfOne (lists library)) (library ∷ []) a h.0 first
+  refused one link reported (Ok (command.ExtractMember library member output)) seats left a h first =
       answers_refused (extracted library member output) (OfOne (extracts library member output)) (library ∷ []) a h.0 first
-  refused one link (Ok (command.List file)) seats left a h first = answers_refused (listing_of file) (OfOne (listing.lists file)) (file ∷ []) a h.0 first
-  refused one link (Ok (command.Run run)) seats left a h first = run_refused run seats left a h first
-  refused one link (Ok (command.Link words)) seats left a h first = link_refused link false words a h.0 first
-  refused one link (Ok (command.Build words)) seats left a h first = link_refused link true words a h.0 first
-  refused one link (Ok (command.InterruptKit output acknowledge)) seats left a h first = absurd first
+  refused one link reported (Ok (command.List file)) seats left a h first = answers_refused (listing_of file) (OfOne (listing.lists file)) (file ∷ []) a h.0 first
+  refused one link reported (Ok (command.Run run)) seats left a h first = run_refused run seats left a h first
+  refused one link reported (Ok (command.Link words)) seats left a h first = link_refused link false words a h.0 first
+  refused one link reported (Ok (command.Build words)) seats left a h first = link_refused link true words a h.0 first
+  refused one link reported (Ok (command.Report words)) seats left a h first = report_refused reported words a h.0 first
+  refused one link reported (Ok (command.InterruptKit output acknowledge)) seats left a h first = absurd first
 
 -- ---- the clause of the top call
 
-pub exact_of : OneAsked → OneLinkAsked → (words : List (List ℕ)) (o : Outside) (seats left : List Seat) (a : Answer)
+pub exact_of : OneAsked → OneLinkAsked → OneReportAsked → (words : List (List ℕ)) (o : Outside) (seats left : List Seat) (a : Answer)
     → Commanded (command_of words) o seats left a → Exact (command_of words) o seats a
-exact_of one link words o seats left a h files told calm = record {
+exact_of one link reported words o seats left a h files told calm = record {
   accepted = accepted (command_of words) o seats left a calm (ends_of words o seats left a h);
-  refused = λ r first. refused o files told calm r one link (command_of words) seats left a h first;
+  refused = λ r first. refused o files told calm r one link reported (command_of words) seats left a h first;
 }

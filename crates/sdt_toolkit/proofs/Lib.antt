@@ -18,6 +18,9 @@ mod NamedLemmas
 mod TableLemmas
 mod ReadLemmas
 mod RefusalLemmas
+mod ReportLemmas
+mod ReportPlans
+mod ReportRefusals
 mod RunBytes
 mod RunClauses
 mod RunCommands

@@ -29,14 +29,14 @@ use Rattle.sdt_toolkit.specs.Links.{AsAif, FilesAsk, ImageIs, InputsMake, IsRam,
 
 -- ---- inputs
 
-abbrev Inputs : Type 0
+abbrev pub Inputs : Type 0
 Inputs = List (Named Linkable)
 
 as_input : Object → Result Linkable Refusal
 as_input o = Ok (input.Object o)
 
 -- of files that are told
-abbrev OverFiles : Reads → Files → Type 0
+abbrev pub OverFiles : Reads → Files → Type 0
 OverFiles s files = s.told ≡ Some files
 
 assembled_once : OneAssembly → (s : Reads) (files : Files) → OverFiles s files → (name text : List ℕ) (x y : Result Object Refusal)
@@ -66,7 +66,7 @@ behind_once (Ok first) others x y one h k =
     let same : h.0 ≡ k.0 = one h.0 k.0 h.1 k.1 in
     h.2 ∙ (ap (λ (r : Result Inputs Refusal). r >>= λ xs. Ok (first ∷ xs)) same ∙ sym k.2)
 
-inputs_once : OneAssembly → (s : Reads) (files : Files) → OverFiles s files → (sources : Bool) (names contents : List (List ℕ)) (x y : Result Inputs Refusal)
+pub inputs_once : OneAssembly → (s : Reads) (files : Files) → OverFiles s files → (sources : Bool) (names contents : List (List ℕ)) (x y : Result Inputs Refusal)
     → InputsAre s sources names contents x → InputsAre s sources names contents y → x ≡ y
 inputs_once law s files is sources [] contents x y h k = h ∙ sym k
 inputs_once law s files is sources (name ∷ names) [] x y h k = h ∙ sym k

@@ -45,7 +45,7 @@ use Rattle.sdt_toolkit.specs.Commands.{Commanded}
 use Rattle.sdt_toolkit.specs.Inputs.{InputsAre}
 use Rattle.sdt_toolkit.specs.Links.{FilesAsk, InputsMake, IsRam, LinkAnswers, LinkAsks, LinksTo, ReadAsks, WordsAsk, filed, files_read, inputs_in, text_in, writes_all}
 use Rattle.sdt_toolkit.specs.Reads.{Reads, reads_of}
-use Rattle.sdt_toolkit.specs.Refusals.{IsLinkRefused, IsLongImage, LinkSaysWhy, RefusalsAreTrue, SaysOfAreas, SaysOfLink, SaysOfObjects, SaysOfPlaced, SaysOfText, SaysOfVeneers}
+use Rattle.sdt_toolkit.specs.Refusals.{IsLinkRefused, IsLongImage, LinkRefusalsAreTrue, LinkSaysWhy, SaysOfAreas, SaysOfLink, SaysOfObjects, SaysOfPlaced, SaysOfText, SaysOfVeneers}
 
 -- ---- the link
 
@@ -106,7 +106,7 @@ module _ (law : RefusalsLaw) where
   scatter_says file text banks os r ram is_ram (Ok s) is e = inl (kind.Scatter s, ram, (s, is, refl, is_ram), objects_say (kind.Scatter s) ram os r e)
   scatter_says file text banks os r ram is_ram (Err wrong) is e = inr (file, refl, text_says text os wrong r is e)
 
-  image_says : (form : LinkPlacement) (text : List ℕ) (banks : Option (List Bank)) (os : List (Named Object)) (r : Refusal) (i : Result Image Refusal) → LinksTo form text banks os i → i ≡ Err r → SaysOfPlaced form text banks os r
+  pub image_says : (form : LinkPlacement) (text : List ℕ) (banks : Option (List Bank)) (os : List (Named Object)) (r : Refusal) (i : Result Image Refusal) → LinksTo form text banks os i → i ≡ Err r → SaysOfPlaced form text banks os r
   image_says (placement.Scatter file) text banks os r i (ram, is_ram, is) e = scatter_says file text banks os r ram is_ram (scatter_of text) refl (sym is ∙ e)
   image_says (placement.Aif base relocatable) text banks os r i (ram, is_ram, is) e =
       inl (kind.Aif base relocatable, ram, (refl, is_ram), objects_say (kind.Aif base relocatable) ram os r (sym is ∙ e))
@@ -161,8 +161,8 @@ module _ (law : RefusalsLaw) where
   build_commanded asked o seats left a r w commanded e is =
       (subst (λ (x : Answer). Commanded (Ok (command.Build w)) o seats left x) e (subst (λ (x : Result Command ℕ). Commanded x o seats left a) is commanded)).0
 
-  pub refusals_told : (asked : Result Command ℕ) (o : Outside) (seats left : List Seat) (a : Answer) → Commanded asked o seats left a → RefusalsAreTrue asked o a
-  refusals_told asked o seats left a commanded files w r told e = (
+  pub link_refusals_told : (asked : Result Command ℕ) (o : Outside) (seats left : List Seat) (a : Answer) → Commanded asked o seats left a → LinkRefusalsAreTrue asked o a
+  link_refusals_told asked o seats left a commanded files w r told e = (
     λ is. why (reads_of o) false w r files told (refused_asks false w o r (link_commanded asked o seats left a r w commanded e is)),
     λ is. why (reads_of o) true w r files told (refused_asks true w o r (build_commanded asked o seats left a r w commanded e is)),
   )

@@ -14,6 +14,7 @@ use Rattle.tool_answers.specs.Outcomes.{Outside, IsAsked, IsLeft, Answers, OfAll
 use Rattle.sdt_toolkit.specs.Kits.{KitAnswers}
 use Rattle.sdt_toolkit.specs.Links.{LinkAnswers, WordsAsk}
 use Rattle.sdt_toolkit.specs.Reads.{Reads, HasFailed, reads_of}
+use Rattle.sdt_toolkit.specs.Reports.{ReportAnswers, ReportAsked}
 use Rattle.sdt_toolkit.specs.Sources.{AssemblyAnswers, SourceAsks}
 use Rattle.tool_library.specs.Libraries.{created, creates, listed, lists, extracted, extracts}
 use Rattle.arm7_bus.specs.Seats.{Seat}
@@ -43,6 +44,7 @@ Commanded (Ok (command.List file)) o seats left a = Answers (listing_of file) (O
 Commanded (Ok (command.Run run)) o seats left a = RunAnswers run o seats left a
 Commanded (Ok (command.Link words)) o seats left a = LinkAnswers false words o a × (left ≡ seats)
 Commanded (Ok (command.Build words)) o seats left a = LinkAnswers true words o a × (left ≡ seats)
+Commanded (Ok (command.Report words)) o seats left a = ReportAnswers words o a × (left ≡ seats)
 Commanded (Ok (command.InterruptKit output acknowledge)) o seats left a = KitAnswers output acknowledge o a × (left ≡ seats)
 
 -- ---- refusals: the first defect of the words, then of the files and, for a run, of the banks and devices
@@ -59,6 +61,7 @@ FirstOf (command.List file) s seats r = IsAsked (listing_of file) (OfOne (listin
 FirstOf (command.Run run) s seats r = (read : Result Image Refusal) × IsRead s.told (HasFailed s) run.image read × IsRefusal run read seats r
 FirstOf (command.Link words) s seats r = WordsAsk s false words (Err r)
 FirstOf (command.Build words) s seats r = WordsAsk s true words (Err r)
+FirstOf (command.Report words) s seats r = ReportAsked s words (Err r)
 FirstOf (command.InterruptKit output acknowledge) s seats r = ⊥
 
 abbrev pub IsFirst : Result Command ℕ → Reads → List Seat → Refusal → Type 0
@@ -74,6 +77,7 @@ is_run other = false
 abbrev pub may_print : Result Command ℕ → Bool
 may_print (Ok (command.ListMembers library)) = true
 may_print (Ok (command.List file)) = true
+may_print (Ok (command.Report words)) = true
 may_print (Ok (command.Run run)) = true
 may_print other = false
 

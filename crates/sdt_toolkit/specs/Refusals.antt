@@ -1,4 +1,4 @@
--- What a refusal of `link` and `build` says, in the order in which refusals are told: of the files, of the linked objects' names, of
+-- What a refusal of `link`, `build` and `report` says, in the order in which refusals are told: of the files, of the linked objects' names, of
 -- the regions of their areas, and of their plan (SDT 2.50 Reference Guide, armlink and scatter loading; the order is this project's).
 use Rattle.std.specs.Prelude.{◌≡◌, ◌⊎◌, ℕ, ◌<◌, Bool, true, false, List, Option, Some, None, Result, Ok, Err}
 use Rattle.sdt_word.specs.declared.ranges.Range32.{Range32}
@@ -35,10 +35,12 @@ use Rattle.tool_words.specs.declared.command.Command.TheVariants as command
 use Rattle.tool_words.specs.declared.command.LinkPlacement.{LinkPlacement}
 use Rattle.tool_words.specs.declared.command.LinkPlacement.TheVariants as placement
 use Rattle.tool_words.specs.declared.command.LinkWords.{LinkWords}
+use Rattle.tool_words.specs.declared.command.ReportWords.{ReportWords}
 use Rattle.tool_answers.specs.Outcomes.{Outside}
 use Rattle.sdt_toolkit.specs.Inputs.{InputsAre, archives_among, objects_among}
 use Rattle.sdt_toolkit.specs.Links.{IsAskedAs, LinksTo, TablesTo, filed, files_read, inputs_in, text_in}
 use Rattle.sdt_toolkit.specs.Reads.{Reads, reads_of}
+use Rattle.sdt_toolkit.specs.Reports.{report_reads}
 
 -- ---- linked objects
 
@@ -100,7 +102,29 @@ LinkSaysWhy s files sources w r =
     ⊎ ((contents : List (List ℕ)) × (inputs_of files (files_read w) ≡ Ok contents)
     × (InputsAre s sources w.names (inputs_in w.placement contents) (Err r) ⊎ IsLinkRefused s sources w contents r))
 
-abbrev pub RefusalsAreTrue : Result Command ℕ → Outside → Answer → Type 0
-RefusalsAreTrue asked o a =
+-- of a report, which makes no files, the same without their sizes
+pub record IsReportRefused (s : Reads) (w : ReportWords) (contents : List (List ℕ)) (r : Refusal) : Type 0 where
+  pub inputs : List (Named Linkable)
+  pub objects : List (Named Object)
+  pub judged : InputsAre s true w.names (inputs_in w.placement contents) (Ok inputs)
+  pub linked : AreLinked (objects_among inputs) (archives_among inputs) objects
+  pub says : SaysOfPlaced w.placement (text_in w.placement contents) w.ram objects r
+
+abbrev pub ReportSaysWhy : Reads → Files → ReportWords → Refusal → Type 0
+ReportSaysWhy s files w r =
+    (inputs_of files (report_reads w) ≡ Err r)
+    ⊎ ((contents : List (List ℕ)) × (inputs_of files (report_reads w) ≡ Ok contents)
+    × (InputsAre s true w.names (inputs_in w.placement contents) (Err r) ⊎ IsReportRefused s w contents r))
+
+abbrev pub LinkRefusalsAreTrue : Result Command ℕ → Outside → Answer → Type 0
+LinkRefusalsAreTrue asked o a =
     (files : Files) (w : LinkWords) (r : Refusal) → o.before ≡ Some files → a ≡ answer.Refused r
     → (asked ≡ Ok (command.Link w) → LinkSaysWhy (reads_of o) files false w r) × (asked ≡ Ok (command.Build w) → LinkSaysWhy (reads_of o) files true w r)
+
+abbrev pub ReportRefusalsAreTrue : Result Command ℕ → Outside → Answer → Type 0
+ReportRefusalsAreTrue asked o a =
+    (files : Files) (w : ReportWords) (r : Refusal) → o.before ≡ Some files → a ≡ answer.Refused r
+    → asked ≡ Ok (command.Report w) → ReportSaysWhy (reads_of o) files w r
+
+abbrev pub RefusalsAreTrue : Result Command ℕ → Outside → Answer → Type 0
+RefusalsAreTrue asked o a = LinkRefusalsAreTrue asked o a × ReportRefusalsAreTrue asked o a

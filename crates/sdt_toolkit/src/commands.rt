@@ -9,6 +9,7 @@ ghost use Rattle.tool_words.specs.Commands.{IsGood, command_of};
 use crate::assemble::assemble_file;
 use crate::kit::write_kit;
 use crate::links::link_files;
+use crate::report::print_report;
 use sdt_fault::answer::Answer;
 use sdt_fault::refusal::Refusal;
 use sdt_outside::{Device, Sink, Store};
@@ -59,6 +60,7 @@ fn carried_out<S: Store, K: Sink>(
         Command::Run(words) => run(alloc, store, sink, devices, &words),
         Command::Link(words) => link_files(alloc, store, false, &words),
         Command::Build(words) => link_files(alloc, store, true, &words),
+        Command::Report(words) => print_report(alloc, store, sink, &words),
         Command::InterruptKit {
             output,
             acknowledge,

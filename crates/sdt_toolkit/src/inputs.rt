@@ -45,13 +45,24 @@ fn push_names(alloc: Global, all: &mut Vec<Text>, names: &[Text]) -> Result<(), 
     Ok(())
 }
 
-/// The files of a link in the order in which they are read: the scatter file, if there is one, and then the names.
+/// The files of a placement in the order in which they are read: the scatter file, if there is one, and then the names.
+pub fn files_in(
+    alloc: Global,
+    placement: &LinkPlacement,
+    names: &[Text],
+) -> Result<Vec<Text>, NoMemory>
+    ensures { IfOk result (λ all. all.items ≡ read_by placement.now names.now) }
+{
+    let mut all = scatter_names(alloc, placement)?;
+    push_names(alloc, &mut all, names)?;
+    Ok(all)
+}
+
+/// Those of a link.
 pub fn files_read(alloc: Global, words: &LinkWords) -> Result<Vec<Text>, NoMemory>
     ensures { IfOk result (λ names. names.items ≡ files_read words.now) }
 {
-    let mut all = scatter_names(alloc, &words.placement)?;
-    push_names(alloc, &mut all, words.names.as_slice())?;
-    Ok(all)
+    files_in(alloc, &words.placement, words.names.as_slice())
 }
 
 /// The scatter file's text among the contents of the files that are read.

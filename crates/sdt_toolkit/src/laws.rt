@@ -4,6 +4,7 @@ ghost use Rattle.sdt_toolkit.specs.Builds.{BuildsAreLinks, SpelledAreObjectFiles
 ghost use Rattle.sdt_toolkit.specs.Interrupts.{InterruptsAreHidden};
 ghost use Rattle.sdt_toolkit.specs.Links.{OneLinkAsked};
 ghost use Rattle.sdt_toolkit.specs.Plans.{ImagesArePlaced};
+ghost use Rattle.sdt_toolkit.specs.Reports.{OneReportAsked};
 ghost use Rattle.sdt_toolkit.specs.Runs.{CommandsStart, FilesAreRead, LinkedRunsStart, OneRun, RunsStart};
 ghost use Rattle.sdt_toolkit.specs.Sources.{OneAsked};
 
@@ -18,6 +19,7 @@ use scatter_text::reading_law;
 pub fn one_asked()
     ensures assembled { OneAsked }
     ensures linked { OneLinkAsked }
+    ensures reported { OneReportAsked }
 {
     one_assembly();
     linked_law();

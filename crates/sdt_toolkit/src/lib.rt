@@ -29,10 +29,11 @@ pub mod laws;
 mod links;
 mod named;
 mod names;
+mod report;
 mod sound;
 mod writing;
 
-/// Carries out a command: `asm`, `link`, `build`, one of the librarian's, `list`, `run` or `irqkit`.
+/// Carries out a command: `asm`, `link`, `build`, one of the librarian's, `list`, `report`, `run` or `irqkit`.
 ///
 /// A refusal names the first defect of the words, then of the files, in order. `ReadFault`, `WriteFault`
 /// and `SinkFault` come only where the store's or the sink's count of such faults rose. A run takes the devices

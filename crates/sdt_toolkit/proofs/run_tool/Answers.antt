@@ -4,7 +4,7 @@ use Rattle.sdt_toolkit.proofs.BuildClauses.{builds_told}
 use Rattle.sdt_toolkit.proofs.EndsLemmas.{ends_of}
 use Rattle.sdt_toolkit.proofs.ExactLemmas.{exact_of}
 use Rattle.sdt_toolkit.proofs.HeadlineLemmas.{headline_of}
-use Rattle.sdt_toolkit.proofs.RefusalLemmas.{refusals_told}
+use Rattle.sdt_toolkit.proofs.ReportRefusals.{refusals_told}
 use Rattle.sdt_toolkit.proofs.RunClauses.{starts_told, steps_told}
 use Rattle.sdt_toolkit.proofs.RunHidden.{hides_of}
 use Rattle.tool_words.specs.Commands.{command_of}
@@ -30,12 +30,12 @@ pub returns-clause-sink : goal.returns-clause-sink
 returns-clause-sink g c = c.command.ensures.sink
 
 pub returns-clause-exact : goal.returns-clause-exact
-returns-clause-exact g c = exact_of c.one_asked.ensures.assembled c.one_asked.ensures.linked (map string_bytes c.args.words.now) _ _ _ c.command.result c.command.ensures.commanded
+returns-clause-exact g c = exact_of c.one_asked.ensures.assembled c.one_asked.ensures.linked c.one_asked.ensures.reported (map string_bytes c.args.words.now) _ _ _ c.command.result c.command.ensures.commanded
 
 pub returns-clause-builds : goal.returns-clause-builds
 returns-clause-builds g c =
     builds_told c.builds_are_links.ensures.links c.one_asked.ensures.linked (map string_bytes c.args.words.now) _ _ _ c.command.result c.command.ensures.commanded
-    (exact_of c.one_asked.ensures.assembled c.one_asked.ensures.linked (map string_bytes c.args.words.now) _ _ _ c.command.result c.command.ensures.commanded)
+    (exact_of c.one_asked.ensures.assembled c.one_asked.ensures.linked c.one_asked.ensures.reported (map string_bytes c.args.words.now) _ _ _ c.command.result c.command.ensures.commanded)
 
 pub returns-clause-starts : goal.returns-clause-starts
 returns-clause-starts g c = starts_told c.linked_runs_start.ensures (map string_bytes c.args.words.now) _ _ _ c.command.result c.command.ensures.commanded

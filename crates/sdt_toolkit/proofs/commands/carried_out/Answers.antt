@@ -43,6 +43,11 @@ unfolding Commanded
 returns-in-Build-clause-commanded g c =
     rw c.in-Build.is (c.link_files-in-Build.ensures (g.K.Sink.bytes c.args.sink.now) (g.K.Sink.faults c.args.sink.now), refl)
 
+pub returns-in-Report-clause-commanded : goal.returns-in-Report-clause-commanded
+unfolding Commanded
+returns-in-Report-clause-commanded g c =
+    rw c.in-Report.is (c.print_report.ensures, refl)
+
 pub returns-in-InterruptKit-clause-commanded : goal.returns-in-InterruptKit-clause-commanded
 unfolding Commanded
 returns-in-InterruptKit-clause-commanded g c =

@@ -1,0 +1,173 @@
+//! The command `report`.
+
+ghost use Rattle.std.specs.Prelude.{◌≡◌, ◌<◌, ◌≤◌, ◌^◌, All, Ok, length};
+ghost use Rattle.std.specs.List.{AllByRecursion};
+ghost use Rattle.std.specs.Option.{option_copied};
+ghost use Rattle.alf_archive.specs.Grammar.{IsValid as IsValidArchive};
+ghost use Rattle.aof_object.specs.Validity.{IsValid};
+ghost use Rattle.armlink_core.specs.Images.{Links};
+ghost use Rattle.tool_words.specs.Commands.{AreBanks, IsBased, IsReported};
+ghost use Rattle.sdt_toolkit.specs.Inputs.{AreValid, IsGot, Tells};
+ghost use Rattle.sdt_toolkit.specs.Links.{inputs_in, read_by};
+ghost use Rattle.sdt_toolkit.specs.Reads.{Told, outside_of};
+ghost use Rattle.sdt_toolkit.specs.Reports as reports;
+ghost use Rattle.sdt_toolkit.specs.Reports.{InputsReport, ReportAnswers, ReportIs, Reports};
+
+use crate::images::{Parts, parts_of};
+use crate::inputs::{files_in, inputs_in, inputs_of, text_in};
+use crate::laws::images_start;
+use crate::sound::{archives_fit, objects_fit};
+use armlink_core::{PlacedLink, place_link, place_scatter, report};
+use link_model::Named;
+use place_model::Kind;
+use sdt_fault::answer::{Answer, Fault};
+use sdt_fault::{Bytes, List, Text};
+use sdt_outside::{Sink, Store};
+use sdt_word::Range32;
+use std::alloc::Global;
+use tool_answers::{print, read_inputs};
+use tool_library::Linkable;
+use tool_library::ends::{end_answer, fault_answer};
+use tool_run::ranges;
+use tool_words::{Bank, LinkPlacement, ReportWords};
+
+// ---- the text
+
+/// The link of parts, placed. `text` is the scatter file's.
+fn placed_as(
+    alloc: Global,
+    parts: Parts,
+    placement: &LinkPlacement,
+    text: &[u8],
+    ram: Option<&[Range32]>,
+) -> Result<PlacedLink, Fault>
+    requires objects { AllByRecursion (λ o. IsValid o.value) parts.objects.items }
+    requires archives { AllByRecursion (λ a. IsValidArchive a.value) parts.archives.items }
+    ensures { Links parts.objects.items parts.archives.items (reports.placed_as placement.now text.now (option_copied ram.entry)) result }
+{
+    match placement {
+        LinkPlacement::Aif { base, relocatable } => {
+            let kind = Kind::Aif {
+                base: *base,
+                relocatable: *relocatable,
+            };
+            place_link(alloc, parts.objects, parts.archives, kind, ram)
+        }
+        LinkPlacement::Plain { base } => {
+            let kind = Kind::Plain { base: *base };
+            place_link(alloc, parts.objects, parts.archives, kind, None)
+        }
+        LinkPlacement::Scatter { .. } => {
+            place_scatter(alloc, parts.objects, parts.archives, text, ram)
+        }
+    }
+}
+
+fn report_as(
+    alloc: Global,
+    parts: Parts,
+    placement: &LinkPlacement,
+    text: &[u8],
+    ram: Option<&[Range32]>,
+) -> Result<Text, Fault>
+    requires objects { AllByRecursion (λ o. IsValid o.value) parts.objects.items }
+    requires archives { AllByRecursion (λ a. IsValidArchive a.value) parts.archives.items }
+    ensures { Links parts.objects.items parts.archives.items
+        (reports.report_as placement.now text.now (option_copied ram.entry) (length parts.objects.items)) result }
+{
+    let given = parts.objects.len();
+    match placed_as(alloc, parts, placement, text, ram) {
+        Ok(placed) => report(alloc, &placed, given),
+        Err(fault) => Err(fault),
+    }
+}
+
+/// The report of inputs by a placement. `text` is the scatter file's.
+fn report_of(
+    alloc: Global,
+    placement: &LinkPlacement,
+    text: &[u8],
+    ram: &Option<List<Bank>>,
+    inputs: Vec<Named<Linkable>>,
+) -> Result<Text, Fault>
+    requires based { IsBased placement.now }
+    requires banks { AreBanks ram.now }
+    requires inputs { AreValid inputs.items }
+    ensures { Tells result (ReportIs placement.now text.now ram.now inputs.items) }
+{
+    let parts = parts_of(alloc, inputs)?;
+    images_start();
+    objects_fit(parts.objects.as_slice());
+    archives_fit(parts.archives.as_slice());
+    match ram {
+        None => report_as(alloc, parts, placement, text, None),
+        Some(banks) => {
+            let ranges = ranges(alloc, banks.as_slice())?;
+            report_as(alloc, parts, placement, text, Some(ranges.as_slice()))
+        }
+    }
+}
+
+// ---- the command
+
+fn inputs_report(
+    alloc: Global,
+    words: &ReportWords,
+    text: &[u8],
+    inputs: List<Named<Linkable>>,
+) -> Result<Text, Fault>
+    requires good { IsReported words.now }
+    requires inputs { AreValid inputs }
+    ensures { Tells result (InputsReport words.now text.now (Ok inputs)) }
+{
+    report_of(alloc, &words.placement, text, &words.ram, inputs.into_vec())
+}
+
+/// What these contents report.
+fn contents_report<S: Store>(
+    alloc: Global,
+    store: &mut S,
+    words: &ReportWords,
+    contents: &[Bytes],
+) -> Result<Text, Fault>
+    requires good { IsReported words.now }
+    requires few { length contents.now ≡ length (read_by words.now.placement words.now.names) }
+    requires bounded { All (λ bytes. length bytes < 2 ^ 32) contents.now }
+    ensures reports { Told (S.files store.old) (S.read_faults store.old) (S.read_faults store.new)
+        result (λ s. Reports s words.now contents.now)
+        (λ s. IsGot s.told true words.now.names (inputs_in words.now.placement contents.now)) }
+    ensures files { S.files store.new ≡ S.files store.old }
+    ensures read_faults { S.read_faults store.old ≤ S.read_faults store.new }
+    ensures write_faults { S.write_faults store.new ≡ S.write_faults store.old }
+{
+    let under_names = inputs_in(&words.placement, contents);
+    match inputs_of(alloc, store, true, words.names.as_slice(), under_names) {
+        Ok(inputs) => inputs_report(alloc, words, text_in(&words.placement, contents), inputs),
+        Err(fault) => Err(fault),
+    }
+}
+
+/// Links objects, libraries and sources as `build` does, and prints where everything went.
+pub fn print_report<S: Store, K: Sink>(
+    alloc: Global,
+    store: &mut S,
+    sink: &mut K,
+    words: &ReportWords,
+) -> Answer
+    requires { IsReported words.now }
+    ensures { ReportAnswers words.now (outside_of (S.files store.old) (S.files store.new) (K.bytes sink.old) (K.bytes sink.new)
+        (S.read_faults store.old) (S.read_faults store.new) (S.write_faults store.old) (S.write_faults store.new)
+        (K.faults sink.old) (K.faults sink.new)) result }
+{
+    let Ok(names) = files_in(alloc, &words.placement, words.names.as_slice()) else {
+        return Answer::NoMemory;
+    };
+    let contents = match read_inputs(alloc, store, names.as_slice()) {
+        Ok(contents) => contents,
+        Err(end) => return end_answer(end),
+    };
+    match contents_report(alloc, store, words, contents.as_slice()) {
+        Ok(text) => print(sink, text.as_slice()),
+        Err(fault) => fault_answer(fault),
+    }
+}
