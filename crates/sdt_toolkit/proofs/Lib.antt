@@ -6,6 +6,7 @@ mod AskLemmas
 mod BuildLemmas
 mod BuildLaws
 mod BuildClauses
+mod BurnLinked
 mod EndLemmas
 mod EndsLemmas
 mod ExactLemmas
@@ -28,6 +29,7 @@ mod RunNeeds
 mod RunOnce
 mod RunOpened
 mod RunRanges
+mod RunRecords
 mod RunSilenced
 mod RunStartup
 mod RunSteps
