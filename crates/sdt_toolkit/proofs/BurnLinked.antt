@@ -1,7 +1,7 @@
 -- What `burn` writes over the files of a scatter image tells the image.
 use Rattle.std.proofs.Common.{◌≡◌, ◌≢◌, ℕ, ◌+◌, ◌-◌, ◌%◌, ◌<◌, ◌^◌, ◌≤◌, nat_le, Bool, true, false, cond, List, [], ◌∷◌, ◌++◌, length, map, Option, Some, None, Result, Ok, Err, refl, sym, ap, ◌∙◌, subst, arith}
 use Rattle.std.specs.Prelude.{slice_index}
-use Rattle.std.specs.List.{AllByRecursion, flat_map}
+use Rattle.std.specs.List.{AllByRecursion}
 use Rattle.base_lemmas.proofs.BaseLemmas.{all_append}
 use Rattle.sdt_word.specs.Numbers.{flag}
 use Rattle.sdt_fault.specs.declared.answer.Answer.{Answer}
@@ -11,7 +11,7 @@ use Rattle.sdt_outside.specs.Counts.{Rose}
 use Rattle.sdt_outside.specs.Files.{Files, IsWritten}
 use Rattle.arm7_bus.specs.Seats.{Seat}
 use Rattle.boot_code.specs.Boots.{Boots, ByteMap}
-use Rattle.boot_code.specs.Maps.{Segment, map_of}
+use Rattle.boot_code.specs.Maps.{map_of}
 use Rattle.chunk_file.specs.Reading.{◌>>=◌}
 use Rattle.chunk_file.proofs.Loops.{bind_ok}
 use Rattle.hex_image.specs.declared.records.Burn.{Burn}
@@ -22,14 +22,14 @@ use Rattle.hex_image.specs.Images as hex
 use Rattle.hex_image.specs.Images.{EachApart, end_of, told}
 use Rattle.hex_image.specs.Laws.{IhexLaw, IsBurn, SrecLaw, TellsSame}
 use Rattle.hex_image.specs.Reading.{burn_of}
-use Rattle.hex_image.specs.Writing.{ihex_end, ihex_of, ihex_rest, rows_of, srec_of}
+use Rattle.hex_image.specs.Writing.{ihex_end, ihex_rest, rows_of}
 use Rattle.hex_image.proofs.ReadLemmas.{text_found}
 use Rattle.hex_image.proofs.ToldLemmas.{parts_of}
 use Rattle.place_model.specs.declared.scatter.Kind.{Kind}
 use Rattle.place_model.specs.declared.scatter.Kind.TheVariants as kind
 use Rattle.link_model.specs.declared.images.Image.{Image}
 use Rattle.link_model.specs.declared.images.LoadRegion.{LoadRegion}
-use Rattle.bin_image.specs.Files.{load_files, map_load, map_name}
+use Rattle.bin_image.specs.Files.{load_files, map_load}
 use Rattle.bin_image.specs.Files as files
 use Rattle.bin_image.specs.Maps as maps
 use Rattle.run_opening.specs.declared.image.Image.{Image as RunImage}
@@ -44,13 +44,13 @@ use Rattle.tool_words.specs.declared.command.LinkPlacement.TheVariants as placem
 use Rattle.tool_words.specs.declared.command.RunImage.TheVariants as image
 use Rattle.tool_words.specs.Commands.{command_of}
 use Rattle.tool_run.specs.Burned.{burned_image, form_in, loaded_burn}
-use Rattle.tool_run.specs.Burns.{BurnAnswers, asked_by, burn_in, burnt, piece_of, text_of, too_large, unless_long, writing}
+use Rattle.tool_run.specs.Burns.{BurnAnswers, asked_by, burn_in, burnt, piece_of, text_of, too_large, writing}
 use Rattle.tool_run.specs.Ends.{named_by}
 use Rattle.tool_run.specs.Images.{IsRead}
 use Rattle.sdt_toolkit.specs.Burns.{BurnsAsLinked, IsBurnText, LinkedBurns, ReadsText}
 use Rattle.sdt_toolkit.specs.Commands.{Commanded}
 use Rattle.sdt_toolkit.specs.Links.{IsAskedAs, image_files, outputs, text_in}
-use Rattle.sdt_toolkit.specs.RunImages.{AreBytes, CanRun, load_of, run_image}
+use Rattle.sdt_toolkit.specs.RunImages.{AreBytes, load_of, run_image}
 use Rattle.sdt_toolkit.specs.Runs.{BootsTo, FilesAreRead}
 use Rattle.sdt_toolkit.specs.Starting.{ReachesEntry, segments_of, written_in}
 use Rattle.sdt_toolkit.proofs.RunLinked.{stand}
@@ -71,15 +71,12 @@ in_space out (l ∷ ls) h = (h.0.in_space, in_space out ls h.1)
 abbrev AreApartFrom : List Piece → List Piece → Type 0
 AreApartFrom before ps = AllByRecursion (λ p. AllByRecursion (hex.AreApart p) before) ps
 
-held : (a : ℕ) (p : Piece) → hex.holds a p ≡ true → (p.base ≤ a) × (a < end_of p)
-held a p h = parts_of a p h
-
 apart_more : (out : List ℕ) (before : List Piece) (l : LoadRegion) (ls : List LoadRegion) → AreApartFrom before (pieces_in ls)
     → AllByRecursion (maps.IsApart (map_load out l)) (map (map_load out) ls) → AreApartFrom (before ++ piece_of (load_of l) ∷ []) (pieces_in ls)
 apart_more out before l [] h apart = tt
 apart_more out before l (m ∷ ms) h apart = (
   all_append (hex.AreApart (piece_of (load_of m))) before (piece_of (load_of l) ∷ []) h.0
-  ((λ a in_m in_l. apart.0 a (held a (piece_of (load_of l)) in_l) (held a (piece_of (load_of m)) in_m)), tt),
+  ((λ a in_m in_l. apart.0 a (parts_of a (piece_of (load_of l)) in_l) (parts_of a (piece_of (load_of m)) in_m)), tt),
   apart_more out before l ms h.1 apart.1,
 )
 
@@ -136,9 +133,9 @@ run_as records text b name begins reads =
     ap (λ (f : Form). named_by name (burn_of f text) >>= λ x. Ok (loaded_burn x)) begins
     ∙ ap (λ (r : Result Burn Refusal). named_by name r >>= λ x. Ok (loaded_burn x)) reads
 
-boots_as : (i : Image) (view : ByteMap) (map : ByteMap) (start : ℕ) → map ≡ map_of (segments_of i) → start ≡ i.start → BootsTo i view (written_in i)
-    → Boots map view (written_in i) start i.bound (i.entry + flag i.thumb)
-boots_as i view map start same at boots = rw (same, at) boots
+boots_as : (i : Image) (view bytes : ByteMap) (start : ℕ) → bytes ≡ map_of (segments_of i) → start ≡ i.start → BootsTo i view (written_in i)
+    → Boots bytes view (written_in i) start i.bound (i.entry + flag i.thumb)
+boots_as i view bytes start same at boots = rw (same, at) boots
 
 is_text : (records : BurnForm) (i : Image) (view : ByteMap) → IhexLaw → SrecLaw → IsBurn (burn_in (run_image i)) → BootsTo i view (written_in i)
     → IsBurnText records i view (text_of records (burn_in (run_image i)))

@@ -1,6 +1,6 @@
 -- The pieces that a text of records tells hold bytes.
-use Rattle.std.proofs.Common.{◌≡◌, ℕ, zero, suc, ◌+◌, ◌-◌, ◌<◌, ◌==◌, Bool, true, false, cond, List, [], ◌∷◌, length, map, filter, take, drop, Option, Some, None, Result, Ok, Err, refl, sym, subst, arith}
-use Rattle.std.specs.Prelude.{codes, nat_eq}
+use Rattle.std.proofs.Common.{◌≡◌, ℕ, zero, suc, ◌+◌, ◌-◌, ◌*◌, ◌^◌, ◌==◌, Bool, true, false, cond, List, [], ◌∷◌, length, map, filter, take, drop, Option, Some, None, Result, Ok, Err, refl, sym, subst, arith}
+use Rattle.std.specs.Prelude.{codes, nat_eq, slice_index}
 use Rattle.std.specs.List.{AllByRecursion, starts_with}
 use Rattle.sdt_fault.specs.declared.kinds.RecordKind.{RecordKind}
 use Rattle.sdt_fault.specs.declared.kinds.RecordKind.TheVariants.{Syntax}
@@ -14,7 +14,7 @@ use Rattle.hex_image.specs.declared.records.Form.TheVariants.{Ihex, Srec}
 use Rattle.hex_image.specs.declared.records.Item.{Item}
 use Rattle.hex_image.specs.declared.records.Item.TheVariants.{Data, Base, Start, End, EndAt, Nothing}
 use Rattle.hex_image.specs.declared.records.Piece.{Piece}
-use Rattle.hex_image.specs.Digits.{decoded, digits_in}
+use Rattle.hex_image.specs.Digits.{decoded, digits_in, half, three, word}
 use Rattle.hex_image.specs.Ihex as ihex
 use Rattle.hex_image.specs.Reading.{burn_of, said}
 use Rattle.hex_image.specs.Reads.{Reads, has_bytes, placed}
@@ -58,22 +58,26 @@ abbrev OfItem : Item → Type 0
 OfItem (Data address bytes) = AreBytes bytes
 OfItem other = Unit {0}
 
-choice : (t : Bool) (x y : Item) → OfItem x → OfItem y → OfItem (cond t x y)
-choice true x y h k = h
-choice false x y h k = k
-
 unflawed : (i j : Item) (o : Option RecordKind) → ihex.by_flaw i o ≡ Ok j → OfItem i → OfItem j
 unflawed i j None h own = let same : i ≡ j = cc in subst OfItem same own
 unflawed i j (Some k) h own = absurd cc
 
 ihex_item : (k address : ℕ) (bytes : List ℕ) → AreBytes bytes → OfItem (ihex.item_of k address bytes)
-ihex_item k address bytes h =
-    choice (k == 0) _ _ h (choice (k == 1) _ _ tt (choice (k == 2) _ _ tt (choice (k == 3) _ _ tt (choice (k == 4) _ _ tt tt))))
+ihex_item k address bytes h = go (k == 0) (k == 1) (k == 2) (k == 3) (k == 4)
+  where
+    go : (a b c d e : Bool)
+        → OfItem (cond a (Data address bytes) (cond b End (cond c (Base (16 * half bytes)) (cond d (Start (16 * half bytes + half (drop 2 bytes))) (cond e (Base (2 ^ 16 * half bytes)) (Start (word bytes)))))))
+    go true b c d e = h
+    go false true c d e = tt
+    go false false true d e = tt
+    go false false false true e = tt
+    go false false false false true = tt
+    go false false false false false = tt
 
 ihex_digits : (o : Option (List ℕ)) (text : List ℕ) (i : Item) → digits_in text ≡ o → ihex.by_digits o ≡ Ok i → OfItem i
 ihex_digits None text i e h = absurd cc
 ihex_digits (Some bytes) text i e h =
-    unflawed (ihex.item bytes) i (ihex.flaw bytes) h (ihex_item _ _ (ihex.data_in bytes) (part_bytes _ 4 bytes (digits_bytes text bytes e)))
+    unflawed (ihex.item bytes) i (ihex.flaw bytes) h (ihex_item (slice_index bytes 3) (half (drop 1 bytes)) (ihex.data_in bytes) (part_bytes (slice_index bytes 0) 4 bytes (digits_bytes text bytes e)))
 
 ihex_line : (line : List ℕ) (i : Item) → ihex.said line ≡ Ok i → OfItem i
 ihex_line line i h = go (starts_with nat_eq line (codes ":")) h
@@ -83,10 +87,18 @@ ihex_line line i h = go (starts_with nat_eq line (codes ":")) h
     go false e = absurd cc
 
 srec_item : (k : ℕ) (bytes : List ℕ) → AreBytes bytes → OfItem (srec.item k bytes)
-srec_item k bytes h =
-    choice (k == 1) _ _ (part_bytes _ 3 bytes h)
-    (choice (k == 2) _ _ (part_bytes _ 4 bytes h)
-    (choice (k == 3) _ _ (part_bytes _ 5 bytes h) (choice (k == 7) _ _ tt (choice (k == 8) _ _ tt (choice (k == 9) _ _ tt tt)))))
+srec_item k bytes h = go (k == 1) (k == 2) (k == 3) (k == 7) (k == 8) (k == 9)
+  where
+    go : (a b c d e f : Bool)
+        → OfItem (cond a (Data (half (drop 1 bytes)) (srec.data_in 2 bytes)) (cond b (Data (three (drop 1 bytes)) (srec.data_in 3 bytes)) (cond c (Data (word (drop 1 bytes)) (srec.data_in 4 bytes))
+        (cond d (EndAt (word (drop 1 bytes))) (cond e (EndAt (three (drop 1 bytes))) (cond f (EndAt (half (drop 1 bytes))) Nothing))))))
+    go true b c d e f = part_bytes (slice_index bytes 0 - (2 + 1)) (2 + 1) bytes h
+    go false true c d e f = part_bytes (slice_index bytes 0 - (3 + 1)) (3 + 1) bytes h
+    go false false true d e f = part_bytes (slice_index bytes 0 - (4 + 1)) (4 + 1) bytes h
+    go false false false true e f = tt
+    go false false false false true f = tt
+    go false false false false false true = tt
+    go false false false false false false = tt
 
 srec_digits : (k : ℕ) (o : Option (List ℕ)) (text : List ℕ) (i : Item) → digits_in text ≡ o → srec.by_digits k o ≡ Ok i → OfItem i
 srec_digits k None text i e h = absurd cc

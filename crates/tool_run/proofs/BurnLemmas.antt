@@ -1,5 +1,5 @@
 -- The answers of `burn`; and the load files of a map end at 2^32 or below.
-use Rattle.std.proofs.Common.{◌≡◌, ℕ, ◌+◌, ◌^◌, ◌≤◌, ◌⊎◌, inl, inr, List, [], ◌∷◌, length, map, Option, Some, None, Result, Ok, Err, refl, sym, ap, ◌∙◌, subst, arith}
+use Rattle.std.proofs.Common.{◌≡◌, ℕ, ◌^◌, ◌≤◌, inl, inr, List, [], ◌∷◌, map, Option, Some, None, Result, Ok, Err, refl, sym, ap, subst, arith}
 use Rattle.std.specs.List.{AllByRecursion}
 use Rattle.sdt_fault.specs.declared.answer.Answer.{Answer}
 use Rattle.sdt_fault.specs.declared.answer.Answer.TheVariants as answer
@@ -20,7 +20,7 @@ use Rattle.hex_image.specs.Images.{end_of}
 use Rattle.run_opening.specs.declared.image.Image.{Image}
 use Rattle.run_opening.specs.declared.image.Load.{Load}
 use Rattle.tool_answers.specs.Inputs.{input_of, inputs_of}
-use Rattle.tool_answers.specs.Outcomes.{Outcome, Outside, AreWritten, IsLeft, Writes, writes_one}
+use Rattle.tool_answers.specs.Outcomes.{Outside, AreWritten, IsLeft, Writes, writes_one}
 use Rattle.tool_words.specs.declared.command.BurnForm.{BurnForm}
 use Rattle.tool_words.specs.declared.command.RunImage.TheVariants as image
 use Rattle.tool_run.specs.declared.ends.ImageEnd.{ImageEnd}

@@ -1,28 +1,16 @@
 -- A text of records as an image: what its reader gives, and memory that then holds what the text tells.
-use Rattle.std.proofs.Common.{◌≡◌, ℕ, ◌+◌, ◌-◌, ◌<◌, ◌≤◌, ◌⊎◌, inl, inr, Bool, true, false, cond, List, [], ◌∷◌, ◌++◌, length, map, Option, Some, None, Result, Ok, Err, refl, sym, ap, ◌∙◌, subst, arith}
+use Rattle.std.proofs.Common.{◌≡◌, ℕ, ◌+◌, ◌-◌, ◌<◌, ◌≤◌, ◌⊎◌, inl, inr, Bool, true, false, cond, List, [], ◌∷◌, ◌++◌, map, Option, Some, None, refl, sym, ap, ◌∙◌, subst}
 use Rattle.std.specs.Prelude.{slice_index, unwrap_or}
 use Rattle.std.specs.List.{AllByRecursion}
 use Rattle.std.proofs.lemmas.Bool.{and_from, le-leb, lt-ltb}
 use Rattle.base_lemmas.proofs.BaseLemmas.{all_back, all_front}
-use Rattle.sdt_fault.specs.declared.answer.Fault.{Fault}
-use Rattle.sdt_fault.specs.declared.answer.Fault.TheVariants as fault
-use Rattle.sdt_fault.specs.declared.refusal.Refusal.{Refusal}
-use Rattle.chunk_file.specs.Reading.{Gives}
 use Rattle.arm7_model.specs.Memory.{Bytes, store}
 use Rattle.arm7_model.proofs.MemoryLemmas.{below_or_not, store-above, store-below, store-in}
-use Rattle.hex_image.specs.declared.records.Burn.{Burn}
 use Rattle.hex_image.specs.declared.records.Piece.{Piece}
 use Rattle.hex_image.specs.Images.{AreApart, EachApart, end_of, holds, told}
-use Rattle.hex_image.specs.Reading as hex
 use Rattle.hex_image.proofs.ToldLemmas.{parts_of}
 use Rattle.run_opening.specs.Openings.{loaded}
 use Rattle.tool_run.specs.Burned.{BurnLoadLaw, load_of}
-
-pub gives : (r : Result Burn Fault) (x : Result Burn Refusal) → hex.Gives r x → Gives r x
-gives (Ok b) x h = h
-gives (Err fault.NoMemory) x h = tt
-gives (Err (fault.Refused r)) x h = h
-gives (Err (fault.ReadFault name)) x h = absurd h
 
 -- ---- memory
 

@@ -1,6 +1,6 @@
 -- What the command `burn` writes of a map and its load files, which it reads as `run` does: a text of records of what they load
 -- and of where it is started; and what its answers say. This project's.
-use Rattle.std.specs.Prelude.{◌≡◌, ℕ, ◌+◌, ◌^◌, ◌≤◌, nat_le, if◌then◌else◌, List, [], length, map, Option, Result, Ok, Err}
+use Rattle.std.specs.Prelude.{ℕ, ◌+◌, ◌^◌, ◌≤◌, nat_le, if◌then◌else◌, List, [], length, map, Option, Result, Ok, Err}
 use Rattle.std.specs.List.{AllByRecursion}
 use Rattle.sdt_fault.specs.declared.answer.Answer.{Answer}
 use Rattle.sdt_fault.specs.declared.answer.Answer.TheVariants as answer
