@@ -19,6 +19,7 @@ use Rattle.tool_listing.specs.Lists.{listing_of}
 use Rattle.tool_listing.specs.Lists as listing
 use Rattle.arm7_bus.specs.Seats.{Seat}
 use Rattle.tool_library.proofs.AnswerLemmas as answers
+use Rattle.tool_run.proofs.BurnLemmas as burns
 use Rattle.tool_run.proofs.RunLemmas.{no_memory}
 use Rattle.sdt_toolkit.specs.Commands.{Commanded, RefusesWords, RefusedBy}
 use Rattle.sdt_toolkit.specs.Links.{LinkAnswers}
@@ -39,6 +40,7 @@ unasked (command.Link words) o seats left = (inl left, refl)
 unasked (command.Build words) o seats left = (inl left, refl)
 unasked (command.Report words) o seats left = (left, refl)
 unasked (command.InterruptKit output acknowledge) o seats left = ((left.files, left.sink), refl)
+unasked (command.Burn records file output) o seats left = (burns.no_memory records file output o left, refl)
 unasked (command.Run run) o seats left = no_memory run o seats seats (record { outside = left; devices = refl })
 
 pub refused : (e : WordsFault) (x : Result Command ℕ) (o : Outside) (seats : List Seat) (a : Answer) → Reads (Err e) x → RefusedBy e a → IsLeft o → Commanded x o seats seats a

@@ -6,6 +6,7 @@ use Rattle.sdt_fault.specs.declared.refusal.Refusal.{Refusal}
 use Rattle.sdt_outside.specs.Counts.{Rose}
 use Rattle.sdt_outside.specs.Files.{Files}
 use Rattle.arm7_bus.specs.Seats.{Seat}
+use Rattle.tool_words.specs.declared.command.BurnForm.{BurnForm}
 use Rattle.tool_words.specs.declared.command.Command.{Command}
 use Rattle.tool_words.specs.declared.command.Command.TheVariants as command
 use Rattle.tool_words.specs.declared.command.LinkWords.{LinkWords}
@@ -16,6 +17,7 @@ use Rattle.tool_answers.specs.Outcomes.{Outcome, Outside, Answers, IsAsked, OfAl
 use Rattle.tool_library.specs.Libraries.{created, creates, listed, lists, extracted, extracts}
 use Rattle.tool_listing.specs.Lists.{listing_of}
 use Rattle.tool_listing.specs.Lists as listing
+use Rattle.tool_run.specs.Burns.{BurnAnswers}
 use Rattle.tool_run.specs.Runs.{RunAnswers}
 use Rattle.sdt_toolkit.specs.Commands.{Commanded, Ends, IsFirst, RefusesWords}
 use Rattle.sdt_toolkit.specs.Kits.{KitAnswers}
@@ -83,6 +85,16 @@ kit_ends output acknowledge o seats answer.SinkFault h = absurd h.0
 kit_ends output acknowledge o seats (answer.Stopped why) h = absurd h.0
 kit_ends output acknowledge o seats answer.NoMemory h = tt
 
+burn_ends : (records : BurnForm) (file output : List ℕ) (o : Outside) (seats : List Seat) (a : Answer) → BurnAnswers records file output o a
+    → Ends (Ok (command.Burn records file output)) o seats seats a
+burn_ends records file output o seats answer.Done h = tt
+burn_ends records file output o seats (answer.Refused r) h = ((h.read, h.read_so, h.says.0), record { outside = h.says.1; devices = refl })
+burn_ends records file output o seats (answer.ReadFault q) h = (h.says.0, record { outside = h.says.2; devices = refl })
+burn_ends records file output o seats (answer.WriteFault q) h = (h.says.0, h.says.2, refl)
+burn_ends records file output o seats answer.SinkFault h = h.says.0
+burn_ends records file output o seats (answer.Stopped why) h = absurd h.says
+burn_ends records file output o seats answer.NoMemory h = tt
+
 words_end : (place : ℕ) (o : Outside) (seats : List Seat) (a : Answer) → RefusesWords place o a → Ends (Err place) o seats seats a
 words_end place o seats answer.Done h = absurd h
 words_end place o seats (answer.Refused r) h = (h.0, record { outside = h.1; devices = refl })
@@ -128,6 +140,8 @@ command_ends (Ok (command.Build words)) o seats left a h =
 command_ends (Ok (command.Report words)) o seats left a h = still (Ok (command.Report words)) o seats left a h.1 (report_ends words o seats a h.0)
 command_ends (Ok (command.InterruptKit output acknowledge)) o seats left a h =
     still (Ok (command.InterruptKit output acknowledge)) o seats left a h.1 (kit_ends output acknowledge o seats a h.0)
+command_ends (Ok (command.Burn records file output)) o seats left a h =
+    still (Ok (command.Burn records file output)) o seats left a h.1 (burn_ends records file output o seats a h.0)
 
 pub ends_of : (words : List (List ℕ)) (o : Outside) (seats left : List Seat) (a : Answer) → Commanded (command_of words) o seats left a
     → Ends (command_of words) o seats left a

@@ -1,5 +1,5 @@
 -- Over files that are told and where nothing fails, a command is refused exactly where there is a first defect.
-use Rattle.std.proofs.Common.{◌≡◌, ℕ, List, [], ◌∷◌, Bool, true, false, Option, Some, Result, Ok, Err, sym, subst, ◌∙◌}
+use Rattle.std.proofs.Common.{◌≡◌, ℕ, List, [], ◌∷◌, Bool, true, false, Option, Some, Result, Ok, Err, sym, ap, subst, ◌∙◌}
 use Rattle.sdt_fault.specs.declared.answer.Answer.{Answer}
 use Rattle.sdt_fault.specs.declared.answer.Answer.TheVariants as answer
 use Rattle.sdt_fault.specs.declared.refusal.Refusal.{Refusal}
@@ -8,16 +8,19 @@ use Rattle.sdt_outside.specs.Counts.{Rose}
 use Rattle.sdt_outside.specs.Files.{Files}
 use Rattle.arm7_bus.specs.Seats.{Seat}
 use Rattle.run_opening.specs.declared.image.Image.{Image}
+use Rattle.tool_words.specs.declared.command.BurnForm.{BurnForm}
 use Rattle.tool_words.specs.declared.command.Command.{Command}
 use Rattle.tool_words.specs.declared.command.Command.TheVariants as command
 use Rattle.tool_words.specs.declared.command.LinkWords.{LinkWords}
 use Rattle.tool_words.specs.declared.command.ReportWords.{ReportWords}
+use Rattle.tool_words.specs.declared.command.RunImage.TheVariants as image
 use Rattle.tool_words.specs.declared.command.RunWords.{RunWords}
 use Rattle.tool_words.specs.Commands.{command_of}
 use Rattle.tool_answers.specs.Outcomes.{Answers, IsAsked, OfAll, OfOne, Outcome, Outside, Says}
 use Rattle.tool_library.specs.Libraries.{created, creates, extracted, extracts, listed, lists}
 use Rattle.tool_listing.specs.Lists.{listing_of}
 use Rattle.tool_listing.specs.Lists as listing
+use Rattle.tool_run.specs.Burns.{BurnAnswers, BurnSays, asked_by}
 use Rattle.tool_run.specs.Images.{IsRead, image_of}
 use Rattle.tool_run.specs.Runs.{IsRefusal, RunAnswers, RunSays}
 use Rattle.sdt_toolkit.specs.Commands.{Commanded, Ends, FirstOf, IsFirst, RefusesWords}
@@ -121,6 +124,28 @@ module _ (o : Outside) (files : Files) (told : o.before ≡ Some files) (calm : 
       go (answer.Stopped why) k = no_refusal run read o seats left why r k.1 refusal
       go answer.NoMemory k = tt
 
+  burn_refused : (records : BurnForm) (file output : List ℕ) (seats : List Seat) (a : Answer) → BurnAnswers records file output o a
+      → FirstOf (command.Burn records file output) (reads_of o) seats r → IsRefusedBy r a
+  burn_refused records file output seats a h first = go a h.says
+    where
+      by_files : (x : Result Image Refusal) → IsRead o.before (Rose o.reads o.reads_now) (image.Map file) x → x ≡ image_of (image.Map file) files
+      by_files x k = subst (λ (t : Option Files). IsRead t (Rose o.reads o.reads_now) (image.Map file) x) told k
+
+      asked : Result Outcome Refusal
+      asked = asked_by records output h.read
+
+      is : asked ≡ Err r
+      is = ap (asked_by records output) (by_files h.read h.read_so ∙ sym (by_files first.0 first.1)) ∙ first.2
+
+      go : (b : Answer) → BurnSays file asked o b → IsRefusedBy r b
+      go answer.Done k = says_refused asked [] o r calm is answer.Done k
+      go (answer.Refused q) k = says_refused asked [] o r calm is (answer.Refused q) k
+      go (answer.ReadFault name) k = absurd (calm.reads k.0)
+      go (answer.WriteFault name) k = absurd (calm.writes k.0)
+      go answer.SinkFault k = absurd (calm.sink k.0)
+      go (answer.Stopped why) k = absurd k
+      go answer.NoMemory k = tt
+
   words_refused : (place : ℕ) (a : Answer) → RefusesWords place o a → r ≡ BadWords place → IsRefusedBy r a
   words_refused place answer.Done h first = absurd h
   words_refused place (answer.Refused q) h first = h.0 ∙ sym first
@@ -145,6 +170,7 @@ module _ (o : Outside) (files : Files) (told : o.before ≡ Some files) (calm : 
   refused one link reported (Ok (command.Build words)) seats left a h first = link_refused link true words a h.0 first
   refused one link reported (Ok (command.Report words)) seats left a h first = report_refused reported words a h.0 first
   refused one link reported (Ok (command.InterruptKit output acknowledge)) seats left a h first = absurd first
+  refused one link reported (Ok (command.Burn records file output)) seats left a h first = burn_refused records file output seats a h.0 first
 
 -- ---- the clause of the top call
 

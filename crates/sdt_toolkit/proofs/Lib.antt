@@ -7,6 +7,7 @@ mod BuildLemmas
 mod BuildLaws
 mod BuildClauses
 mod BuildSources
+mod BurnLinked
 mod EndLemmas
 mod EndsLemmas
 mod ExactLemmas
@@ -34,6 +35,7 @@ mod RunNeeds
 mod RunOnce
 mod RunOpened
 mod RunRanges
+mod RunRecords
 mod RunSilenced
 mod RunStartup
 mod RunSteps

@@ -42,6 +42,8 @@ use Rattle.bin_image.specs.declared.records.MapLoad.{MapLoad}
 use Rattle.bin_image.specs.Reading.{map_of}
 use Rattle.elf_image.specs.declared.records.Segment.{Segment}
 use Rattle.elf_image.specs.Reading.{elf_of}
+use Rattle.hex_image.specs.declared.records.Burn.{Burn}
+use Rattle.hex_image.specs.Reading.{burn_of}
 use Rattle.tool_answers.specs.Inputs.{and_others, found_or, input_of, inputs_of}
 use Rattle.tool_answers.specs.Outcomes.{Outside}
 use Rattle.tool_words.specs.declared.command.Bank.{Bank}
@@ -51,6 +53,7 @@ use Rattle.tool_words.specs.declared.command.RunImage.TheVariants as image
 use Rattle.tool_words.specs.declared.command.RunWords.{RunWords}
 use Rattle.tool_words.specs.Commands.{IsBank, command_of}
 use Rattle.tool_run.specs.Aifs.{aif_at, base_for, loaded_aif, placed_aif}
+use Rattle.tool_run.specs.Burned.{burned_image, form_in, loaded_burn}
 use Rattle.tool_run.specs.Elfs.{elf_image, load_of, loaded_elf}
 use Rattle.tool_run.specs.Ends.{named_by, stop_answer}
 use Rattle.tool_run.specs.Images.{IsRead, all_named, binary_image, files_in, front_of, image_of, lengths_judged, loaded_image, loads_of, map_image, mapped_image, unnamed}
@@ -62,6 +65,7 @@ use Rattle.sdt_toolkit.proofs.RunCommands.{same_image}
 use Rattle.sdt_toolkit.proofs.RunLoads.{loaded_bytes}
 use Rattle.sdt_toolkit.proofs.RunNeeds.{same_used}
 use Rattle.sdt_toolkit.proofs.RunOpened.{ready_for}
+use Rattle.sdt_toolkit.proofs.RunRecords.{drop_bytes, records_bytes, take_bytes}
 
 -- ---- the load files are bytes
 
@@ -93,23 +97,16 @@ loads_bytes [] contents h = tt
 loads_bytes (l ∷ ls) [] h = tt
 loads_bytes (l ∷ ls) (bytes ∷ contents) h = (h.0, loads_bytes ls contents h.1)
 
-drop_bytes : (n : ℕ) (xs : List ℕ) → AreBytes xs → AreBytes (drop n xs)
-drop_bytes zero xs h = h
-drop_bytes (suc n) [] h = h
-drop_bytes (suc n) (x ∷ xs) h = drop_bytes n xs (λ i. h (suc i))
-
-take_bytes : (n : ℕ) (xs : List ℕ) → AreBytes xs → AreBytes (take n xs)
-take_bytes zero xs h i = omega arith
-take_bytes (suc n) [] h i = omega arith
-take_bytes (suc n) (x ∷ xs) h zero = h zero
-take_bytes (suc n) (x ∷ xs) h (suc i) = take_bytes n xs (λ k. h (suc k)) i
-
 segments_bytes : (b : List ℕ) → AreBytes b → (ss : List Segment) → OfBytes (map (load_of b) ss)
 segments_bytes b h [] = tt
 segments_bytes b h (s ∷ ss) = (take_bytes s.file_size (drop s.offset b) (drop_bytes s.offset b h), segments_bytes b h ss)
 
 made_bytes : (x y : Image) → ◌≡◌ {A = Result Image Refusal} (Ok x) (Ok y) → OfBytes x.loads → OfBytes y.loads
 made_bytes x y h bytes = let same : x ≡ y = cc in subst (λ (i : Image). OfBytes i.loads) same bytes
+
+named_ok : (name : List ℕ) (r : Result Burn Refusal) (b : Burn) → named_by name r ≡ Ok b → r ≡ Ok b
+named_ok name (Ok x) b h = h
+named_ok name (Err r) b h = absurd cc
 
 image_bytes : (files : Files) → HoldBytes files → (named : RunImage) (i : Image) → image_of named files ≡ Ok i → OfBytes i.loads
 image_bytes files hold (image.Binary file at) i h =
@@ -124,6 +121,10 @@ image_bytes files hold (image.Elf file) i h =
     let (bytes, read, loaded) = bind_ok (input_of files file) (λ bytes. elf_image file bytes) i h in
     let (e, is_elf, made) = bind_ok (named_by file (elf_of bytes)) (λ e. Ok (loaded_elf bytes e)) i loaded in
     made_bytes (loaded_elf bytes e) i made (segments_bytes bytes (input_bytes files hold file bytes read) e.segments)
+image_bytes files hold (image.Burned file) i h =
+    let (text, read, loaded) = bind_ok (input_of files file) (λ text. burned_image file text) i h in
+    let (b, is_burn, made) = bind_ok (named_by file (burn_of (form_in text) text)) (λ b. Ok (loaded_burn b)) i loaded in
+    made_bytes (loaded_burn b) i made (records_bytes (form_in text) text b (named_ok file (burn_of (form_in text) text) b is_burn))
 image_bytes files hold (image.Map file) i h =
     let (text, read, mapped) = bind_ok (input_of files file) (λ text. named_by file (map_of text) >>= λ m. mapped_image m files) i h in
     let (m, is_map, filed) = bind_ok (named_by file (map_of text)) (λ m. mapped_image m files) i mapped in

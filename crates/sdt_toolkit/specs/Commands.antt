@@ -7,6 +7,7 @@ use Rattle.sdt_fault.specs.declared.refusal.Refusal.TheVariants.{BadWords}
 use Rattle.sdt_outside.specs.Counts.{Rose}
 use Rattle.tool_words.specs.declared.command.Command.{Command}
 use Rattle.tool_words.specs.declared.command.Command.TheVariants as command
+use Rattle.tool_words.specs.declared.command.RunImage.TheVariants as image
 use Rattle.tool_words.specs.declared.command.WordsFault.{WordsFault}
 use Rattle.tool_words.specs.declared.command.WordsFault.TheVariants as fault
 use Rattle.run_opening.specs.declared.image.Image.{Image}
@@ -20,6 +21,7 @@ use Rattle.tool_library.specs.Libraries.{created, creates, listed, lists, extrac
 use Rattle.arm7_bus.specs.Seats.{Seat}
 use Rattle.tool_listing.specs.Lists.{listing_of}
 use Rattle.tool_listing.specs.Lists as listing
+use Rattle.tool_run.specs.Burns.{BurnAnswers, asked_by}
 use Rattle.tool_run.specs.Images.{IsRead}
 use Rattle.tool_run.specs.Runs.{IsRefusal, IsUntouched, RunAnswers}
 
@@ -46,6 +48,7 @@ Commanded (Ok (command.Link words)) o seats left a = LinkAnswers false words o a
 Commanded (Ok (command.Build words)) o seats left a = LinkAnswers true words o a × (left ≡ seats)
 Commanded (Ok (command.Report words)) o seats left a = ReportAnswers words o a × (left ≡ seats)
 Commanded (Ok (command.InterruptKit output acknowledge)) o seats left a = KitAnswers output acknowledge o a × (left ≡ seats)
+Commanded (Ok (command.Burn records file output)) o seats left a = BurnAnswers records file output o a × (left ≡ seats)
 
 -- ---- refusals: the first defect of the words, then of the files and, for a run, of the banks and devices
 
@@ -63,6 +66,8 @@ FirstOf (command.Link words) s seats r = WordsAsk s false words (Err r)
 FirstOf (command.Build words) s seats r = WordsAsk s true words (Err r)
 FirstOf (command.Report words) s seats r = ReportAsked s words (Err r)
 FirstOf (command.InterruptKit output acknowledge) s seats r = ⊥
+FirstOf (command.Burn records file output) s seats r =
+    (read : Result Image Refusal) × IsRead s.told (HasFailed s) (image.Map file) read × (asked_by records output read ≡ Err r)
 
 abbrev pub IsFirst : Result Command ℕ → Reads → List Seat → Refusal → Type 0
 IsFirst (Err place) s seats r = r ≡ BadWords place

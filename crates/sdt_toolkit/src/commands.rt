@@ -16,7 +16,7 @@ use sdt_outside::{Device, Sink, Store};
 use std::alloc::Global;
 use tool_library::{create_library, extract_member, list_members};
 use tool_listing::list_file;
-use tool_run::run;
+use tool_run::{burn, run};
 use tool_words::{Command, WordsFault, read_words};
 
 fn refused(fault: WordsFault) -> Answer
@@ -65,6 +65,7 @@ fn carried_out<S: Store, K: Sink>(
             output,
             acknowledge,
         } => write_kit(alloc, store, output, acknowledge),
+        Command::Burn { form, map, output } => burn(alloc, store, form, map, output),
     }
 }
 

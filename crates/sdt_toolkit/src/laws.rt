@@ -1,6 +1,7 @@
 //! Laws of the definitions, each proved as the contract of an empty function.
 
 ghost use Rattle.sdt_toolkit.specs.Builds.{BuildsAreLinks, SpelledAreObjectFiles};
+ghost use Rattle.sdt_toolkit.specs.Burns.{LinkedBurns};
 ghost use Rattle.sdt_toolkit.specs.Interrupts.{InterruptsAreHidden};
 ghost use Rattle.sdt_toolkit.specs.Links.{OneLinkAsked};
 ghost use Rattle.sdt_toolkit.specs.Plans.{ImagesArePlaced};
@@ -11,6 +12,7 @@ ghost use Rattle.sdt_toolkit.specs.Sources.{OneAsked};
 use armasm_core::laws::one_assembly;
 use armlink_core::laws::{image_names, table_names};
 use bin_image::{map_law, spelling_law};
+use hex_image::{ihex_law, srec_law};
 use link_model::linked_law;
 use run_laws::{bus_run_is_one, made_steps_are_one, started_exits_alike};
 use scatter_text::reading_law;
@@ -78,6 +80,16 @@ pub fn linked_runs_start()
     ensures { LinkedRunsStart }
 {
     commands_start();
+}
+
+/// The text that `burn` writes of the map that `link` or `build` left of a scatter image, over the files as they left them, tells
+/// the image's load regions and its start, and `run -burned` reads it so.
+pub fn linked_burns()
+    ensures { LinkedBurns }
+{
+    files_are_read();
+    ihex_law();
+    srec_law();
 }
 
 /// Where the interrupt kit is in force in the image and the program keeps the rules, a run by the map that devices interrupt and

@@ -4,6 +4,7 @@
 ghost use Rattle.std.specs.Prelude.{◌≡◌, map, string_bytes, false};
 ghost use Rattle.arm7_bus.specs.Seats.{seats_by};
 ghost use Rattle.sdt_toolkit.specs.Builds.{BuildsAsLinked};
+ghost use Rattle.sdt_toolkit.specs.Burns.{BurnsAsLinked};
 ghost use Rattle.sdt_toolkit.specs.Commands.{Commanded, Ends, is_run, may_print};
 ghost use Rattle.sdt_toolkit.specs.Exact.{Exact};
 ghost use Rattle.sdt_toolkit.specs.Headline.{Headline};
@@ -33,7 +34,7 @@ mod report;
 mod sound;
 mod writing;
 
-/// Carries out a command: `asm`, `link`, `build`, one of the librarian's, `list`, `report`, `run` or `irqkit`.
+/// Carries out a command: `asm`, `link`, `build`, one of the librarian's, `list`, `report`, `run`, `burn` or `irqkit`.
 ///
 /// A refusal names the first defect of the words, then of the files, in order. `ReadFault`, `WriteFault`
 /// and `SinkFault` come only where the store's or the sink's count of such faults rose. A run takes the devices
@@ -54,6 +55,10 @@ pub fn run_tool<S: Store, K: Sink>(
     ensures headline { Headline (command_of (map string_bytes words.now)) (S.files store.old) (S.files store.new) result }
     // What `build` makes of sources is what `link` makes of the files that `asm` writes of them.
     ensures builds { BuildsAsLinked (command_of (map string_bytes words.now)) (outside_of (S.files store.old) (S.files store.new)
+        (K.bytes sink.old) (K.bytes sink.new) (S.read_faults store.old) (S.read_faults store.new)
+        (S.write_faults store.old) (S.write_faults store.new) (K.faults sink.old) (K.faults sink.new)) result }
+    // What `burn` writes of the map that a link or a build left is a text from which the image starts.
+    ensures burns { BurnsAsLinked (command_of (map string_bytes words.now)) (outside_of (S.files store.old) (S.files store.new)
         (K.bytes sink.old) (K.bytes sink.new) (S.read_faults store.old) (S.read_faults store.new)
         (S.write_faults store.old) (S.write_faults store.new) (K.faults sink.old) (K.faults sink.new)) result }
     // A run by the map that a link or a build left begins with the startup code's steps, which lead to the entry and touch no device.
@@ -97,6 +102,7 @@ pub fn run_tool<S: Store, K: Sink>(
     laws::one_asked();
     refusals_law();
     laws::builds_are_links();
+    laws::linked_burns();
     laws::linked_runs_start();
     commands::command(alloc, words, store, sink, devices)
 }

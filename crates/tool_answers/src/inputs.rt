@@ -171,6 +171,15 @@ pub fn named(name: Text, refusal: Refusal) -> Refusal
             offset,
             kind,
         },
+        Refusal::BadRecord {
+            file: _,
+            line,
+            kind,
+        } => Refusal::BadRecord {
+            file: name,
+            line,
+            kind,
+        },
         other => other,
     }
 }

@@ -1,3 +1,5 @@
+pub mod BurnLemmas
+pub mod BurnedLemmas
 pub mod ElfLemmas
 pub mod NeedLemmas
 pub mod ReadLemmas

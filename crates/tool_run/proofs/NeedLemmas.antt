@@ -13,10 +13,12 @@ use Rattle.bin_image.specs.declared.records.MapLoad.{MapLoad}
 use Rattle.elf_image.specs.declared.records.Elf.{Elf}
 use Rattle.elf_image.specs.declared.records.Segment.{Segment}
 use Rattle.elf_image.specs.Checks.{IsSegment, ReadsElf}
+use Rattle.hex_image.specs.declared.records.Piece.{Piece}
 use Rattle.run_opening.specs.declared.image.Image.{Image}
 use Rattle.run_opening.specs.declared.image.Load.{Load}
 use Rattle.run_opening.specs.declared.image.Need.{Need}
 use Rattle.run_opening.specs.Openings.{AreNeeded, IsNeeded}
+use Rattle.tool_run.specs.Burned as burned
 use Rattle.tool_run.specs.Elfs as elfs
 use Rattle.tool_run.specs.Elfs.{need_of}
 use Rattle.tool_run.specs.Images.{length_judged, lengths_judged, load_need, load_of, loads_of, map_image, region_need}
@@ -38,7 +40,7 @@ all_more : (needs : List Need) (n : Need) (loads : List Load) → AllByRecursion
 all_more needs n [] h = tt
 all_more needs n (l ∷ ls) h = (one_more needs n l h.0, all_more needs n ls h.1)
 
-judged_one : (l : MapLoad) (b : List ℕ) (others : Result Unit Refusal) → (length_judged l b >>= λ right. others) ≡ Ok tt → (length b ≡ l.size) × (others ≡ Ok tt)
+pub judged_one : (l : MapLoad) (b : List ℕ) (others : Result Unit Refusal) → (length_judged l b >>= λ right. others) ≡ Ok tt → (length b ≡ l.size) × (others ≡ Ok tt)
 judged_one l b others h = split (eqb_tells (length b) l.size)
   where
     split : (((length b == l.size) ≡ true) × (length b ≡ l.size)) ⊎ (((length b == l.size) ≡ false) × (length b ≢ l.size)) → (length b ≡ l.size) × (others ≡ Ok tt)
@@ -70,3 +72,16 @@ segments_needed b (s ∷ ss) h = (
 pub elf_needed : (b : List ℕ) (e : Elf) (loads : List Load) (needs : List Need) → ReadsElf b e → loads ≡ map (elfs.load_of b) e.segments → needs ≡ map need_of e.segments
     → AllByRecursion (IsNeeded needs) loads
 elf_needed b e loads needs h loads_are needs_are = rw (loads_are, needs_are) (segments_needed b e.segments (are_segments b e h))
+
+-- ---- a text of records
+
+each_needed : (ps : List Piece) → AllByRecursion (IsNeeded (map burned.need_of ps)) (map burned.load_of ps)
+each_needed [] = tt
+each_needed (p ∷ ps) = (
+  first_has (map burned.need_of ps) (burned.need_of p) (burned.load_of p) refl (omega arith),
+  all_more (map burned.need_of ps) (burned.need_of p) (map burned.load_of ps) (each_needed ps),
+)
+
+pub pieces_needed : (ps : List Piece) (loads : List Load) (needs : List Need) → loads ≡ map burned.load_of ps → needs ≡ map burned.need_of ps
+    → AllByRecursion (IsNeeded needs) loads
+pieces_needed ps loads needs loads_are needs_are = rw (loads_are, needs_are) (each_needed ps)

@@ -23,6 +23,7 @@ use Rattle.tool_words.specs.declared.command.RunImage.TheVariants as image
 use Rattle.tool_run.specs.declared.ends.ImageEnd.{ImageEnd}
 use Rattle.tool_run.specs.declared.ends.ImageEnd.TheVariants as end
 use Rattle.tool_run.specs.Aifs.{aif_at}
+use Rattle.tool_run.specs.Burned.{burned_image}
 use Rattle.tool_run.specs.Elfs.{elf_image}
 use Rattle.tool_run.specs.Ends.{IsMissing, Reads, fault_end, input_end, named_by}
 use Rattle.tool_run.specs.Images.{IsGiven, IsInput, IsRead, SomeLoads, SomeMapped, all_named, files_in, front_of, has_zero, loaded_image, mapped_image, unnamed}
@@ -98,6 +99,15 @@ elf_refused (fault.Refused r) None rose file bytes found h = inl (bytes, sym h)
 elf_refused (fault.Refused r) (Some files) rose file bytes found h = sym (ap (λ x. found_or file x >>= λ b. elf_image file b) found ∙ h)
 elf_refused (fault.ReadFault name) told rose file bytes found h = absurd h
 elf_refused fault.NoMemory told rose file bytes found h = tt
+
+-- ---- a text of records
+
+pub burned_refused : (e : Fault) (told : Option Files) (rose : Type 0) (file text : List ℕ) → IsFound told file text → Gives {A = Image} (Err e) (burned_image file text)
+    → Reads (IsRead told rose (image.Burned file)) rose (IsInput told (image.Burned file)) (Err (fault_end e))
+burned_refused (fault.Refused r) None rose file text found h = inl (text, sym h)
+burned_refused (fault.Refused r) (Some files) rose file text found h = sym (ap (λ x. found_or file x >>= λ t. burned_image file t) found ∙ h)
+burned_refused (fault.ReadFault name) told rose file text found h = absurd h
+burned_refused fault.NoMemory told rose file text found h = tt
 
 -- ---- load files
 

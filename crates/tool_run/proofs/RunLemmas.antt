@@ -39,9 +39,10 @@ any_given : (image : RunImage) → (read : Result Image Refusal) × SomeGive ima
 any_given (image.Binary file at) = (_, ([], refl))
 any_given (image.Aif file at) = (_, ([], refl))
 any_given (image.Elf file) = (_, ([], refl))
+any_given (image.Burned file) = (_, ([], refl))
 any_given (image.Map file) = let (read, is) = any_mapped (named_by file (map_of [])) in (read, ([], is))
 
-any_read : (told : Option Files) (rose : Type 0) (image : RunImage) → (read : Result Image Refusal) × IsRead told rose image read
+pub any_read : (told : Option Files) (rose : Type 0) (image : RunImage) → (read : Result Image Refusal) × IsRead told rose image read
 any_read None rose image = let (read, is) = any_given image in (read, inl is)
 any_read (Some files) rose image = (image_of image files, refl)
 

@@ -1,5 +1,5 @@
--- The image that the words of a run name, by files: a binary at an address, an ARM image file, an ELF executable, or the
--- load files of a map. This project's.
+-- The image that the words of a run name, by files: a binary at an address, an ARM image file, an ELF executable, a text of
+-- records, or the load files of a map. This project's.
 use Rattle.std.proofs.lemmas.Bool.{false≢true}
 use Rattle.std.specs.Prelude.{◌≡◌, ℕ, ◌+◌, ◌==◌, if◌then◌else◌, Bool, true, false, List, [], ◌∷◌, ◌++◌, map, take, length, slice_index_or, Option, Some, None, Result, Ok, Err, ◌⊎◌}
 use Rattle.std.specs.List.{list_any, position, zip}
@@ -20,6 +20,7 @@ use Rattle.tool_answers.specs.Inputs.{input_of, inputs_of, IsReached}
 use Rattle.tool_words.specs.declared.command.RunImage.{RunImage}
 use Rattle.tool_words.specs.declared.command.RunImage.TheVariants as image
 use Rattle.tool_run.specs.Aifs.{aif_at}
+use Rattle.tool_run.specs.Burned.{burned_image}
 use Rattle.tool_run.specs.Elfs.{elf_image}
 use Rattle.tool_run.specs.Ends.{named_by}
 
@@ -102,11 +103,12 @@ mapped_image m files =
 -- ---- the image
 
 -- what the words name, or the first refusal: the file is missing, it is no ARM image file or may not stand at the
--- address, it is no ELF executable, the map's text is wrong, a load file is missing, a load file has another length
+-- address, it is no ELF executable, a line of records is at fault, the map's text is wrong, a load file is missing, a load file has another length
 abbrev pub image_of : RunImage → Files → Result Image Refusal
 image_of (image.Binary file at) files = input_of files file >>= λ bytes. Ok (binary_image at bytes)
 image_of (image.Aif file at) files = input_of files file >>= λ bytes. aif_at file at bytes
 image_of (image.Elf file) files = input_of files file >>= λ bytes. elf_image file bytes
+image_of (image.Burned file) files = input_of files file >>= λ text. burned_image file text
 image_of (image.Map file) files =
     input_of files file >>= λ text. named_by file (map_of text) >>= λ m. mapped_image m files
 
@@ -118,11 +120,13 @@ pub record IsLoadFile (told : Option Files) (file name : List ℕ) : Type 0 wher
   pub reads : ReadsMap text m
   pub reached : IsReached told (files_in m) name
 
--- the file is one that the words name: the binary, the ARM image file, the ELF executable, the map, or one of the map's load files
+-- the file is one that the words name: the binary, the ARM image file, the ELF executable, the text of records, the map, or one of
+-- the map's load files
 abbrev pub IsInput : Option Files → RunImage → List ℕ → Type 0
 IsInput told (image.Binary file at) name = name ≡ file
 IsInput told (image.Aif file at) name = name ≡ file
 IsInput told (image.Elf file) name = name ≡ file
+IsInput told (image.Burned file) name = name ≡ file
 IsInput told (image.Map file) name = (name ≡ file) ⊎ IsLoadFile told file name
 
 -- one of the inputs is missing, for which a read failed
@@ -144,6 +148,7 @@ abbrev pub SomeGive : RunImage → Result Image Refusal → Type 0
 SomeGive (image.Binary file at) read = (bytes : List ℕ) × (read ≡ Ok (binary_image at bytes))
 SomeGive (image.Aif file at) read = (bytes : List ℕ) × (read ≡ aif_at file at bytes)
 SomeGive (image.Elf file) read = (bytes : List ℕ) × (read ≡ elf_image file bytes)
+SomeGive (image.Burned file) read = (text : List ℕ) × (read ≡ burned_image file text)
 SomeGive (image.Map file) read = (text : List ℕ) × SomeMapped (named_by file (map_of text)) read
 
 -- what was read is what the files that are told give; where none are told, it is what some contents of them give, or one is missing

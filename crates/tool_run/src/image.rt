@@ -11,6 +11,7 @@ ghost use Rattle.tool_run.specs.Images.{IsGiven, IsInput, IsRead};
 ghost use Rattle.tool_run.specs.Ends.{Reads};
 
 use crate::aifs::aif_at;
+use crate::burned::burned_image;
 use crate::elfs::elf_image;
 use crate::ends::{ImageEnd, fault_end, input_end, missing};
 use crate::maps::{files_in, front_of, loaded_image, map_named, unnamed};
@@ -105,6 +106,28 @@ fn read_elf_file<S: Store>(alloc: Global, store: &mut S, file: &Text) -> Result<
     }
 }
 
+fn read_burned_file<S: Store>(
+    alloc: Global,
+    store: &mut S,
+    file: &Text,
+) -> Result<Image, ImageEnd>
+    ensures read { let told = S.files store.old in let rose = Rose (S.read_faults store.old) (S.read_faults store.new) in
+        Reads (IsRead told rose (image.Burned file.now)) rose (IsInput told (image.Burned file.now)) result }
+    ensures needed { IfOk result (λ image. AreNeeded image) }
+    ensures files { S.files store.new ≡ S.files store.old }
+    ensures read_faults { S.read_faults store.old ≤ S.read_faults store.new }
+    ensures write_faults { S.write_faults store.new ≡ S.write_faults store.old }
+{
+    let text = match read_input(alloc, store, file) {
+        Ok(text) => text,
+        Err(end) => return Err(input_end(end)),
+    };
+    match burned_image(alloc, file, text.as_slice()) {
+        Ok(image) => Ok(image),
+        Err(fault) => Err(fault_end(fault)),
+    }
+}
+
 fn read_loads<S: Store>(alloc: Global, store: &mut S, m: &MapFile) -> Result<Image, ImageEnd>
     ensures read { let told = S.files store.old in let rose = Rose (S.read_faults store.old) (S.read_faults store.new) in
         Reads (IsGiven (images.mapped_image m.now) (images.SomeLoads m.now) told rose (IsReached told (images.files_in m.now)))
@@ -150,7 +173,7 @@ fn read_mapped<S: Store>(alloc: Global, store: &mut S, file: &Text) -> Result<Im
 }
 
 /// The image that the words of a run name. Of an ARM image file the header is judged, and then where it may stand; an
-/// ELF executable is judged whole. A map is read first, then its load files in their order, and then their lengths are judged. A load file whose name has a
+/// ELF executable is judged whole, and a text of records line by line. A map is read first, then its load files in their order, and then their lengths are judged. A load file whose name has a
 /// zero byte is missing.
 pub fn read_image<S: Store>(
     alloc: Global,
@@ -168,6 +191,7 @@ pub fn read_image<S: Store>(
         RunImage::Aif { file, at } => read_aif_file(alloc, store, file, *at),
         RunImage::Binary { file, at } => read_binary(alloc, store, file, *at),
         RunImage::Elf { file } => read_elf_file(alloc, store, file),
+        RunImage::Burned { file } => read_burned_file(alloc, store, file),
         RunImage::Map { file } => read_mapped(alloc, store, file),
     }
 }

@@ -1,8 +1,11 @@
-//! The command `run`: an image from files, the machine's run of it over banks and devices, and the answer.
+//! The command `run`: an image from files, the machine's run of it over banks and devices, and the answer. And the command
+//! `burn`, which writes as a text of records what `run` would load of a map.
 #![tactic(auto)]
 
 mod aifs;
 mod banks;
+mod burned;
+mod burning;
 mod command;
 mod elfs;
 mod ends;
@@ -10,6 +13,8 @@ mod image;
 mod maps;
 
 pub use crate::banks::ranges;
+pub use crate::burned::burn_load_law;
+pub use crate::burning::burn;
 pub use crate::command::run;
 pub use crate::elfs::elf_load_law;
 pub use crate::ends::ImageEnd;

@@ -1,6 +1,7 @@
 use Rattle.std.proofs.Common.{map}
 use Rattle.std.specs.Prelude.{string_bytes}
 use Rattle.sdt_toolkit.proofs.BuildClauses.{builds_told}
+use Rattle.sdt_toolkit.proofs.BurnLinked.{burns_told}
 use Rattle.sdt_toolkit.proofs.EndsLemmas.{ends_of}
 use Rattle.sdt_toolkit.proofs.ExactLemmas.{exact_of}
 use Rattle.sdt_toolkit.proofs.HeadlineLemmas.{headline_of}
@@ -36,6 +37,9 @@ pub returns-clause-builds : goal.returns-clause-builds
 returns-clause-builds g c =
     builds_told c.builds_are_links.ensures.links c.one_asked.ensures.linked (map string_bytes c.args.words.now) _ _ _ c.command.result c.command.ensures.commanded
     (exact_of c.one_asked.ensures.assembled c.one_asked.ensures.linked c.one_asked.ensures.reported (map string_bytes c.args.words.now) _ _ _ c.command.result c.command.ensures.commanded)
+
+pub returns-clause-burns : goal.returns-clause-burns
+returns-clause-burns g c = burns_told c.linked_burns.ensures (map string_bytes c.args.words.now) _ _ _ c.command.result c.command.ensures.commanded
 
 pub returns-clause-starts : goal.returns-clause-starts
 returns-clause-starts g c = starts_told c.linked_runs_start.ensures (map string_bytes c.args.words.now) _ _ _ c.command.result c.command.ensures.commanded

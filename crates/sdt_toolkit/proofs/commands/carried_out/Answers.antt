@@ -52,3 +52,8 @@ pub returns-in-InterruptKit-clause-commanded : goal.returns-in-InterruptKit-clau
 unfolding Commanded
 returns-in-InterruptKit-clause-commanded g c =
     rw c.in-InterruptKit.is ((c.write_kit.ensures.says, refl), refl)
+
+pub returns-in-Burn-clause-commanded : goal.returns-in-Burn-clause-commanded
+unfolding Commanded
+returns-in-Burn-clause-commanded g c =
+    rw c.in-Burn.is (c.burn.ensures (g.K.Sink.bytes c.args.sink.now) (g.K.Sink.faults c.args.sink.now), refl)
