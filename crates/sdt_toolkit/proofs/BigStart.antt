@@ -9,9 +9,9 @@ use Rattle.aof_object.specs.Validity.{IsValid}
 use Rattle.armlink_core.specs.Images.{image_of}
 use Rattle.armlink_core.specs.Sizes.{copies_in, zeros_in}
 use Rattle.big_faults.specs.Big.{words_bytes}
-use Rattle.big_made.specs.Made.{big_assigned, big_placement, big_plan}
-use Rattle.big_made.specs.Starts.{ImageStarts, loaded}
-use Rattle.big_made.proofs.MadeLemmas.{linked, made, named, object}
+use Rattle.sdt_toolkit.specs.BigMade.{big_assigned, big_placement, big_plan}
+use Rattle.sdt_toolkit.specs.BigStarts.{ImageStarts, loaded}
+use Rattle.sdt_toolkit.proofs.BigMade.{linked, made, named, object}
 use Rattle.big_model.specs.Words.{code_words, data_words, step_word}
 use Rattle.big_place.specs.Big.{PlanHasNoFault, big_kind, big_scatter}
 use Rattle.big_place.proofs.PlaceLemmas.{code_size, data_size, table_is}
