@@ -1,6 +1,6 @@
 -- What the command `make-big` answers and leaves: a generated source is written, and the image that `build` makes of it is run in
 -- the default bank, with its words, its steps from the entry on and its sum in a line. This project's.
-use Rattle.std.specs.Prelude.{◌≡◌, ◌⊎◌, ℕ, ◌+◌, ◌-◌, ◌*◌, ◌/◌, ◌≤◌, false, List, [], ◌∷◌, ◌++◌, length, codes, Option, Some, None, Result, Ok}
+use Rattle.std.specs.Prelude.{◌≡◌, ◌⊎◌, ℕ, ◌+◌, ◌-◌, ◌*◌, ◌/◌, ◌≤◌, true, false, List, [], ◌∷◌, ◌++◌, length, codes, Option, Some, None, Result, Ok}
 use Rattle.std.specs.Fmt.{decimal}
 use Rattle.sdt_fault.specs.declared.answer.Answer.{Answer}
 use Rattle.sdt_fault.specs.declared.answer.Answer.TheVariants as answer
@@ -10,7 +10,7 @@ use Rattle.sdt_fault.specs.declared.refusal.Refusal.{Refusal}
 use Rattle.sdt_fault.specs.declared.refusal.Refusal.TheVariants.{BankOverlap}
 use Rattle.sdt_fault.specs.Digits.{hexadecimal}
 use Rattle.sdt_outside.specs.Counts.{Rose}
-use Rattle.sdt_outside.specs.Files.{Files, IsWritten, SameBut, files_of}
+use Rattle.sdt_outside.specs.Files.{Files, IsWritten, SameBut, content, files_of}
 use Rattle.sdt_outside.specs.Sinks.{Got, GotPart}
 use Rattle.aof_object.specs.declared.records.Area.{Area}
 use Rattle.aof_object.specs.declared.records.Object.{Object}
@@ -36,14 +36,26 @@ use Rattle.big_model.specs.Sources.{big_sum, big_text}
 use Rattle.big_place.specs.Big.{big_description}
 use Rattle.tool_answers.specs.Outcomes.{Outside}
 use Rattle.tool_run.specs.Runs.{IsUntouched}
+use Rattle.tool_words.specs.declared.command.LinkPlacement.TheVariants as placement
+use Rattle.tool_words.specs.declared.command.LinkWords.{LinkWords}
 use Rattle.sdt_toolkit.specs.BigMade.{big_image, big_named}
 use Rattle.sdt_toolkit.specs.BigStarts.{big_startup}
-use Rattle.sdt_toolkit.specs.Inputs.{module_of}
+use Rattle.sdt_toolkit.specs.Headline.{IsLinkedInto}
+use Rattle.sdt_toolkit.specs.Inputs.{is_source_name, module_of}
 use Rattle.sdt_toolkit.specs.RunImages.{needs_of, run_image}
 use Rattle.sdt_toolkit.specs.Runs.{HasStarted}
 use Rattle.sdt_toolkit.specs.Starting.{HasBytes}
 
 -- ---- the image
+
+-- What a `build` makes that is done, of the source in the file of this name and of a file that has the description, without ranges
+-- that can be written, is this image.
+abbrev pub IsBuilt : List ℕ → ℕ → Image → Type 0
+IsBuilt name n i =
+    (w : LinkWords) (before : Files) (after : Option Files) (made : Image) (views : ℕ → ByteMap) (description : List ℕ)
+    → w.names ≡ name ∷ [] → w.placement ≡ placement.Scatter description → w.ram ≡ None → is_source_name name ≡ true
+    → content before name ≡ Some (big_text n) → content before description ≡ Some big_description
+    → IsLinkedInto true w before after made views → made ≡ i
 
 -- Of the source of this name, whatever files there are beside it, the object is this one and nothing is refused; the image is
 -- that of this one object and the description.
@@ -51,6 +63,7 @@ pub record IsBigImage (name : List ℕ) (n : ℕ) (i : Image) : Type 0 where
   pub assembled : AssembledFrom (Some (files_of [])) name (big_text n) (Ok (big_object n))
   pub only : (files : Files) (made : Result Object Refusal) → AssembledFrom (Some files) name (big_text n) made → made ≡ Ok (big_object n)
   pub linked : scatter_linking big_description None (big_named name (module_of name) n ∷ []) ≡ Ok i
+  pub built : IsBuilt name n i
 
 -- the words of its area `big`, which is the first one
 abbrev pub first_words : List Area → ℕ

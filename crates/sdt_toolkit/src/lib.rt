@@ -21,6 +21,8 @@ use sdt_outside::{Device, Sink, Store};
 use std::alloc::Global;
 
 mod assemble;
+mod big;
+mod big_image;
 mod commands;
 mod images;
 mod inputs;
