@@ -90,7 +90,7 @@ pub record IsBigRun (n : ℕ) (i : Image) (seats left : List Seat) : Type 0 wher
 -- the line that tells words, steps and sum
 abbrev pub big_line : ℕ → ℕ → ℕ → ℕ → List ℕ
 big_line n words steps sum =
-    codes "big " ++ decimal n ++ (codes " words " ++ decimal words ++ (codes " steps " ++ decimal steps ++ (codes " sum " ++ hexadecimal sum ++ codes "\n")))
+    codes "big " ++ (decimal n ++ (codes " words " ++ (decimal words ++ (codes " steps " ++ (decimal steps ++ (codes " sum " ++ (hexadecimal sum ++ codes "\n")))))))
 
 -- as many words of code as steps, and the sum
 abbrev pub big_report : ℕ → List ℕ

@@ -9,7 +9,7 @@ ghost use Rattle.arm7_transfers.specs.Ready.{IsReady};
 ghost use Rattle.run_opening.specs.Openings.{AreNeeded};
 ghost use Rattle.big_faults.specs.Big.{big_object};
 ghost use Rattle.big_model.specs.Sources.{big_text};
-ghost use Rattle.sdt_toolkit.specs.Big.{BigAnswers, HasEnded, IsBigImage, Reports, big_line};
+ghost use Rattle.sdt_toolkit.specs.Big.{BigAnswers, HasEnded, IsBigImage, PrintsLine, Reports, big_line};
 ghost use Rattle.sdt_toolkit.specs.BigMade.{big_image};
 ghost use Rattle.sdt_toolkit.specs.BigStarts.{big_startup};
 ghost use Rattle.sdt_toolkit.specs.Inputs.{module_of};
@@ -17,7 +17,7 @@ ghost use Rattle.sdt_toolkit.specs.RunImages as images;
 ghost use Rattle.sdt_toolkit.specs.Reads.{outside_of};
 ghost use Rattle.sdt_toolkit.specs.Starting.{HasBytes};
 
-use crate::big_image::{Big, big};
+use crate::big_image::{Program, build_program};
 use crate::laws::big_law;
 use arm7_bus::Bus;
 use arm7_core::Machine;
@@ -100,6 +100,23 @@ fn line(alloc: Global, count: u32, words: u32, ended: &Ended) -> Result<Vec<u8>,
     Ok(out)
 }
 
+fn print_line<K: Sink>(
+    alloc: Global,
+    sink: &mut K,
+    count: u32,
+    words: u32,
+    ended: &Ended,
+) -> Answer
+    ensures says { PrintsLine (big_line count words ended.now.steps ended.now.sum) (K.bytes sink.old) (K.bytes sink.new)
+        (Rose (K.faults sink.old) (K.faults sink.new)) result }
+    ensures faults { K.faults sink.old ≤ K.faults sink.new }
+{
+    match line(alloc, count, words, ended) {
+        Ok(text) => print(sink, text.as_slice()),
+        Err(NoMemory) => Answer::NoMemory,
+    }
+}
+
 /// Prints the line of a run that ended by SWI 0x11.
 fn report<K: Sink>(
     alloc: Global,
@@ -112,12 +129,9 @@ fn report<K: Sink>(
         (Rose (K.faults sink.old) (K.faults sink.new)) result }
     ensures faults { K.faults sink.old ≤ K.faults sink.new }
 {
-    if ended.stop != Stop::Exit {
-        return Answer::Stopped(ended.stop);
-    }
-    match line(alloc, count, words, ended) {
-        Ok(line) => print(sink, line.as_slice()),
-        Err(NoMemory) => Answer::NoMemory,
+    match ended.stop {
+        Stop::Exit => print_line(alloc, sink, count, words, ended),
+        stop => Answer::Stopped(stop),
     }
 }
 
@@ -135,17 +149,17 @@ fn run_big<S: Store, K: Sink>(
     store: &mut S,
     sink: &mut K,
     devices: Vec<Box<dyn Device>>,
-    big: &Big,
+    program: &Program,
     count: u32,
     output: Text,
 ) -> Left
     requires some { 1 ≤ count }
     requires few { count ≤ 50000 }
-    requires source { big.now.source ≡ big_text count }
-    requires short { length big.now.source < 2 ^ 32 }
-    requires words { big.now.words ≡ count + 3 }
-    requires image { big.now.image ≡ images.run_image (big_image output (module_of output) count) }
-    requires needed { AreNeeded big.now.image }
+    requires source { program.now.source ≡ big_text count }
+    requires short { length program.now.source < 2 ^ 32 }
+    requires words { program.now.words ≡ count + 3 }
+    requires image { program.now.image ≡ images.run_image (big_image output (module_of output) count) }
+    requires needed { AreNeeded program.now.image }
     requires valid { IsValid (big_object count) }
     requires bytes { HasBytes (big_object count) }
     requires built { IsBigImage output count (big_image output (module_of output) count) }
@@ -155,7 +169,7 @@ fn run_big<S: Store, K: Sink>(
         (seats_by base size state touched devices.items) (seats_by base size state touched result.devices.items) result.answer }
 {
     big_law();
-    let bus = match open(alloc, devices, &[], &[], &big.image) {
+    let bus = match open(alloc, devices, &[], &[], &program.image) {
         Ok(bus) => bus,
         Err(closed) => {
             return Left {
@@ -164,7 +178,7 @@ fn run_big<S: Store, K: Sink>(
             };
         }
     };
-    match write(alloc, store, output, big.source.as_slice()) {
+    match write(alloc, store, output, program.source.as_slice()) {
         Answer::Done => {}
         answer => {
             return Left {
@@ -173,9 +187,9 @@ fn run_big<S: Store, K: Sink>(
             };
         }
     }
-    let ended = run_on(bus, big.image.start, count);
+    let ended = run_on(bus, program.image.start, count);
     Left {
-        answer: report(alloc, sink, count, big.words, &ended),
+        answer: report(alloc, sink, count, program.words, &ended),
         devices: ended.devices,
     }
 }
@@ -199,12 +213,12 @@ pub fn make_big<S: Store, K: Sink>(
         (S.write_faults store.old) (S.write_faults store.new) (K.faults sink.old) (K.faults sink.new))
         (seats_by base size state touched devices.old.items) (seats_by base size state touched devices.new.items) result }
 {
-    let big = match big(alloc, &output, count) {
-        Ok(big) => big,
+    let program = match build_program(alloc, &output, count) {
+        Ok(program) => program,
         Err(fault) => return fault_answer(fault),
     };
     let lent = mem::replace(devices, Vec::new(alloc));
-    let left = run_big(alloc, store, sink, lent, &big, count, output);
+    let left = run_big(alloc, store, sink, lent, &program, count, output);
     *devices = left.devices;
     left.answer
 }

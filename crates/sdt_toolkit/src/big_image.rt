@@ -33,12 +33,12 @@ const DESCRIPTION: &[u8] = b"ROM 0x0 { CODE 0x0 { *(+RO) } RAM 0x800000 { *(+RW,
 
 /// A source, and its object under the name of the source's file.
 #[derive(Drop)]
-struct Assembled {
+struct WithObject {
     source: Bytes,
     object: Named<Object>,
 }
 
-fn assembled(alloc: Global, name: &Text, count: u32) -> Result<Assembled, Fault>
+fn assembled(alloc: Global, name: &Text, count: u32) -> Result<WithObject, Fault>
     requires { count ≤ 50000 }
     ensures source { IfOk result (λ a. a.source ≡ big_text count) }
     ensures object { IfOk result (λ a. a.object ≡ big_named name.now (module_of name.now) count) }
@@ -51,7 +51,7 @@ fn assembled(alloc: Global, name: &Text, count: u32) -> Result<Assembled, Fault>
     let source = big_source(alloc, count)?;
     let object = assemble(alloc, name, source.as_slice(), &mut NoFiles)?;
     areas_fit(object.areas.as_slice());
-    Ok(Assembled {
+    Ok(WithObject {
         source,
         object: Named {
             name: name.try_clone(alloc)?,
@@ -73,13 +73,13 @@ fn first_words(areas: &[Area]) -> u32
 
 /// A source, the words of its code, and its image.
 #[derive(Drop)]
-struct Linked {
+struct WithImage {
     source: Bytes,
     words: u32,
     image: LinkedImage,
 }
 
-fn linked(alloc: Global, name: &Text, count: u32) -> Result<Linked, Fault>
+fn linked(alloc: Global, name: &Text, count: u32) -> Result<WithImage, Fault>
     requires some { 1 ≤ count }
     requires few { count ≤ 50000 }
     ensures source { IfOk result (λ l. l.source ≡ big_text count) }
@@ -91,12 +91,12 @@ fn linked(alloc: Global, name: &Text, count: u32) -> Result<Linked, Fault>
     ensures memory { IfErr result (λ e. e ≡ fault.NoMemory) }
 {
     big_law();
-    let Assembled { source, object } = assembled(alloc, name, count)?;
+    let WithObject { source, object } = assembled(alloc, name, count)?;
     let words = first_words(object.value.areas.as_slice());
     let mut objects = Vec::new(alloc);
     objects.push(object)?;
     let image = link_scatter(alloc, objects, Vec::new(alloc), DESCRIPTION, None)?;
-    Ok(Linked {
+    Ok(WithImage {
         source,
         words,
         image,
@@ -159,11 +159,12 @@ fn run_image(alloc: Global, image: LinkedImage) -> Result<Image, NoMemory>
     let mut needs = Vec::new(alloc);
     push_load_needs(&mut needs, image.loads.as_slice())?;
     push_region_needs(&mut needs, image.regions.as_slice())?;
+    let start = image.start;
     let loads = loads_of(alloc, image.loads.into_vec())?;
     Ok(Image {
         loads: List::from_vec(loads),
         needs: List::from_vec(needs),
-        start: image.start,
+        start,
         thumb: false,
     })
 }
@@ -172,14 +173,14 @@ fn run_image(alloc: Global, image: LinkedImage) -> Result<Image, NoMemory>
 
 /// A source, the words of its code, and what is run of it.
 #[derive(Drop)]
-pub struct Big {
+pub struct Program {
     pub source: Bytes,
     pub words: u32,
     pub image: Image,
 }
 
 /// The source of so many steps and words of data, under the name of its file, and what `build` makes of it.
-pub fn big(alloc: Global, name: &Text, count: u32) -> Result<Big, Fault>
+pub fn build_program(alloc: Global, name: &Text, count: u32) -> Result<Program, Fault>
     requires some { 1 ≤ count }
     requires few { count ≤ 50000 }
     ensures source { IfOk result (λ b. b.source ≡ big_text count) }
@@ -193,13 +194,13 @@ pub fn big(alloc: Global, name: &Text, count: u32) -> Result<Big, Fault>
     ensures memory { IfErr result (λ e. e ≡ fault.NoMemory) }
 {
     big_law();
-    let Linked {
+    let WithImage {
         source,
         words,
         image,
     } = linked(alloc, name, count)?;
     let image = run_image(alloc, image)?;
-    Ok(Big {
+    Ok(Program {
         source,
         words,
         image,
