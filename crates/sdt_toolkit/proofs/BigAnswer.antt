@@ -1,7 +1,9 @@
 -- What make-big answers, by how its parts end.
-use Rattle.std.proofs.Common.{◌≡◌, ◌≢◌, ℕ, ◌+◌, ◌-◌, ◌*◌, ◌/◌, ◌^◌, ◌<◌, ◌≤◌, Bool, true, false, List, [], ◌∷◌, ◌++◌, length, map, Option, None, Some, Result, Ok, Err, refl, sym, ap, ◌∙◌, subst, arith, inl, inr, ⊥}
-use Rattle.std.specs.Prelude.{MatchBool}
+use Rattle.std.proofs.Common.{◌≡◌, ◌≢◌, ℕ, ◌+◌, ◌-◌, ◌*◌, ◌/◌, ◌^◌, ◌<◌, ◌≤◌, Bool, true, false, List, [], ◌∷◌, ◌++◌, length, map, Option, None, Some, Result, Ok, Err, refl, sym, ap, ◌∙◌, subst, arith, inl, inr, ⊥, append_assoc}
+use Rattle.std.specs.Prelude.{MatchBool, codes}
+use Rattle.std.specs.Fmt.{decimal}
 use Rattle.std.specs.List.{AllByRecursion}
+use Rattle.sdt_fault.specs.Digits.{hexadecimal}
 use Rattle.sdt_fault.specs.declared.answer.Answer.{Answer}
 use Rattle.sdt_fault.specs.declared.answer.Answer.TheVariants as answer
 use Rattle.sdt_fault.specs.declared.answer.Fault.{Fault}
@@ -65,6 +67,10 @@ module _ (law : BigIsAssembled) (name text : List ℕ) (n : ℕ) (few : n ≤ 50
   unassembled (fault.ReadFault file) h cause = absurd (omega (arith, cause))
   unassembled fault.NoMemory h cause = refl
 
+pub named_as : (name home : List ℕ) (n : ℕ) (x y : List ℕ) (o : Object) → x ≡ name → y ≡ home → o ≡ big_object n
+    → record { name = x; «module» = y; value = o } ≡ big_named name home n
+named_as name home n x y o e f g = rw (e, f, g) refl
+
 pub words_are : (n : ℕ) → first_words (big_object n).areas ≡ n + 3
 words_are n = omega arith
 
@@ -120,6 +126,15 @@ no_sink true h = absurd (let rose = h.0 in omega (arith, rose))
 no_sink false h = h.0
 
 -- ---- the report
+
+line_joined : (n words steps sum : ℕ)
+    → (((((((codes "big " ++ decimal n) ++ codes " words ") ++ decimal words) ++ codes " steps ") ++ decimal steps) ++ codes " sum ") ++ hexadecimal sum) ++ codes "\n" ≡ big_line n words steps sum
+line_joined n words steps sum = simp append_assoc
+
+-- by what a buffer holds behind each part
+pub in_parts : (n words steps sum : ℕ) (a b c d e f g h i j : List ℕ) → a ≡ [] → b ≡ a ++ codes "big " → c ≡ b ++ decimal n → d ≡ c ++ codes " words " → e ≡ d ++ decimal words
+    → f ≡ e ++ codes " steps " → g ≡ f ++ decimal steps → h ≡ g ++ codes " sum " → i ≡ h ++ hexadecimal sum → j ≡ i ++ codes "\n" → j ≡ big_line n words steps sum
+in_parts n words steps sum a b c d e f g h i j ha hb hc hd he hf hg hh hi hj = rw (hj, hi, hh, hg, hf, he, hd, hc, hb, ha) (line_joined n words steps sum)
 
 pub stops_otherwise : (why : Stop) (text : List ℕ) (before after : Option (List ℕ)) (rose : Type 0) (a : Answer) → why ≢ stop.Exit → Reports why text before after rose a
 stops_otherwise stop.Exit text before after rose a h = absurd (h refl)

@@ -78,6 +78,18 @@ startup_few n few =
     let upwards : nat_lt (4 * n + 216) 8388608 ≡ true = lt-ltb _ _ (omega (arith, few)) in
     rw upwards (eighths n (4 * n / 32) (4 * n % 32 / 4) ((4 * n % 32 / 4) == 0) few refl refl)
 
+by_eights : (q t : ℕ) (b : Bool) → 10 + (cond b (6 + 5 * q) (9 + 5 * q + 4 * t) + 2 + 0) + 0 ≡ cond b (18 + 5 * q) (21 + 5 * q + 4 * t)
+by_eights q t true = omega arith
+by_eights q t false = omega arith
+
+-- eight words at once, and others
+pub startup_is : (n : ℕ) → n ≤ 50000 → big_startup n ≡ cond ((n % 8) == 0) (18 + 5 * (n / 8)) (21 + 5 * (n / 8) + 4 * (n % 8))
+startup_is n few =
+    let upwards : nat_lt (4 * n + 216) 8388608 ≡ true = lt-ltb _ _ (omega (arith, few)) in
+    let eights : 4 * n / 32 ≡ n / 8 = omega arith in
+    let others : 4 * n % 32 / 4 ≡ n % 8 = omega arith in
+    rw (upwards, eights, others) (by_eights (n / 8) (n % 8) ((n % 8) == 0))
+
 -- ---- the run
 
 ordinary : (steps : List Stepped) → AreOrdinary steps → AllByRecursion (λ x. x.event ≡ event.Ran) steps

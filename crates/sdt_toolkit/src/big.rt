@@ -3,6 +3,7 @@
 ghost use Rattle.std.specs.Prelude.{◌≡◌, ◌+◌, ◌≤◌, ◌<◌, ◌^◌, IfOk, length};
 ghost use Rattle.sdt_outside.specs.Counts.{Rose};
 ghost use Rattle.aof_object.specs.Validity.{IsValid};
+ghost use Rattle.arm7_model.specs.Registers.{register};
 ghost use Rattle.arm7_bus.specs.Buses.{bus_state};
 ghost use Rattle.arm7_bus.specs.Seats.{seats_by};
 ghost use Rattle.arm7_transfers.specs.Ready.{IsReady};
@@ -18,7 +19,7 @@ ghost use Rattle.sdt_toolkit.specs.Reads.{outside_of};
 ghost use Rattle.sdt_toolkit.specs.Starting.{HasBytes};
 
 use crate::big_image::{Program, build_program};
-use crate::laws::big_law;
+use crate::big_laws::big_law;
 use arm7_bus::Bus;
 use arm7_core::Machine;
 use arm7_run::run_for;
@@ -54,6 +55,14 @@ fn startup_steps(words: u32) -> u64
     21 + 5 * (words / 8) + 4 * (words % 8)
 }
 
+/// The register in which the program adds.
+#[tactic(auto, unfolding(arm7_model::specs::Registers::register))]
+fn sum_in(machine: &Machine) -> u32
+    ensures { result ≡ register machine.now.state 4 }
+{
+    machine.state.r[4]
+}
+
 /// Runs the program of so many steps from where its startup code begins.
 fn run_on(bus: Bus, start: u32, count: u32) -> Ended
     requires few { count ≤ 50000 }
@@ -68,7 +77,7 @@ fn run_on(bus: Bus, start: u32, count: u32) -> Ended
     Ended {
         stop: end.stop,
         steps: end.steps.saturating_sub(startup_steps(count)),
-        sum: machine.state.r[4],
+        sum: sum_in(&machine),
         devices: bus.into_devices(),
     }
 }

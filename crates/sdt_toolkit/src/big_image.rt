@@ -15,7 +15,7 @@ ghost use Rattle.sdt_toolkit.specs.Inputs.{module_of};
 ghost use Rattle.sdt_toolkit.specs.RunImages as images;
 ghost use Rattle.sdt_toolkit.specs.Starting.{HasBytes};
 
-use crate::laws::big_law;
+use crate::big_laws::big_law;
 use crate::names::module_of;
 use crate::sound::areas_fit;
 use aof_object::{Area, Object};

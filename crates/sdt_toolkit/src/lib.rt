@@ -23,6 +23,7 @@ use std::alloc::Global;
 mod assemble;
 mod big;
 mod big_image;
+mod big_laws;
 mod commands;
 mod images;
 mod inputs;

@@ -1,6 +1,6 @@
 use Rattle.sdt_toolkit.proofs.BigEnd.{big_run_ends}
 use Rattle.sdt_toolkit.proofs.BigRuns.{big_images_fit, big_images_run}
-use Rattle.sdt_toolkit.proofs.laws.big_law.Goals as goal
+use Rattle.sdt_toolkit.proofs.big_laws.big_law.Goals as goal
 
 pub returns-clause-runs : goal.returns-clause-runs
 returns-clause-runs c =

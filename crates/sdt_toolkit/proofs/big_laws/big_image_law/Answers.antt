@@ -1,7 +1,7 @@
 use Rattle.sdt_toolkit.proofs.BigAccept.{big_is_assembled}
 use Rattle.sdt_toolkit.proofs.BigMade.{image_is_made}
 use Rattle.sdt_toolkit.proofs.BigStart.{image_starts}
-use Rattle.sdt_toolkit.proofs.laws.big_image_law.Goals as goal
+use Rattle.sdt_toolkit.proofs.big_laws.big_image_law.Goals as goal
 
 pub returns-clause-assembled : goal.returns-clause-assembled
 returns-clause-assembled c =
