@@ -1,12 +1,14 @@
-//! The source that `make-big` makes, as a text, and the store that it is assembled over.
+//! The source that `make-big` makes, as a text, the store that it is assembled over, and the sink of its run.
 #![tactic(auto)]
 
 ghost use Rattle.std.specs.Prelude.{◌≡◌, ◌++◌, codes, map, OnOk, IfOk};
 ghost use Rattle.std.specs.List.{range_with_len};
 ghost use Rattle.big_model.specs.Sources.{big_text, data_line, spelled, step_line};
 
+mod sink;
 mod store;
 
+pub use crate::sink::NoText;
 pub use crate::store::NoFiles;
 use sdt_fault::digits::push_decimal;
 use sdt_fault::{Bytes, NoMemory};

@@ -3,6 +3,13 @@ mod ContainerLemmas
 mod KitLemmas
 mod AifStartLemmas
 mod AskLemmas
+mod BigAccept
+mod BigAnswer
+mod BigBuild
+mod BigEnd
+mod BigMade
+mod BigRuns
+mod BigStart
 mod BuildLemmas
 mod BuildLaws
 mod BuildClauses

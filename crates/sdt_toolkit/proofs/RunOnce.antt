@@ -256,13 +256,13 @@ module _ (law : BusRunIsOne) (banks : List MemoryBank) (whole : AreWholeBanks ba
 
 -- ---- the defect is one
 
-least_once : (test : ℕ → Bool) (a b : ℕ) → IsLeast test a → IsLeast test b → a ≡ b
+pub least_once : (test : ℕ → Bool) (a b : ℕ) → IsLeast test a → IsLeast test b → a ≡ b
 least_once test a b x y = let le = x.least b y.passes in let ge = y.least a x.passes in omega arith
 
-nowhere : (test : ℕ → Bool) (a : ℕ) → IsNowhere test → IsLeast test a → ⊥
+pub nowhere : (test : ℕ → Bool) (a : ℕ) → IsNowhere test → IsLeast test a → ⊥
 nowhere test a none least = let bad : true ≡ false = sym least.passes ∙ none.none a in cc
 
-frames_there : (banks : List MemoryBank) (needs : List Need) → HasFrames banks needs → LacksFrames banks needs → ⊥
+pub frames_there : (banks : List MemoryBank) (needs : List Need) → HasFrames banks needs → LacksFrames banks needs → ⊥
 frames_there banks needs has lacks =
     let same = same_used has.used lacks.used needs has.are_used lacks.are_used in
     let enough = subst (λ (us : List Bool). used_count us ≤ frames_of banks) same has.enough in

@@ -19,7 +19,7 @@ use Rattle.arm7_run.specs.Runs.{GoesOn}
 use Rattle.arm7_transfers.specs.Boards.{board_of, over}
 use Rattle.arm7_transfers.specs.Frames.{stored_to}
 use Rattle.arm7_transfers.specs.Served.{served}
-use Rattle.boot_code.specs.Boots.{AreOrdinary, BootSteps, ByteMap, InRanges}
+use Rattle.boot_code.specs.Boots.{AreOrdinary, BootSteps, BootsIn, ByteMap, InRanges}
 use Rattle.boot_code.specs.Safety.{AreSafe, IsSafe, IsSafeAccess, Lies}
 use Rattle.boot_code.specs.Maps.{map_of}
 use Rattle.link_model.specs.declared.images.Image.{Image}
@@ -145,15 +145,17 @@ module _ {i : Image} {view : ByteMap} {written : ℕ → Bool} {s : State} (o : 
     pub given : AreSteps (board_of s) (over core s) (given_by s (accesses_of steps)) steps
     pub uses : EachStep (StoresAreUsed s.contents) (accesses_of steps)
 
-  pub startup : (core : ArmState) → IsReset i.start false core → (steps : List Stepped) × IsStartup core steps
-  startup core reset =
-      let (n, few, booted) = r.boots (board_of s) (over core s) (can_start o r core reset) in
+  -- as many steps as lead to the entry, with what a run needs of them
+  pub exact_startup : (core : ArmState) (n : ℕ) → n ≤ i.bound → BootsIn n (map_of (segments_of i)) view (entry_of i) (board_of s) (over core s)
+      → (steps : List Stepped) × (length steps ≡ n) × IsStartup core steps
+  exact_startup core n few booted =
       let (steps, b) = booted (lines_for n s.devices) in
       let boot : BootSteps (length steps) (map_of (segments_of i)) view (entry_of i) (board_of s) (over core s) (lines_for (length steps) s.devices) steps =
       subst (λ (k : ℕ). BootSteps k (map_of (segments_of i)) view (entry_of i) (board_of s) (over core s) (lines_for k s.devices) steps) (sym b.count) b in
       let offs = each_off (accesses_of steps) b.booted.safe in
       let (lines, left, touches) = devices-are-left s (accesses_of steps) offs in (
         steps,
+        b.count,
         record {
           are = record { few = subst (λ (k : ℕ). k ≤ i.bound) (sym b.count) few; boot = boot; off = offs };
           given = subst (λ (is : List Input). AreSteps (board_of s) (over core s) is steps)
@@ -161,3 +163,8 @@ module _ {i : Image} {view : ByteMap} {written : ℕ → Bool} {s : State} (o : 
           uses = each_used (accesses_of steps) b.booted.safe;
         },
       )
+
+  pub startup : (core : ArmState) → IsReset i.start false core → (steps : List Stepped) × IsStartup core steps
+  startup core reset =
+      let (n, few, booted) = r.boots (board_of s) (over core s) (can_start o r core reset) in
+      let (steps, count, is) = exact_startup core n few booted in (steps, is)

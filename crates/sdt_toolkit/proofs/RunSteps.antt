@@ -156,7 +156,7 @@ module _ (one : BusRunIsOne) (once : MadeStepsAreOne) {i : Image} {view : ByteMa
         record { rest = l.rest; count = l.count ∙ sink_made why made e; are = l.are }
     long_by false e (run, got) le = begins most why made text core' s' run le
 
-    starts : Ended (is_sink why) → RunStarts i view why most made core s core' s' before after steps
+    pub starts : Ended (is_sink why) → RunStarts i view why most made core s core' s' before after steps
     starts ended = record { startup = p.are; short = short_by (is_sink why) refl ended; long = long_by (is_sink why) refl ended }
 
 pub runs_start : BusRunIsOne → MadeStepsAreOne → RunsStart

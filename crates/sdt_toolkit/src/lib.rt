@@ -22,6 +22,9 @@ use sdt_outside::{Device, Sink, Store};
 use std::alloc::Global;
 
 mod assemble;
+mod big;
+mod big_image;
+mod big_laws;
 mod commands;
 mod images;
 mod inputs;

@@ -16,7 +16,8 @@ fn each_fits(bytes: &[u8])
     let _first = bytes.first();
 }
 
-fn areas_fit(areas: &[Area])
+/// Areas have bytes.
+pub fn areas_fit(areas: &[Area])
     ensures { AllByRecursion (λ a. AreBytes a.bytes) areas.now }
 {
     for area in areas {

@@ -5,7 +5,7 @@ use Rattle.aof_object.specs.declared.records.Object.{Object}
 use Rattle.armlink_core.specs.declared.making.PlacedImage.{PlacedImage}
 use Rattle.armlink_core.specs.Images.{image_of, scatter_linking}
 use Rattle.big_faults.specs.Big.{words_bytes}
-use Rattle.big_made.specs.Made.{ImageIsMade, big_assigned, big_placement}
+use Rattle.sdt_toolkit.specs.BigMade.{ImageIsMade, big_assigned, big_placement}
 use Rattle.big_model.specs.Words.{code_words, data_words}
 use Rattle.big_place.specs.Big.{PlanHasNoFault, TextIsRead, big_description, big_kind}
 use Rattle.link_apply.specs.RegionBytes.{regions_bytes}

@@ -17,7 +17,7 @@ use Rattle.source_model.specs.SourceFaults.{layout_faults, value_faults}
 use Rattle.big_faults.specs.Big.{big_object, BigHasNoFault, BigHasObject}
 use Rattle.big_lines.specs.Lines.{big_flats, BigExpands, BigIsRead, BigIsShort}
 use Rattle.big_model.specs.Statements.{big_statements}
-use Rattle.big_accept.specs.Accepts.{BigIsAssembled}
+use Rattle.sdt_toolkit.specs.BigAccepts.{BigIsAssembled}
 
 -- the first line says AREA
 has_area : (name : List ℕ) (n : ℕ) → list_any says_area (big_flats name n) ≡ true

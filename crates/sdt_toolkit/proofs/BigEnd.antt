@@ -29,7 +29,7 @@ use Rattle.run_laws.specs.Steps.{Print, StoresAreUsed, given_by, left_by}
 use Rattle.run_laws.proofs.BusRuns.{board-left, next, one-step-back, ready-next}
 use Rattle.big_model.specs.Words.{code_words, step_word}
 use Rattle.big_run.specs.Runs.{AreFetches, BigRuns, HoldWords, IsBigRun, IsEntered}
-use Rattle.big_ends.specs.Ends.{BigRunEnds}
+use Rattle.sdt_toolkit.specs.BigEnds.{BigRunEnds}
 
 -- ---- steps one behind the other
 

@@ -1,2 +1,0 @@
-mod MadeLemmas
-mod StartLemmas
