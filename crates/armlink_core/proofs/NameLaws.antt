@@ -1,4 +1,4 @@
--- What reports call the objects of a link decides nothing of its image.
+-- What reports call the objects of a link decides nothing of its image, nor of its tables.
 use Rattle.std.proofs.Common.{◌≡◌, ℕ, suc, ◌+◌, List, [], ◌∷◌, ◌++◌, length, map, slice_get, Bool, true, false, cond, Option, Some, None, Result, Ok, Err, refl, sym, ap, ◌∙◌, subst}
 use Rattle.std.proofs.lemmas.List.Sums.{sum_by-cons}
 use Rattle.std.proofs.lemmas.Option.{slice_get-map}
@@ -34,7 +34,7 @@ use Rattle.link_model.specs.Veneers.{veneers_of}
 use Rattle.place_model.specs.declared.scatter.Kind.{Kind}
 use Rattle.place_model.specs.declared.scatter.Kind.TheVariants as kind
 use Rattle.place_model.specs.declared.scatter.Scatter.{Scatter}
-use Rattle.place_model.specs.Assignment.{Offer, assignment_refusal, best, described_regions, found, lists_from, offers_of}
+use Rattle.place_model.specs.Assignment.{Offer, assignment_refusal, best, described_regions, description, found, lists_from, offers_of}
 use Rattle.place_model.specs.Assignment as assignment
 use Rattle.place_model.specs.Items.{Item}
 use Rattle.link_items.specs.LinkedItems.{contents_of, has_header, item_at, item_in, items_from, items_in, items_of, region_veneer}
@@ -49,18 +49,24 @@ use Rattle.link_assign.specs.Keeping.{report_name}
 use Rattle.link_veneer.specs.Interworking.{not_interworking}
 use Rattle.link_veneer.specs.Planning.{planned_veneers}
 use Rattle.link_place.specs.Placed.{placed}
-use Rattle.link_values.specs.Placed.{values_in}
+use Rattle.link_values.specs.Placed.{base_in, values_in}
 use Rattle.link_values.specs.Shifts.{not_relocatable, shifts_of, unmovable, unmovable_from, unmovable_in}
 use Rattle.link_shifts.specs.Moves.{moved, parts_words}
 use Rattle.link_apply.specs.Applied.{applied}
 use Rattle.link_apply.specs.Flaws.{apply_refusal, flaw_of, refusal_of, refusals_at, refusals_in, told}
 use Rattle.link_apply.specs.RegionBytes.{regions_bytes}
 use Rattle.link_apply.specs.Placed.{called}
+use Rattle.elf_image.specs.declared.tables.Tables.{Tables}
+use Rattle.link_symbols.specs.Sections.{sections_in}
+use Rattle.link_symbols.specs.Shown.{Shown, shown_of}
+use Rattle.link_symbols.specs.Symbols.{symbols_by, tables_in}
 use Rattle.armlink_core.specs.declared.making.PlacedImage.{PlacedImage}
 use Rattle.armlink_core.specs.Linking.{made_at, made_of, made_with, symbols_of}
 use Rattle.armlink_core.specs.Images.{call_of, described, image_made, image_of, image_with, linking}
 use Rattle.armlink_core.specs.Moves.{can_move, moves_in}
-use Rattle.armlink_core.specs.Laws.{AreAlike, NamelessImages, NamelessScatters, unnamed}
+use Rattle.armlink_core.specs.Laws.{AreAlike, NamelessImages, NamelessScatters, NamelessScatterTables, NamelessTables, unnamed}
+use Rattle.armlink_core.specs.Placing.{as_link, placed_by, placed_link}
+use Rattle.armlink_core.specs.Tables.{link_tables, tables_by}
 
 -- ---- where one gives nothing, the other gives nothing
 
@@ -440,3 +446,54 @@ described_alike (Err r) ram os ps i alike h =
 
 pub nameless_scatters : NamelessScatters
 nameless_scatters text ram os ps i alike h = described_alike (scatter_of text) ram os ps i alike h
+
+-- ---- the tables
+
+shown_alike : (ts : List Twice) (ds : List Definition) (e : LinkedEntry) (p : Placement) (loads : ℕ)
+    → shown_of (linked_by first ts ds e) p loads ≡ shown_of (linked_by second ts ds e) p loads
+shown_alike ts ds e p loads =
+    ap (λ (l : Link). record { objects = l.objects; value = λ object k. (values_in l p object).symbol k; base_at = base_in p; sections = sections_in loads p.regions }) (same_link ts ds e)
+
+tables_alike : (ts : List Twice) (ds : List Definition) (e : LinkedEntry) (p : Placement) (loads : ℕ)
+    → tables_in (linked_by first ts ds e) p loads ≡ tables_in (linked_by second ts ds e) p loads
+tables_alike ts ds e p loads = ap (λ (w : Shown). record { sections = w.sections; symbols = symbols_by w p }) (shown_alike ts ds e p loads)
+
+selected_placed : (k : Kind) (ram : Option (List Range32)) (os : List (Named Object)) (l : Linked) (m : PlacedImage)
+    → selection_of (Some (symbols_of k)) os ≡ Ok l → made_of k ram l ≡ Ok m → placed_link k ram os ≡ Ok (as_link k m)
+selected_placed k ram os l m selected made =
+    goes_on (selection_of (Some (symbols_of k)) os >>= λ l. made_of k ram l) (λ parts. Ok (as_link k parts)) m (Ok (as_link k m))
+    (goes_on (selection_of (Some (symbols_of k)) os) (λ l. made_of k ram l) l (Ok m) selected made) refl
+
+placed_alike : (k : Kind) (ram : Option (List Range32)) (ts : List Twice) (i : Image) → linking k ram (firsts ts) ≡ Ok i → link_tables k ram (firsts ts) ≡ link_tables k ram (seconds ts)
+placed_alike k ram ts i h =
+    let (l, el, hl) = came (selection_of (Some (symbols_of k)) (firsts ts)) (image_with k ram) i h in
+    let s = selected_alike (Some (symbols_of k)) ts l el in
+    let one = linked_by first ts s.definitions s.entry in let other = linked_by second ts s.definitions s.entry in
+    let whole : image_with k ram one ≡ Ok i = subst (λ (n : Linked). image_with k ram n ≡ Ok i) (sym s.is) hl in
+    let (m, em, hm) = came (made_of k ram one) (image_made k) i whole in
+    let made = made_alike k ram ts s.definitions s.entry m em in
+    let p = made.placement in
+    let m1 = made_by one made.assigned made.veneers p made.bytes in
+    let m2 = made_by other made.assigned made.veneers p made.bytes in
+    let chosen : selection_of (Some (symbols_of k)) (firsts ts) ≡ Ok one = el ∙ ap (λ (n : Linked). Ok n) (sym s.is) in
+    let is_made : made_of k ram one ≡ Ok m1 = em ∙ ap (λ (n : PlacedImage). Ok n) (sym made.is) in
+    ap tables_by (selected_placed k ram (firsts ts) one m1 chosen is_made)
+    ∙ tables_alike ts s.definitions s.entry p (length (description k))
+    ∙ sym (ap tables_by (selected_placed k ram (seconds ts) other m2 s.other made.other))
+
+pub nameless_tables : NamelessTables
+nameless_tables k ram os ps i alike h =
+    let (ts, first_is, second_is) = pair_up os ps alike in
+    subst (λ (qs : List (Named Object)). link_tables k ram qs ≡ link_tables k ram ps) first_is
+    (subst (λ (qs : List (Named Object)). link_tables k ram (firsts ts) ≡ link_tables k ram qs) second_is
+    (placed_alike k ram ts i (subst (λ (qs : List (Named Object)). linking k ram qs ≡ Ok i) (sym first_is) h)))
+
+described_tables : (d : Result Scatter Refusal) (ram : Option (List Range32)) (os ps : List (Named Object)) (i : Image)
+    → AreAlike os ps → described d ram os ≡ Ok i → tables_by (placed_by d ram os) ≡ tables_by (placed_by d ram ps)
+described_tables (Ok s) ram os ps i alike h = nameless_tables (kind.Scatter s) ram os ps i alike h
+described_tables (Err r) ram os ps i alike h =
+    let (l, el, hl) = came (selection_of None os) (λ l. Err r) i h in
+    absurd (let bad : ◌≡◌ {A = Result Image Refusal} (Err r) (Ok i) = hl in cc)
+
+pub nameless_scatter_tables : NamelessScatterTables
+nameless_scatter_tables text ram os ps i alike h = described_tables (scatter_of text) ram os ps i alike h

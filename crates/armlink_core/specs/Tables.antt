@@ -19,10 +19,13 @@ use Rattle.armlink_core.specs.Placing.{placed_link, placed_scatter}
 abbrev pub tables_of : PlacedLink → Tables
 tables_of p = tables_in p.parts.linked p.parts.placement (length (description p.kind))
 
+abbrev pub no_tables : Tables
+no_tables = record { sections = []; symbols = [] }
+
 -- none of a link that is refused
 abbrev pub tables_by : Result PlacedLink Refusal → Tables
 tables_by (Ok p) = tables_of p
-tables_by (Err r) = record { sections = []; symbols = [] }
+tables_by (Err r) = no_tables
 
 abbrev pub link_tables : Kind → Option (List Range32) → List (Named Object) → Tables
 link_tables k ram os = tables_by (placed_link k ram os)

@@ -15,7 +15,9 @@ use Rattle.link_model.specs.declared.images.Image.{Image}
 use Rattle.link_model.specs.declared.selection.Named.{Named}
 use Rattle.link_model.specs.Chosen.{AreChosen, AreLinked, taken}
 use Rattle.link_model.specs.Members.{members_of, named_member, objects_in}
-use Rattle.armlink_core.specs.Laws.{AreAlike, NamelessImages, NamelessScatters, unnamed}
+use Rattle.armlink_core.specs.Images.{linking, scatter_linking}
+use Rattle.armlink_core.specs.Laws.{AreAlike, NamelessImages, NamelessScatters, NamelessScatterTables, NamelessTables, unnamed}
+use Rattle.elf_image.specs.declared.tables.Tables.{Tables}
 use Rattle.place_model.specs.declared.scatter.Kind.{Kind}
 use Rattle.place_model.specs.declared.scatter.Kind.TheVariants as kind
 use Rattle.place_model.specs.Assignment.{description}
@@ -32,12 +34,13 @@ use Rattle.tool_library.specs.declared.linkables.Linkable.{Linkable}
 use Rattle.tool_library.specs.declared.linkables.Linkable.TheVariants as input
 use Rattle.sdt_toolkit.specs.Builds.{BuildsAreLinks, SpelledAreObjectFiles, HasItsDescription, HasItsFile, link_name, link_words}
 use Rattle.sdt_toolkit.specs.Inputs.{Behind, InputIs, InputsAre, NamedIs, archives_among, is_source_name, module_of, named, object_name, objects_among}
-use Rattle.sdt_toolkit.specs.Links.{AsAif, FilesAsk, ImageIs, InputsMake, IsAskedAs, LinkAsks, LinksTo, ReadAsks, ScattersTo, filed, files_read, inputs_in, read_by, text_in, writes_all}
+use Rattle.sdt_toolkit.specs.Links.{AsAif, FilesAsk, ImageIs, InputsMake, IsAskedAs, LinkAsks, LinksTo, ReadAsks, ScattersTo, TablesTo, filed, files_read, inputs_in, read_by, text_in, writes_all}
 use Rattle.sdt_toolkit.specs.Reads.{Reads}
 use Rattle.sdt_toolkit.specs.Sources.{IsObjectOf}
 use Rattle.sdt_toolkit.specs.Plans.{ImagesArePlaced}
 use Rattle.sdt_toolkit.specs.Starting.{AreSound, HasBytes}
 use Rattle.sdt_toolkit.proofs.ImageLemmas.{image_is}
+use Rattle.sdt_toolkit.proofs.LinkOnce.{ram_once}
 use Rattle.sdt_toolkit.proofs.BuildLemmas.{IsFor, OneOf, built_as, linked_as, same_module}
 
 abbrev Inputs : Type 0
@@ -137,7 +140,7 @@ linked_alike xs ys same os linked =
 
 -- ---- the image
 
-module _ (images : NamelessImages) (scatters : NamelessScatters) where
+module _ (images : NamelessImages) (scatters : NamelessScatters) (tables : NamelessTables) (scatter_names : NamelessScatterTables) where
   scattered_alike : (text : List ℕ) (banks : Option (List Bank)) (os ps : List (Named Object)) (i : Image) → AreAlike os ps → ScattersTo text banks os (Ok i) → ScattersTo text banks ps (Ok i)
   scattered_alike text banks os ps i alike h = (h.0, h.1, sym (scatters text h.0 os ps i alike (sym h.2)))
 
@@ -150,6 +153,18 @@ module _ (images : NamelessImages) (scatters : NamelessScatters) where
   links_alike (placement.Scatter file) text banks os ps i alike h = scattered_alike text banks os ps i alike h
   links_alike (placement.Aif base relocatable) text banks os ps i alike h = aif_alike base relocatable banks os ps i alike h
   links_alike (placement.Plain base) text banks os ps i alike h = sym (images (kind.Plain base) None os ps i alike (sym h))
+
+  -- and the tables of its link
+  named_alike : (f : LinkPlacement) (text : List ℕ) (banks : Option (List Bank)) (os ps : List (Named Object)) (i : Image) (t : Tables) → AreAlike os ps
+      → LinksTo f text banks os (Ok i) → TablesTo f text banks os t → TablesTo f text banks ps t
+  named_alike (placement.Scatter file) text banks os ps i t alike (r, is_ram, made) (ram, is_told, named) =
+      let links : scatter_linking text ram os ≡ Ok i = ap (λ (x : Option (List Range32)). scatter_linking text x os) (ram_once banks ram r is_told is_ram) ∙ sym made in
+      (ram, is_told, named ∙ scatter_names text ram os ps i alike links)
+  named_alike (placement.Aif base relocatable) text banks os ps i t alike (r, is_ram, made) (ram, is_told, named) =
+      let k : Kind = kind.Aif base relocatable in
+      let links : linking k ram os ≡ Ok i = ap (λ (x : Option (List Range32)). linking k x os) (ram_once banks ram r is_told is_ram) ∙ sym made in
+      (ram, is_told, named ∙ tables k ram os ps i alike links)
+  named_alike (placement.Plain base) text banks os ps i t alike made named = named ∙ tables (kind.Plain base) None os ps i alike (sym made)
 
 -- objects of the same values are sound where these are
 sound_alike : (os ps : List (Named Object)) → AreAlike os ps → AreSound os → AreSound ps
@@ -165,16 +180,17 @@ described_based (placement.Scatter file) text banks k ram asked loads = tt
 described_based (placement.Aif base relocatable) text banks k ram asked loads = (subst (λ (q : Kind). AllByRecursion (λ load. load.base % 4 ≡ 0) (description q)) asked.0 loads).0
 described_based (placement.Plain base) text banks k ram asked loads = (subst (λ (q : Kind). AllByRecursion (λ load. load.base % 4 ≡ 0) (description q)) asked.0 loads).0
 
-module _ (law : ImagesArePlaced) (images : NamelessImages) (scatters : NamelessScatters) where
-  image_alike : (p : LinkPlacement) (text : List ℕ) (banks : Option (List Bank)) (xs ys : Inputs) (i : Image) → map bare xs ≡ map bare ys
-      → ImageIs p text banks xs (Ok i) → ImageIs p text banks ys (Ok i)
-  image_alike p text banks xs ys i same h =
+module _ (law : ImagesArePlaced) (images : NamelessImages) (scatters : NamelessScatters) (tables : NamelessTables) (scatter_names : NamelessScatterTables) where
+  image_alike : (p : LinkPlacement) (text : List ℕ) (banks : Option (List Bank)) (xs ys : Inputs) (i : Image) (t : Tables) → map bare xs ≡ map bare ys
+      → ImageIs p text banks xs (Ok i) t → ImageIs p text banks ys (Ok i) t
+  image_alike p text banks xs ys i t same h =
       let l = linked_alike xs ys same h.objects h.linked in
       let memory = h.memory i refl in
       let made = memory.placed.made in
       let sound : AreSound h.objects = subst AreSound memory.placed.objects (record { valid = made.valid; bytes = made.bytes }) in
       image_is law text banks p ys (Ok i) (described_based p text banks memory.shape memory.ram memory.asked made.loads)
-      (l.objects, l.linked, links_alike images scatters p text banks h.objects l.objects i l.alike h.links) (sound_alike h.objects l.objects l.alike sound)
+      (l.objects, l.linked, links_alike images scatters tables scatter_names p text banks h.objects l.objects i l.alike h.links) (sound_alike h.objects l.objects l.alike sound)
+      t (named_alike images scatters tables scatter_names p text banks h.objects l.objects i t l.alike h.links h.named)
 
 -- ---- inputs one after the other
 
@@ -238,12 +254,13 @@ carried s a (name ∷ names) (bytes ∷ contents) t b (label ∷ labels) (other 
 abbrev words : LinkPlacement → Container → List ℕ → Option (List Bank) → List (List ℕ) → LinkWords
 words f c output ram names = record { placement = f; container = c; output = output; names = names; ram = ram }
 
-module _ (law : ImagesArePlaced) (images : NamelessImages) (scatters : NamelessScatters) (f : LinkPlacement) (c : Container) (output : List ℕ) (ram : Option (List Bank)) where
+module _ (law : ImagesArePlaced) (images : NamelessImages) (scatters : NamelessScatters) (tables : NamelessTables) (scatter_names : NamelessScatterTables) (f : LinkPlacement) (c : Container) (output : List ℕ) (ram : Option (List Bank)) where
   files_carried : (names labels : List (List ℕ)) (text : List ℕ) (xs ys : Inputs) (fs : List OutFile) → map bare xs ≡ map bare ys
       → InputsMake (words f c output ram names) text (Ok xs) (Ok fs) → InputsMake (words f c output ram labels) text (Ok ys) (Ok fs)
   files_carried names labels text xs ys fs same h =
-      let (i, ei, filed_is) = came h.0 (filed c output) fs h.2 in
-      (Ok i, image_alike law images scatters f text ram xs ys i same (subst (ImageIs f text ram xs) ei h.1), filed_is)
+      let (i, ei, filed_is) = came h.0 (filed c output h.1) fs h.3 in
+      let is : ImageIs f text ram xs (Ok i) h.1 = subst (λ (x : Result Image Refusal). ImageIs f text ram xs x h.1) ei h.2 in
+      (Ok i, h.1, image_alike law images scatters tables scatter_names f text ram xs ys i h.1 same is, filed_is)
 
   asks_carried : (s : Reads) (a : Bool) (names contents : List (List ℕ)) (t : Reads) (b : Bool) (labels others : List (List ℕ)) (o : Outcome)
       → text_in f contents ≡ text_in f others → AreCarried s a names (inputs_in f contents) t b labels (inputs_in f others)
@@ -380,20 +397,20 @@ turned Are (Ok contents) (Err q) h = absurd h
 turned Are (Err r) (Ok others) h = absurd h
 turned Are (Err r) (Err q) h = tt
 
-pub builds_are_links : OneAssembly → ImagesArePlaced → NamelessImages → NamelessScatters → BuildsAreLinks
-builds_are_links law placed images scatters s t files others w o told_files told_others has =
+pub builds_are_links : OneAssembly → ImagesArePlaced → NamelessImages → NamelessScatters → NamelessTables → NamelessScatterTables → BuildsAreLinks
+builds_are_links law placed images scatters tables scatter_names s t files others w o told_files told_others has =
     let one : (files : Files) (name text : List ℕ) → OneOf files name text = λ files name text x y h k. law (content files) name text x y h k in
     let read = all_read files others w.placement w.names has.description has.inputs in
     let v = link_words w in (
       λ asks. subst (λ (x : Option Files). FilesAsk x t false v (Ok o)) (sym told_others)
           (carried_asks s true w t false v o (AreRead files w.placement w.names)
-          (λ contents rest r. asks_carried placed images scatters w.placement w.container w.output w.ram s true w.names contents t false (map link_name w.names) rest o r.text
+          (λ contents rest r. asks_carried placed images scatters tables scatter_names w.placement w.container w.output w.ram s true w.names contents t false (map link_name w.names) rest o r.text
           (forth one s t files told_files w.names (inputs_in w.placement contents) (inputs_in w.placement rest) r.inputs))
           (inputs_of files (files_read w)) (inputs_of others (files_read v)) read
           (subst (λ (x : Option Files). FilesAsk x s true w (Ok o)) told_files asks)),
       λ asks. subst (λ (x : Option Files). FilesAsk x s true w (Ok o)) (sym told_files)
           (carried_asks t false v s true w o (λ rest contents. AreRead files w.placement w.names contents rest)
-          (λ rest contents r. asks_carried placed images scatters w.placement w.container w.output w.ram t false (map link_name w.names) rest s true w.names contents o (sym r.text)
+          (λ rest contents r. asks_carried placed images scatters tables scatter_names w.placement w.container w.output w.ram t false (map link_name w.names) rest s true w.names contents o (sym r.text)
           (back one s t files told_files w.names (inputs_in w.placement contents) (inputs_in w.placement rest) r.inputs))
           (inputs_of others (files_read v)) (inputs_of files (files_read w))
           (turned (AreRead files w.placement w.names) (inputs_of files (files_read w)) (inputs_of others (files_read v)) read)

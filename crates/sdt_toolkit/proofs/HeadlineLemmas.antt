@@ -17,6 +17,8 @@ use Rattle.boot_code.specs.Boots.{ByteMap}
 use Rattle.armasm_core.specs.Assembling.{AssembledFrom}
 use Rattle.armasm_core.specs.Beginning.{BeginsBy, SourceBegins, SourcesBegin, area_state}
 use Rattle.armasm_core.specs.Standing.{StandsFrom}
+use Rattle.elf_image.specs.declared.tables.Tables.{Tables}
+use Rattle.link_symbols.specs.Symbols.{tables_in}
 use Rattle.link_model.specs.declared.images.Image.{Image}
 use Rattle.link_model.specs.declared.selection.Linked.{Linked}
 use Rattle.link_model.specs.declared.selection.Named.{Named}
@@ -46,6 +48,7 @@ use Rattle.sdt_toolkit.specs.Links.{FilesAsk, ImageIs, InputsMake, LinkAnswers, 
 use Rattle.sdt_toolkit.specs.Plans.{plan_at}
 use Rattle.sdt_toolkit.proofs.CommandLemmas.{good_command}
 use Rattle.sdt_toolkit.proofs.ContainerLemmas.{filed_as, files_hold}
+use Rattle.sdt_toolkit.proofs.TableLemmas.{by_plan, links_as, names_hold, tables_asked}
 
 -- ---- answers
 
@@ -258,12 +261,16 @@ stand_by law false w before after image views h = tt
 
 module _ (reading : ReadingLaw) (law : SourcesBegin) (s : Reads) (sources : Bool) (w : LinkWords) (together : ComeTogether w.placement w.container) (before : Files) (after : Option Files)
     (over : s.told ≡ Some before) where
-  image_left : (contents : List (List ℕ)) (fs : List OutFile) (inputs : List (Named Linkable)) (i : Image) (image : Result Image Refusal)
+  image_left : (contents : List (List ℕ)) (fs : List OutFile) (inputs : List (Named Linkable)) (i : Image) (image : Result Image Refusal) (tables : Tables)
       → inputs_of before (files_read w) ≡ Ok contents → InputsAre s sources w.names (inputs_in w.placement contents) (Ok inputs)
-      → ImageIs w.placement (text_in w.placement contents) w.ram inputs image → image ≡ Ok i → filed w.container w.output i ≡ Ok fs → after ≡ Some (written before (outputs fs))
+      → ImageIs w.placement (text_in w.placement contents) w.ram inputs image tables → image ≡ Ok i → filed w.container w.output tables i ≡ Ok fs → after ≡ Some (written before (outputs fs))
       → IsLeftBy sources w before after
-  image_left contents fs inputs i image read judged is made files left =
+  image_left contents fs inputs i image tables read judged is made files left =
       let memory = is.memory i made in
+      let links = subst (LinksTo w.placement (text_in w.placement contents) w.ram is.objects) made is.links in
+      let named : tables ≡ tables_in memory.placed.link memory.placed.placement (length i.loads) =
+      tables_asked w.placement (text_in w.placement contents) w.ram is.objects tables memory.shape memory.ram is.named memory.asked
+      ∙ by_plan memory.shape memory.ram is.objects i memory.views memory.placed (links_as w.placement (text_in w.placement contents) w.ram is.objects i memory.shape memory.ram links memory.asked) in
       let link : IsLinkedInto sources w before after i memory.views = record {
         reads = s;
         contents = contents;
@@ -275,11 +282,14 @@ module _ (reading : ReadingLaw) (law : SourcesBegin) (s : Reads) (sources : Bool
         told = over;
         judged = judged;
         linked = is.linked;
-        made = subst (LinksTo w.placement (text_in w.placement contents) w.ram is.objects) made is.links;
-        left = left ∙ ap (λ (x : List OutFile). Some (written before (outputs x))) (filed_as w.container w.output i fs files).1;
+        made = links;
+        tables = tables;
+        left = left ∙ ap (λ (x : List OutFile). Some (written before (outputs x))) (filed_as w.container w.output tables i fs files).1;
         asked = memory.asked;
         placed = memory.placed;
-        holds = files_hold reading w.placement w.container (text_in w.placement contents) w.ram memory.shape memory.ram is.objects i memory.views w.output fs together memory.asked memory.placed files;
+        holds = files_hold reading w.placement w.container (text_in w.placement contents) w.ram memory.shape memory.ram is.objects i memory.views w.output tables fs together memory.asked memory.placed named files;
+        named = named;
+        names = names_hold reading w.placement w.container (text_in w.placement contents) w.ram memory.shape memory.ram is.objects i memory.views w.output tables fs together memory.asked memory.placed named files;
       } in
       record { image = i; views = memory.views; link = link; stand = stand_by law sources w before after i memory.views link }
 
@@ -288,8 +298,8 @@ module _ (reading : ReadingLaw) (law : SourcesBegin) (s : Reads) (sources : Bool
       → InputsMake w (text_in w.placement contents) inputs made → made ≡ Ok fs → after ≡ Some (written before (outputs fs)) → IsLeftBy sources w before after
   inputs_left contents fs (Err r) made read judged h ok left = never (IsLeftBy sources w before after) fs r (sym h ∙ ok)
   inputs_left contents fs (Ok xs) made read judged h ok left =
-      let (i, image, files) = steps_ok h.0 (filed w.container w.output) fs (sym h.2 ∙ ok) in
-      image_left contents fs xs i h.0 read judged h.1 image files left
+      let (i, image, files) = steps_ok h.0 (filed w.container w.output h.1) fs (sym h.3 ∙ ok) in
+      image_left contents fs xs i h.0 h.1 read judged h.2 image files left
 
   files_left : (out : Outcome) (fs : List OutFile) → writes_all fs ≡ Ok out → after ≡ Some (written before out.files) → after ≡ Some (written before (outputs fs))
   files_left out fs h left =

@@ -23,11 +23,16 @@ use Rattle.place_model.specs.declared.scatter.Scatter.{Scatter}
 use Rattle.scatter_text.specs.Laws.{ReadingLaw}
 use Rattle.scatter_text.specs.Reading.{scatter_of}
 use Rattle.link_select.specs.Selection.{selection_of}
+use Rattle.armlink_core.specs.declared.naming.NamedImage.{NamedImage}
 use Rattle.armlink_core.specs.Images.{Links, described, linking, scatter_linking}
+use Rattle.armlink_core.specs.Tables.{named_scatter, scatter_tables, with_tables}
+use Rattle.armlink_core.proofs.PlaceLemmas.{refused_first}
 use Rattle.armlink_core.specs.Laws.{IsSized, LinkedSizes, ScatterSizes}
 use Rattle.bin_image.specs.declared.records.OutFile.{OutFile}
 use Rattle.bin_image.specs.Files.{IsMapped, load_file, map_file}
+use Rattle.elf_image.specs.declared.tables.Tables.{Tables}
 use Rattle.elf_image.specs.Files.{elf_file, file_size}
+use Rattle.elf_image.specs.Tables.{named_file, named_size}
 use Rattle.elf_image.proofs.WrittenLemmas.{file_length}
 use Rattle.tool_words.specs.declared.command.Bank.{Bank}
 use Rattle.tool_words.specs.declared.command.Container.{Container}
@@ -37,12 +42,15 @@ use Rattle.tool_words.specs.declared.command.LinkPlacement.TheVariants as placem
 use Rattle.tool_words.specs.Commands.{ComeTogether, IsBased}
 use Rattle.tool_library.specs.declared.linkables.Linkable.{Linkable}
 use Rattle.sdt_toolkit.proofs.ContainerLemmas.{are_counted}
+use Rattle.sdt_toolkit.proofs.NamedLemmas.{named_length}
+use Rattle.sdt_toolkit.proofs.SelectionLemmas.{ok_same, steps_ok}
+use Rattle.sdt_toolkit.proofs.TableLemmas.{tables_to}
 use Rattle.sdt_toolkit.proofs.InputLemmas.{valid_archives, valid_objects}
 use Rattle.sdt_toolkit.proofs.SoundLemmas.{sound_linked}
 use Rattle.sdt_toolkit.specs.Inputs.{AreValid, Tells, archives_among, objects_among}
 use Rattle.sdt_toolkit.specs.Plans.{ImagesArePlaced}
 use Rattle.sdt_toolkit.specs.Starting.{AreSound, HasBytes}
-use Rattle.sdt_toolkit.specs.Links.{AsAif, ImageIs, IsAifImage, IsInMemory, IsRam, IsScatterImage, IsWritable, LinksTo, ScattersTo, filed, image_files, is_long, is_long_load, one_file, too_large, unless_long}
+use Rattle.sdt_toolkit.specs.Links.{AsAif, HasImage, HasNamedImage, ImageIs, IsAifImage, IsInMemory, IsNamedScatter, IsRam, IsScatterImage, IsWritable, LinksTo, ScattersTo, TablesTo, filed, image_files, is_long, is_long_load, one_file, too_large, unless_long}
 
 -- ---- the image
 
@@ -59,6 +67,13 @@ as_aif objects archives base relocatable banks ram (Ok i) told h = (h.0, h.1, (r
 as_aif objects archives base relocatable banks ram (Err (fault.Refused e)) told h = (h.0, h.1, (ram, told, sym h.2))
 as_aif objects archives base relocatable banks ram (Err (fault.ReadFault q)) told h = h
 as_aif objects archives base relocatable banks ram (Err fault.NoMemory) told h = tt
+
+pub named_scattered : (objects : List (Named Object)) (archives : List (Named Archive)) (text : List ℕ) (banks : Option (List Bank)) (ram : Option (List Range32)) (r : Result NamedImage Fault)
+    → IsRam banks ram → Links objects archives (named_scatter text ram) r → Tells r (IsNamedScatter objects archives text banks)
+named_scattered objects archives text banks ram (Ok n) told h = (h.0, h.1, ram, told, sym h.2)
+named_scattered objects archives text banks ram (Err (fault.Refused e)) told h = (h.0, h.1, ram, told, sym h.2)
+named_scattered objects archives text banks ram (Err (fault.ReadFault q)) told h = h
+named_scattered objects archives text banks ram (Err fault.NoMemory) told h = tt
 
 -- of the bytes alone
 abbrev pub IsPlainImage : List (Named Object) → List (Named Archive) → ℕ → Result Image Refusal → Type 0
@@ -108,24 +123,44 @@ module _ (law : ImagesArePlaced) (text : List ℕ) (banks : Option (List Bank)) 
       record { shape = kind.Plain base; ram = None; asked = (refl, refl); views = placed.0; placed = placed.1 }
 
   pub image_is : (p : LinkPlacement) (inputs : List (Named Linkable)) (image : Result Image Refusal) → IsBased p → (h : IsLinkedBy p text banks inputs image) → AreSound h.0
-      → ImageIs p text banks inputs image
-  image_is p inputs image based h sound = record {
+      → (t : Tables) → TablesTo p text banks h.0 t → ImageIs p text banks inputs image t
+  image_is p inputs image based h sound t named = record {
     objects = h.0;
     linked = h.1;
     links = h.2;
+    named = named;
     memory = λ i e. in_memory p h.0 i based sound (subst (LinksTo p text banks h.0) e h.2);
   }
 
   sound_image : (p : LinkPlacement) (inputs : List (Named Linkable)) (image : Result Image Refusal) → IsBased p → LinksSound (objects_among inputs) (archives_among inputs)
-      → IsLinkedBy p text banks inputs image → ImageIs p text banks inputs image
-  sound_image p inputs image based sound h = image_is p inputs image based h (sound h.0 h.1)
+      → IsLinkedBy p text banks inputs image → HasImage p text banks inputs image
+  sound_image p inputs image based sound h = let t = tables_to p text banks h.0 image h.2 in (t.0, image_is p inputs image based h (sound h.0 h.1) t.0 t.1)
 
   pub told_image : (p : LinkPlacement) (inputs : List (Named Linkable)) → IsBased p → LinksSound (objects_among inputs) (archives_among inputs) → (Is : Result Image Refusal → Type 0)
-      → ((image : Result Image Refusal) → Is image → IsLinkedBy p text banks inputs image) → (r : Result Image Fault) → Tells r Is → Tells r (ImageIs p text banks inputs)
+      → ((image : Result Image Refusal) → Is image → IsLinkedBy p text banks inputs image) → (r : Result Image Fault) → Tells r Is → Tells r (HasImage p text banks inputs)
   told_image p inputs based sound Is linked (Ok i) h = sound_image p inputs (Ok i) based sound (linked (Ok i) h)
   told_image p inputs based sound Is linked (Err (fault.Refused e)) h = sound_image p inputs (Err e) based sound (linked (Err e) h)
   told_image p inputs based sound Is linked (Err (fault.ReadFault q)) h = h
   told_image p inputs based sound Is linked (Err fault.NoMemory) h = tt
+
+  -- with the tables that are given
+  scatter_named : (file : List ℕ) (inputs : List (Named Linkable)) → LinksSound (objects_among inputs) (archives_among inputs) → (n : Result NamedImage Refusal)
+      → IsNamedScatter (objects_among inputs) (archives_among inputs) text banks n → HasNamedImage (placement.Scatter file) text banks inputs n
+  scatter_named file inputs sound (Ok n) (os, linked, ram, told, e) =
+      let t : Tables = scatter_tables text ram os in
+      let (i, links, is) = steps_ok (scatter_linking text ram os) (λ i. Ok (with_tables t i)) n (sym e) in
+      subst (λ (x : NamedImage). ImageIs (placement.Scatter file) text banks inputs (Ok x.image) x.tables) (ok_same (with_tables t i) n is)
+      (image_is (placement.Scatter file) inputs (Ok i) tt (os, linked, (ram, told, sym links)) (sound os linked) t (ram, told, refl))
+  scatter_named file inputs sound (Err r) (os, linked, ram, told, e) =
+      sound_image (placement.Scatter file) inputs (Err r) tt sound
+      (os, linked, (ram, told, sym (refused_first (scatter_linking text ram os) (with_tables (scatter_tables text ram os)) r (sym e))))
+
+  pub told_named : (file : List ℕ) (inputs : List (Named Linkable)) → LinksSound (objects_among inputs) (archives_among inputs)
+      → (r : Result NamedImage Fault) → Tells r (IsNamedScatter (objects_among inputs) (archives_among inputs) text banks) → Tells r (HasNamedImage (placement.Scatter file) text banks inputs)
+  told_named file inputs sound (Ok n) h = scatter_named file inputs sound (Ok n) h
+  told_named file inputs sound (Err (fault.Refused e)) h = scatter_named file inputs sound (Err e) h
+  told_named file inputs sound (Err (fault.ReadFault q)) h = h
+  told_named file inputs sound (Err fault.NoMemory) h = tt
 
 -- ---- what is written of it
 
@@ -143,9 +178,9 @@ links_small linked scattered (placement.Scatter file) text banks os i h = (scatt
 links_small linked scattered (placement.Aif base relocatable) text banks os i h = (linked (kind.Aif base relocatable) h.0 os i (sym h.2)).regions
 links_small linked scattered (placement.Plain base) text banks os i h = (linked (kind.Plain base) None os i (sym h)).regions
 
-pub image_writable : LinkedSizes → ScatterSizes → ReadingLaw → (p : LinkPlacement) (c : Container) (text : List ℕ) (banks : Option (List Bank)) (inputs : List (Named Linkable)) (i : Image)
-    → ComeTogether p c → ImageIs p text banks inputs (Ok i) → IsWritable c i
-image_writable linked scattered reading p c text banks inputs i together h =
+pub image_writable : LinkedSizes → ScatterSizes → ReadingLaw → (p : LinkPlacement) (c : Container) (text : List ℕ) (banks : Option (List Bank)) (inputs : List (Named Linkable)) (i : Image) (t : Tables)
+    → ComeTogether p c → ImageIs p text banks inputs (Ok i) t → IsWritable c i
+image_writable linked scattered reading p c text banks inputs i t together h =
     let memory = h.memory i refl in
     record {
       regions = links_small linked scattered p text banks h.objects i h.links;
@@ -167,15 +202,22 @@ any_long fs h = ap (λ (b : Bool). cond b (Err too_large) (Ok fs)) h
 pub none_long : (fs : List OutFile) → list_any is_long fs ≡ false → unless_long fs ≡ Ok fs
 none_long fs h = ap (λ (b : Bool). cond b (Err too_large) (Ok fs)) h
 
-pub long_load : (out : List ℕ) (i : Image) → list_any is_long_load i.loads ≡ true → filed container.LoadFiles out i ≡ Err too_large
-long_load out i h =
-    any_long (image_files container.LoadFiles out i)
+pub long_load : (out : List ℕ) (t : Tables) (i : Image) → list_any is_long_load i.loads ≡ true → filed container.LoadFiles out t i ≡ Err too_large
+long_load out t i h =
+    any_long (image_files container.LoadFiles out t i)
     (list_any-append is_long (map (load_file out) i.loads) (map_file i out ∷ [])
     ∙ or_true (list_any is_long (map (load_file out) i.loads)) (list_any is_long (map_file i out ∷ [])) (sym (long_scattered out i.loads) ∙ h))
 
-pub long_elf : (out : List ℕ) (i : Image) → nat_le (2 ^ 32) (file_size i.loads) ≡ true → filed container.Elf out i ≡ Err too_large
-long_elf out i h =
+pub long_elf : (out : List ℕ) (t : Tables) (i : Image) → nat_le (2 ^ 32) (file_size i.loads) ≡ true → filed (container.Elf false) out t i ≡ Err too_large
+long_elf out t i h =
     any_long (one_file out (elf_file i)) (or_true (nat_le (2 ^ 32) (length (elf_file i))) false (ap (λ (n : ℕ). nat_le (2 ^ 32) n) (file_length i) ∙ h))
+
+pub long_named : (out : List ℕ) (t : Tables) (i : Image) → nat_le (2 ^ 32) (named_size i.loads t) ≡ true → filed (container.Elf true) out t i ≡ Err too_large
+long_named out t i h =
+    any_long (one_file out (named_file i t)) (or_true (nat_le (2 ^ 32) (length (named_file i t))) false (ap (λ (n : ℕ). nat_le (2 ^ 32) n) (named_length i t) ∙ h))
+
+pub short_named : (i : Image) (t : Tables) → nat_le (2 ^ 32) (named_size i.loads t) ≡ false → named_size i.loads t < 2 ^ 32
+short_named i t h = leb-false (2 ^ 32) (named_size i.loads t) h
 
 pub short_elf : (i : Image) → nat_le (2 ^ 32) (file_size i.loads) ≡ false → file_size i.loads < 2 ^ 32
 short_elf i h = leb-false (2 ^ 32) (file_size i.loads) h

@@ -13,6 +13,8 @@ mod ImageLemmas
 mod InputLemmas
 mod LinkLemmas
 mod LinkOnce
+mod NamedLemmas
+mod TableLemmas
 mod ReadLemmas
 mod RefusalLemmas
 mod ReportLemmas

@@ -1,5 +1,5 @@
 -- What the files of a link make and ask for, and answers to it, by its ends.
-use Rattle.std.proofs.Common.{◌≡◌, ℕ, ◌<◌, ◌^◌, List, [], ◌∷◌, length, get_or, suc, Bool, Option, Some, None, Result, Ok, Err, refl, sym, subst, inl, inr, arith}
+use Rattle.std.proofs.Common.{◌≡◌, ℕ, ◌<◌, ◌^◌, List, [], ◌∷◌, length, get_or, suc, Bool, true, false, Option, Some, None, Result, Ok, Err, refl, sym, subst, inl, inr, arith}
 use Rattle.sdt_fault.specs.declared.answer.Answer.{Answer}
 use Rattle.sdt_fault.specs.declared.answer.Answer.TheVariants as answer
 use Rattle.sdt_fault.specs.declared.answer.Fault.{Fault}
@@ -10,9 +10,15 @@ use Rattle.sdt_outside.specs.Counts.{Rose}
 use Rattle.sdt_outside.specs.Files.{Files}
 use Rattle.sdt_outside.specs.Sinks.{Got}
 use Rattle.chunk_file.specs.Reading.{Gives}
+use Rattle.elf_image.specs.declared.tables.Tables.{Tables}
 use Rattle.link_model.specs.declared.images.Image.{Image}
 use Rattle.link_model.specs.declared.selection.Named.{Named}
 use Rattle.bin_image.specs.declared.records.OutFile.{OutFile}
+use Rattle.armlink_core.specs.declared.naming.NamedImage.{NamedImage}
+use Rattle.armlink_core.specs.Tables.{no_tables}
+use Rattle.tool_words.specs.declared.command.Container.{Container}
+use Rattle.tool_words.specs.declared.command.Container.TheVariants as container
+use Rattle.tool_words.specs.Commands.{ComeTogether}
 use Rattle.tool_words.specs.declared.command.LinkPlacement.{LinkPlacement}
 use Rattle.tool_words.specs.declared.command.LinkPlacement.TheVariants as placement
 use Rattle.tool_words.specs.declared.command.LinkWords.{LinkWords}
@@ -24,7 +30,7 @@ use Rattle.tool_library.specs.declared.linkables.Linkable.{Linkable}
 use Rattle.tool_library.specs.Libraries.{end_answer, fault_answer}
 use Rattle.sdt_toolkit.specs.Inputs.{InputsAre, IsGot, Tells}
 use Rattle.sdt_toolkit.specs.Reads.{Reads, HasFailed, TellsOf, reads_of}
-use Rattle.sdt_toolkit.specs.Links.{AllWritten, FilesAsk, ImageIs, InputsMake, LinkAnswers, LinkAsks, LinkMakes, ReadAsks, WordsAsk, filed, files_read, inputs_in, outputs, read_by, text_in}
+use Rattle.sdt_toolkit.specs.Links.{AllWritten, FilesAsk, HasImage, HasNamedImage, ImageIs, InputsMake, LinkAnswers, LinkAsks, LinkMakes, ReadAsks, WordsAsk, filed, files_read, has_tables, inputs_in, outputs, read_by, text_in}
 
 -- ---- what is read
 
@@ -53,18 +59,55 @@ no_inputs s sources w contents (fault.Refused r) h = record { inputs = Err r; ju
 no_inputs s sources w contents (fault.ReadFault q) h = h
 no_inputs s sources w contents fault.NoMemory h = tt
 
-pub no_image_made : (w : LinkWords) (text : List ℕ) (inputs : List (Named Linkable)) (f : Fault) → Tells {A = Image} (Err f) (ImageIs w.placement text w.ram inputs)
+pub no_image_made : (w : LinkWords) (text : List ℕ) (inputs : List (Named Linkable)) (f : Fault) → Tells {A = Image} (Err f) (HasImage w.placement text w.ram inputs)
     → Tells {A = List OutFile} (Err f) (InputsMake w text (Ok inputs))
-no_image_made w text inputs (fault.Refused r) h = (Err r, h, refl)
+no_image_made w text inputs (fault.Refused r) h = (Err r, h.0, h.1, refl)
 no_image_made w text inputs (fault.ReadFault q) h = h
 no_image_made w text inputs fault.NoMemory h = tt
 
-pub image_made : (w : LinkWords) (text : List ℕ) (inputs : List (Named Linkable)) (i : Image) (r : Result (List OutFile) Fault) → ImageIs w.placement text w.ram inputs (Ok i) → Gives r (filed w.container w.output i)
+pub image_made : (w : LinkWords) (text : List ℕ) (inputs : List (Named Linkable)) (i : Image) (t : Tables) (r : Result (List OutFile) Fault) → ImageIs w.placement text w.ram inputs (Ok i) t → Gives r (filed w.container w.output t i)
     → Tells r (InputsMake w text (Ok inputs))
-image_made w text inputs i (Ok fs) is h = (Ok i, is, sym h)
-image_made w text inputs i (Err (fault.Refused r)) is h = (Ok i, is, sym h)
-image_made w text inputs i (Err (fault.ReadFault q)) is h = h
-image_made w text inputs i (Err fault.NoMemory) is h = tt
+image_made w text inputs i t (Ok fs) is h = (Ok i, t, is, sym h)
+image_made w text inputs i t (Err (fault.Refused r)) is h = (Ok i, t, is, sym h)
+image_made w text inputs i t (Err (fault.ReadFault q)) is h = h
+image_made w text inputs i t (Err fault.NoMemory) is h = tt
+
+-- without tables the files are those with none
+filed_without : (c : Container) (out : List ℕ) (t : Tables) (i : Image) → has_tables c ≡ false → filed c out no_tables i ≡ filed c out t i
+filed_without container.LoadFiles out t i h = refl
+filed_without (container.Elf false) out t i h = refl
+filed_without (container.Elf true) out t i h = absurd (let bad : true ≡ false = h in cc)
+filed_without container.Binary out t i h = refl
+filed_without container.ImageFile out t i h = refl
+
+pub plain_made : (w : LinkWords) (text : List ℕ) (inputs : List (Named Linkable)) (i : Image) (r : Result (List OutFile) Fault) → has_tables w.container ≡ false
+    → HasImage w.placement text w.ram inputs (Ok i) → Gives r (filed w.container w.output no_tables i) → Tells r (InputsMake w text (Ok inputs))
+plain_made w text inputs i r plain is h =
+    image_made w text inputs i is.0 r is.1 (subst (λ (x : Result (List OutFile) Refusal). Gives r x) (filed_without w.container w.output is.0 i plain) h)
+
+-- tables are those of a scatter image
+pub is_scattered : (p : LinkPlacement) (c : Container) → has_tables c ≡ true → ComeTogether p c → (file : List ℕ) × (p ≡ placement.Scatter file) × (c ≡ container.Elf true)
+is_scattered p container.LoadFiles h together = absurd (let bad : false ≡ true = h in cc)
+is_scattered p (container.Elf false) h together = absurd (let bad : false ≡ true = h in cc)
+is_scattered p container.Binary h together = absurd (let bad : false ≡ true = h in cc)
+is_scattered p container.ImageFile h together = absurd (let bad : false ≡ true = h in cc)
+is_scattered (placement.Scatter file) (container.Elf true) h together = (file, refl, refl)
+is_scattered (placement.Plain base) (container.Elf true) h together = absurd together
+is_scattered (placement.Aif base relocatable) (container.Elf true) h together = absurd together
+
+module _ (w : LinkWords) (text : List ℕ) (inputs : List (Named Linkable)) (file : List ℕ) (scattered : w.placement ≡ placement.Scatter file) where
+  pub named_is : (n : NamedImage) → HasNamedImage (placement.Scatter file) text w.ram inputs (Ok n) → ImageIs w.placement text w.ram inputs (Ok n.image) n.tables
+  named_is n h = subst (λ (p : LinkPlacement). ImageIs p text w.ram inputs (Ok n.image) n.tables) (sym scattered) h
+
+  pub named_made : (n : NamedImage) (r : Result (List OutFile) Fault) → w.container ≡ container.Elf true → HasNamedImage (placement.Scatter file) text w.ram inputs (Ok n)
+      → Gives r (filed (container.Elf true) w.output n.tables n.image) → Tells r (InputsMake w text (Ok inputs))
+  named_made n r elf h files =
+      image_made w text inputs n.image n.tables r (named_is n h) (subst (λ (c : Container). Gives r (filed c w.output n.tables n.image)) (sym elf) files)
+
+  pub no_named_made : (f : Fault) → Tells {A = NamedImage} (Err f) (HasNamedImage (placement.Scatter file) text w.ram inputs) → Tells {A = List OutFile} (Err f) (InputsMake w text (Ok inputs))
+  no_named_made (fault.Refused r) h = let is = subst (λ (p : LinkPlacement). HasImage p text w.ram inputs (Err r)) (sym scattered) h in (Err r, is.0, is.1, refl)
+  no_named_made (fault.ReadFault q) h = h
+  no_named_made fault.NoMemory h = tt
 
 pub inputs_made : (s : Reads) (sources : Bool) (w : LinkWords) (contents : List (List ℕ)) (inputs : List (Named Linkable)) (r : Result (List OutFile) Fault)
     → InputsAre s sources w.names (inputs_in w.placement contents) (Ok inputs) → Tells r (InputsMake w (text_in w.placement contents) (Ok inputs)) → Makes s sources w contents r

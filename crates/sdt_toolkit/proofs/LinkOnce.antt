@@ -9,6 +9,8 @@ use Rattle.sdt_outside.specs.Files.{Files, content}
 use Rattle.armasm_core.specs.Assembling.{AssembledFrom, OneAssembly}
 use Rattle.place_model.specs.declared.scatter.Kind.TheVariants as kind
 use Rattle.armlink_core.specs.Images.{linking, scatter_linking}
+use Rattle.armlink_core.specs.Tables.{link_tables, scatter_tables}
+use Rattle.elf_image.specs.declared.tables.Tables.{Tables}
 use Rattle.link_model.specs.declared.images.Image.{Image}
 use Rattle.link_model.specs.declared.selection.Named.{Named}
 use Rattle.link_model.specs.Chosen.{LinkedLaw}
@@ -23,7 +25,7 @@ use Rattle.tool_library.specs.declared.linkables.Linkable.{Linkable}
 use Rattle.tool_library.specs.declared.linkables.Linkable.TheVariants as input
 use Rattle.sdt_toolkit.specs.Inputs.{Behind, InputBy, InputsAre, NamedIs, archives_among, is_source_name, objects_among, with_name}
 use Rattle.sdt_toolkit.specs.Reads.{Reads}
-use Rattle.sdt_toolkit.specs.Links.{AsAif, FilesAsk, ImageIs, InputsMake, IsRam, LinkMakes, LinksTo, OneLinkAsked, ReadAsks, ScattersTo, WordsAsk, filed, files_read, inputs_in, text_in, writes_all}
+use Rattle.sdt_toolkit.specs.Links.{AsAif, FilesAsk, ImageIs, InputsMake, IsRam, LinkMakes, LinksTo, OneLinkAsked, ReadAsks, ScattersTo, TablesTo, WordsAsk, filed, files_read, inputs_in, text_in, writes_all}
 
 -- ---- inputs
 
@@ -119,16 +121,27 @@ links_once (placement.Scatter file) text banks os x y h k = scatters_once text b
 links_once (placement.Aif base relocatable) text banks os x y h k = as_aif_once base relocatable banks os x y h k
 links_once (placement.Plain base) text banks os x y h k = h ∙ sym k
 
-image_once : LinkedLaw → (f : LinkPlacement) (text : List ℕ) (banks : Option (List Bank)) (inputs : Inputs) (x y : Result Image Refusal) → ImageIs f text banks inputs x → ImageIs f text banks inputs y → x ≡ y
-image_once law f text banks inputs x y h k =
-    let same : h.objects ≡ k.objects = law (objects_among inputs) (archives_among inputs) h.objects k.objects h.linked k.linked in
-    links_once f text banks k.objects x y (subst (λ (os : List (Named Object)). LinksTo f text banks os x) same h.links) k.links
+tables_once : (f : LinkPlacement) (text : List ℕ) (banks : Option (List Bank)) (os : List (Named Object)) (t u : Tables) → TablesTo f text banks os t → TablesTo f text banks os u → t ≡ u
+tables_once (placement.Scatter file) text banks os t u h k =
+    h.2 ∙ (ap (λ (ram : Option (List Range32)). scatter_tables text ram os) (ram_once banks h.0 k.0 h.1 k.1) ∙ sym k.2)
+tables_once (placement.Aif base relocatable) text banks os t u h k =
+    h.2 ∙ (ap (λ (ram : Option (List Range32)). link_tables (kind.Aif base relocatable) ram os) (ram_once banks h.0 k.0 h.1 k.1) ∙ sym k.2)
+tables_once (placement.Plain base) text banks os t u h k = h ∙ sym k
+
+image_once : LinkedLaw → (f : LinkPlacement) (text : List ℕ) (banks : Option (List Bank)) (inputs : Inputs) (x y : Result Image Refusal) (t u : Tables)
+    → ImageIs f text banks inputs x t → ImageIs f text banks inputs y u → (x ≡ y) × (t ≡ u)
+image_once law f text banks inputs x y t u h k =
+    let same : h.objects ≡ k.objects = law (objects_among inputs) (archives_among inputs) h.objects k.objects h.linked k.linked in (
+      links_once f text banks k.objects x y (subst (λ (os : List (Named Object)). LinksTo f text banks os x) same h.links) k.links,
+      tables_once f text banks k.objects t u (subst (λ (os : List (Named Object)). TablesTo f text banks os t) same h.named) k.named,
+    )
 
 inputs_make_once : LinkedLaw → (w : LinkWords) (text : List ℕ) (inputs : Result Inputs Refusal) (x y : Result (List OutFile) Refusal) → InputsMake w text inputs x → InputsMake w text inputs y → x ≡ y
 inputs_make_once law w text (Err r) x y h k = h ∙ sym k
 inputs_make_once law w text (Ok inputs) x y h k =
-    let same : h.0 ≡ k.0 = image_once law w.placement text w.ram inputs h.0 k.0 h.1 k.1 in
-    h.2 ∙ (ap (λ (i : Result Image Refusal). i >>= filed w.container w.output) same ∙ sym k.2)
+    let same = image_once law w.placement text w.ram inputs h.0 k.0 h.1 k.1 h.2 k.2 in
+    h.3 ∙ (ap (λ (i : Result Image Refusal). i >>= filed w.container w.output h.1) same.0
+    ∙ (ap (λ (t : Tables). k.0 >>= filed w.container w.output t) same.1 ∙ sym k.3))
 
 makes_once : OneAssembly → LinkedLaw → (s : Reads) (files : Files) → OverFiles s files → (sources : Bool) (w : LinkWords) (contents : List (List ℕ)) (x y : Result (List OutFile) Refusal)
     → LinkMakes s sources w contents x → LinkMakes s sources w contents y → x ≡ y

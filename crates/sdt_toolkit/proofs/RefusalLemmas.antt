@@ -121,15 +121,15 @@ module _ (law : RefusalsLaw) where
     made_says_why contents (Err q) made judged h e =
         let same : q ≡ r = err_inj {A = List OutFile} q r (sym h ∙ e) in
         inl (subst (λ (z : Refusal). InputsAre s sources w.names (inputs_in w.placement contents) (Err z)) same judged)
-    made_says_why contents (Ok xs) made judged (image, is_image, is) e = go (bind_err image (filed w.container w.output) r (sym is ∙ e))
+    made_says_why contents (Ok xs) made judged (image, tables, is_image, is) e = go (bind_err image (filed w.container w.output tables) r (sym is ∙ e))
       where
         why_linked : SaysOfPlaced w.placement (text_in w.placement contents) w.ram is_image.objects r ⊎ IsLongImage w (text_in w.placement contents) is_image.objects r → Why contents
         why_linked says = inr (record { inputs = xs; objects = is_image.objects; judged = judged; linked = is_image.linked; says = says })
 
-        go : (image ≡ Err r) ⊎ ((i : Image) × (image ≡ Ok i) × (filed w.container w.output i ≡ Err r)) → Why contents
+        go : (image ≡ Err r) ⊎ ((i : Image) × (image ≡ Ok i) × (filed w.container w.output tables i ≡ Err r)) → Why contents
         go (inl h) = why_linked (inl (image_says w.placement (text_in w.placement contents) w.ram is_image.objects r image is_image.links h))
         go (inr (i, at, h)) =
-            why_linked (inr (i, subst (LinksTo w.placement (text_in w.placement contents) w.ram is_image.objects) at is_image.links, h))
+            why_linked (inr (i, tables, subst (LinksTo w.placement (text_in w.placement contents) w.ram is_image.objects) at is_image.links, is_image.named, h))
 
     asks_why : (contents : List (List ℕ)) → LinkAsks s sources w contents (Err r) → Why contents
     asks_why contents h = go (bind_err h.made writes_all r (sym h.outcome))

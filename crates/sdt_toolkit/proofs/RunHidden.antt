@@ -214,7 +214,7 @@ interrupts_are_hidden files_law law r o seats left answers sources w description
     let by = (link.placed.seen i.start fits).objects force.own force.object force.there in
     let seen = kit_seen ack work _ link.placed.link (views i.start) force by in
     let files : Files = written before (outputs (load_files i w.output)) in
-    let are : o.before ≡ Some files = told ∙ link.left ∙ ap (λ (c : Container). Some (written before (outputs (image_files c w.output i)))) are_loads in
+    let are : o.before ≡ Some files = told ∙ link.left ∙ ap (λ (c : Container). Some (written before (outputs (image_files c w.output link.tables i)))) are_loads in
     let read = answers.read in
     let by_files = subst (λ (f : Option Files). IsRead f (Rose o.reads o.reads_now) r.image read) are answers.read_so in
     let read_map = subst (λ (x : Named). IsRead (Some files) (Rose o.reads o.reads_now) x read) by_map by_files in

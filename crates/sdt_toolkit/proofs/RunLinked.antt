@@ -61,5 +61,5 @@ linked_runs_start law sources w description before after i views r o seats left 
     subst (λ (p : LinkPlacement). IsAskedAs p (text_in w.placement link.contents) w.ram link.shape link.ram) is_scatter link.asked in
     let (boots, can) : ReachesEntry (kind.Scatter asked.0) i views = subst (λ (k : Kind). ReachesEntry k i views) asked.2 link.placed.reaches in
     let files : Files = written before (outputs (load_files i w.output)) in
-    let are : o.before ≡ Some files = told ∙ link.left ∙ ap (λ (c : Container). Some (written before (outputs (image_files c w.output i)))) are_loads in
+    let are : o.before ≡ Some files = told ∙ link.left ∙ ap (λ (c : Container). Some (written before (outputs (image_files c w.output link.tables i)))) are_loads in
     law i (views i.start) (written_in i) w.output files r o seats left a boots can line some (stand before (load_files i w.output) (can.named w.output)) are by_map allow answers

@@ -15,13 +15,15 @@ use Rattle.place_model.specs.Plans.{Plan}
 use Rattle.armasm_core.specs.Assembling.{AssembledFrom}
 use Rattle.armasm_core.specs.Beginning.{SourceBegins}
 use Rattle.armasm_core.specs.Standing.{SourceStands}
+use Rattle.elf_image.specs.declared.tables.Tables.{Tables}
 use Rattle.link_model.specs.declared.images.Image.{Image}
 use Rattle.link_model.specs.declared.selection.Linked.{Linked}
 use Rattle.link_model.specs.declared.selection.Named.{Named}
 use Rattle.link_model.specs.Chosen.{AreLinked}
 use Rattle.link_laws.specs.Laws.{AreRanges}
-use Rattle.link_laws.specs.Placing.{bases_of}
+use Rattle.link_laws.specs.Placing.{bases_of, link_plan}
 use Rattle.link_laws.specs.Plans.{entry_by, values_by}
+use Rattle.link_symbols.specs.Symbols.{tables_in}
 use Rattle.tool_words.specs.declared.command.Command.{Command}
 use Rattle.tool_words.specs.declared.command.Command.TheVariants as command
 use Rattle.tool_words.specs.declared.command.LinkWords.{LinkWords}
@@ -30,6 +32,7 @@ use Rattle.tool_answers.specs.Outcomes.{written}
 use Rattle.tool_library.specs.declared.linkables.Linkable.{Linkable}
 use Rattle.tool_library.specs.declared.linkables.Linkable.TheVariants as input
 use Rattle.sdt_toolkit.specs.Containers.{FilesHold}
+use Rattle.sdt_toolkit.specs.Debug.{NamesHold}
 use Rattle.sdt_toolkit.specs.Inputs.{InputsAre, archives_among, is_source_name, objects_among}
 use Rattle.sdt_toolkit.specs.Links.{IsAskedAs, LinksTo, files_read, image_files, inputs_in, outputs, text_in}
 use Rattle.sdt_toolkit.specs.Plans.{IsPlacedAs, plan_at}
@@ -37,7 +40,7 @@ use Rattle.sdt_toolkit.specs.Reads.{Reads}
 use Rattle.sdt_toolkit.specs.Starting.{FitsAt}
 
 -- of the inputs that were read, the linked objects were placed by one plan and make the image, and its files, which hold it, were
--- written in order
+-- written in order; where symbols are asked for, these are those of the link, and a debugger finds each definition by its name
 pub record IsLinkedInto (sources : Bool) (w : LinkWords) (before : Files) (after : Option Files) (image : Image)
     (views : ℕ → ByteMap) : Type 0 where
   pub reads : Reads
@@ -51,10 +54,13 @@ pub record IsLinkedInto (sources : Bool) (w : LinkWords) (before : Files) (after
   pub judged : InputsAre reads sources w.names (inputs_in w.placement contents) (Ok inputs)
   pub linked : AreLinked (objects_among inputs) (archives_among inputs) objects
   pub made : LinksTo w.placement (text_in w.placement contents) w.ram objects (Ok image)
-  pub left : after ≡ Some (written before (outputs (image_files w.container w.output image)))
+  pub tables : Tables
+  pub left : after ≡ Some (written before (outputs (image_files w.container w.output tables image)))
   pub asked : IsAskedAs w.placement (text_in w.placement contents) w.ram shape ram
   pub placed : IsPlacedAs shape ram objects image views
-  pub holds : FilesHold w.container w.output image views
+  pub holds : FilesHold w.container w.output tables image views
+  pub named : tables ≡ tables_in placed.link placed.placement (length image.loads)
+  pub names : NamesHold w.container image tables (link_plan shape placed.link placed.assigned.regions placed.veneers) placed.link
 
 -- ---- statements
 

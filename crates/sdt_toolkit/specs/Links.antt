@@ -1,7 +1,7 @@
 -- What the commands `link` and `build` make of files: the files of an image, or the first refusal, and what each answer
 -- says and leaves (SDT 2.50 Reference Guide, armlink; the order of refusals, and that `build` assembles the sources among
 -- its inputs, are this project's).
-use Rattle.std.specs.Prelude.{◌≡◌, ◌⊎◌, ℕ, ◌+◌, ◌^◌, ◌<◌, ◌≤◌, nat_le, Bool, true, if◌then◌else◌, List, [], ◌∷◌, length, map, Option, Some, None, Result, Ok, Err}
+use Rattle.std.specs.Prelude.{◌≡◌, ◌⊎◌, ℕ, ◌+◌, ◌^◌, ◌<◌, ◌≤◌, nat_le, Bool, true, false, if◌then◌else◌, List, [], ◌∷◌, length, map, Option, Some, None, Result, Ok, Err}
 use Rattle.std.specs.List.{list_any, AllByRecursion}
 use Rattle.sdt_word.specs.declared.ranges.Range32.{Range32}
 use Rattle.sdt_fault.specs.declared.answer.Answer.{Answer}
@@ -24,10 +24,14 @@ use Rattle.place_model.specs.declared.scatter.Kind.{Kind}
 use Rattle.place_model.specs.declared.scatter.Kind.TheVariants as kind
 use Rattle.place_model.specs.declared.scatter.Scatter.{Scatter}
 use Rattle.scatter_text.specs.Reading.{scatter_of}
+use Rattle.armlink_core.specs.declared.naming.NamedImage.{NamedImage}
 use Rattle.armlink_core.specs.Images.{linking, scatter_linking}
+use Rattle.armlink_core.specs.Tables.{link_tables, named_scatter, scatter_tables}
 use Rattle.bin_image.specs.declared.records.OutFile.{OutFile}
 use Rattle.bin_image.specs.Files.{binary_file, load_files}
+use Rattle.elf_image.specs.declared.tables.Tables.{Tables}
 use Rattle.elf_image.specs.Files.{elf_file}
+use Rattle.elf_image.specs.Tables.{named_file}
 use Rattle.tool_words.specs.declared.command.Bank.{Bank}
 use Rattle.tool_words.specs.declared.command.Container.{Container}
 use Rattle.tool_words.specs.declared.command.Container.TheVariants as container
@@ -89,6 +93,13 @@ LinksTo (placement.Scatter file) text banks os image = ScattersTo text banks os 
 LinksTo (placement.Aif base relocatable) text banks os image = AsAif base relocatable banks os image
 LinksTo (placement.Plain base) text banks os image = image ≡ linking (kind.Plain base) None os
 
+-- the sections and symbols of its link
+abbrev pub TablesTo : LinkPlacement → List ℕ → Option (List Bank) → List (Named Object) → Tables → Type 0
+TablesTo (placement.Scatter file) text banks os t = (ram : Option (List Range32)) × IsRam banks ram × (t ≡ scatter_tables text ram os)
+TablesTo (placement.Aif base relocatable) text banks os t =
+    (ram : Option (List Range32)) × IsRam banks ram × (t ≡ link_tables (kind.Aif base relocatable) ram os)
+TablesTo (placement.Plain base) text banks os t = t ≡ link_tables (kind.Plain base) None os
+
 -- the kind of image that the words ask for, by the scatter file's text, and the ranges that it may write
 abbrev pub IsAskedAs : LinkPlacement → List ℕ → Option (List Bank) → Kind → Option (List Range32) → Type 0
 IsAskedAs (placement.Scatter file) text banks k ram = (s : Scatter) × (scatter_of text ≡ Ok s) × (k ≡ kind.Scatter s) × IsRam banks ram
@@ -103,15 +114,30 @@ pub record IsInMemory (f : LinkPlacement) (text : List ℕ) (banks : Option (Lis
   pub views : ℕ → ByteMap
   pub placed : IsPlacedAs shape ram os i views
 
--- the image of inputs: of the objects among them, and the members of the libraries among them that are needed
-pub record ImageIs (f : LinkPlacement) (text : List ℕ) (banks : Option (List Bank)) (inputs : List (Named Linkable)) (image : Result Image Refusal) : Type 0 where
+-- the image of inputs, and the tables of its link: of the objects among them, and the members of the libraries among them that
+-- are needed
+pub record ImageIs (f : LinkPlacement) (text : List ℕ) (banks : Option (List Bank)) (inputs : List (Named Linkable))
+    (image : Result Image Refusal) (tables : Tables) : Type 0 where
   pub objects : List (Named Object)
   pub linked : AreLinked (objects_among inputs) (archives_among inputs) objects
   pub links : LinksTo f text banks objects image
+  pub named : TablesTo f text banks objects tables
   pub memory : (i : Image) → image ≡ Ok i → IsInMemory f text banks objects i
+
+-- with tables that aren't told, and with those that are
+abbrev pub HasImage : LinkPlacement → List ℕ → Option (List Bank) → List (Named Linkable) → Result Image Refusal → Type 0
+HasImage f text banks inputs image = (tables : Tables) × ImageIs f text banks inputs image tables
+
+abbrev pub HasNamedImage : LinkPlacement → List ℕ → Option (List Bank) → List (Named Linkable) → Result NamedImage Refusal → Type 0
+HasNamedImage f text banks inputs (Ok n) = ImageIs f text banks inputs (Ok n.image) n.tables
+HasNamedImage f text banks inputs (Err r) = HasImage f text banks inputs (Err r)
 
 abbrev pub IsScatterImage : List (Named Object) → List (Named Archive) → List ℕ → Option (List Bank) → Result Image Refusal → Type 0
 IsScatterImage objects archives text banks image = (os : List (Named Object)) × AreLinked objects archives os × ScattersTo text banks os image
+
+abbrev pub IsNamedScatter : List (Named Object) → List (Named Archive) → List ℕ → Option (List Bank) → Result NamedImage Refusal → Type 0
+IsNamedScatter objects archives text banks named =
+    (os : List (Named Object)) × AreLinked objects archives os × (ram : Option (List Range32)) × IsRam banks ram × (named ≡ named_scatter text ram os)
 
 abbrev pub IsAifImage : List (Named Object) → List (Named Archive) → ℕ → Bool → Option (List Bank) → Result Image Refusal → Type 0
 IsAifImage objects archives base relocatable banks image = (os : List (Named Object)) × AreLinked objects archives os × AsAif base relocatable banks os image
@@ -130,23 +156,29 @@ is_long f = nat_le (2 ^ 32) (length f.bytes)
 abbrev pub one_file : List ℕ → List ℕ → List OutFile
 one_file out bytes = (record { name = out; bytes = bytes }) ∷ []
 
--- what is written of an image: a file for each load region and the map, or one file
-abbrev pub image_files : Container → List ℕ → Image → List OutFile
-image_files container.LoadFiles out i = load_files i out
-image_files container.Elf out i = one_file out (elf_file i)
-image_files container.Binary out i = one_file out (binary_file i)
-image_files container.ImageFile out i = one_file out (aif_file i)
+-- what is written of an image: a file for each load region and the map, or one file, which has the tables where these are asked for
+abbrev pub image_files : Container → List ℕ → Tables → Image → List OutFile
+image_files container.LoadFiles out t i = load_files i out
+image_files (container.Elf false) out t i = one_file out (elf_file i)
+image_files (container.Elf true) out t i = one_file out (named_file i t)
+image_files container.Binary out t i = one_file out (binary_file i)
+image_files container.ImageFile out t i = one_file out (aif_file i)
 
 -- files, unless one of them has 2^32 bytes or more
 abbrev pub unless_long : List OutFile → Result (List OutFile) Refusal
 unless_long fs = if list_any is_long fs then Err too_large else Ok fs
 
-abbrev pub filed : Container → List ℕ → Image → Result (List OutFile) Refusal
-filed c out i = unless_long (image_files c out i)
+abbrev pub filed : Container → List ℕ → Tables → Image → Result (List OutFile) Refusal
+filed c out t i = unless_long (image_files c out t i)
+
+-- these are asked for
+abbrev pub has_tables : Container → Bool
+has_tables (container.Elf symbols) = symbols
+has_tables other = false
 
 -- an ELF file counts the load regions by a half-word
 abbrev pub AreCounted : Container → List LoadRegion → Type 0
-AreCounted container.Elf loads = length loads < 2 ^ 16
+AreCounted (container.Elf symbols) loads = length loads < 2 ^ 16
 AreCounted other loads = Unit {0}
 
 -- an image whose regions have 64 MiB at most, and no more of them than its container counts
@@ -156,7 +188,9 @@ pub record IsWritable (c : Container) (i : Image) : Type 0 where
 
 abbrev pub InputsMake : LinkWords → List ℕ → Result (List (Named Linkable)) Refusal → Result (List OutFile) Refusal → Type 0
 InputsMake w text (Err r) made = made ≡ Err r
-InputsMake w text (Ok inputs) made = (image : Result Image Refusal) × ImageIs w.placement text w.ram inputs image × (made ≡ (image >>= filed w.container w.output))
+InputsMake w text (Ok inputs) made =
+    (image : Result Image Refusal) × (tables : Tables) × ImageIs w.placement text w.ram inputs image tables
+    × (made ≡ (image >>= filed w.container w.output tables))
 
 -- what the files that are read make
 pub record LinkMakes (s : Reads) (sources : Bool) (w : LinkWords) (contents : List (List ℕ)) (made : Result (List OutFile) Refusal) : Type 0 where

@@ -19,6 +19,7 @@ use Rattle.link_model.specs.Chosen.{AreLinked}
 use Rattle.link_items.specs.LinkedItems.{contents_of, has_header}
 use Rattle.link_assign.specs.Assigning.{assignment_of}
 use Rattle.link_select.specs.Selection.{selection_of}
+use Rattle.elf_image.specs.declared.tables.Tables.{Tables}
 use Rattle.link_refusals.specs.Refusals.{FirstHomeless, SaysOfNames, SaysOfPlan}
 use Rattle.link_veneer.specs.Planning.{planned_veneers}
 use Rattle.link_place.specs.Placed.{placed}
@@ -37,7 +38,7 @@ use Rattle.tool_words.specs.declared.command.LinkWords.{LinkWords}
 use Rattle.tool_words.specs.declared.command.ReportWords.{ReportWords}
 use Rattle.tool_answers.specs.Outcomes.{Outside}
 use Rattle.sdt_toolkit.specs.Inputs.{InputsAre, archives_among, objects_among}
-use Rattle.sdt_toolkit.specs.Links.{IsAskedAs, LinksTo, filed, files_read, inputs_in, text_in}
+use Rattle.sdt_toolkit.specs.Links.{IsAskedAs, LinksTo, TablesTo, filed, files_read, inputs_in, text_in}
 use Rattle.sdt_toolkit.specs.Reads.{Reads, reads_of}
 use Rattle.sdt_toolkit.specs.Reports.{report_reads}
 
@@ -82,7 +83,9 @@ SaysOfPlaced form text banks os r =
 
 -- or a file of their image would have 2^32 bytes or more
 abbrev pub IsLongImage : LinkWords → List ℕ → List (Named Object) → Refusal → Type 0
-IsLongImage w text os r = (i : Image) × LinksTo w.placement text w.ram os (Ok i) × (filed w.container w.output i ≡ Err r)
+IsLongImage w text os r =
+    (i : Image) × (t : Tables) × LinksTo w.placement text w.ram os (Ok i) × TablesTo w.placement text w.ram os t
+    × (filed w.container w.output t i ≡ Err r)
 
 -- the inputs were read, and the link of their objects is refused, or the files of its image are
 pub record IsLinkRefused (s : Reads) (sources : Bool) (w : LinkWords) (contents : List (List ℕ)) (r : Refusal) : Type 0 where

@@ -1,16 +1,17 @@
 //! The image of inputs, and its files.
 
-ghost use Rattle.std.specs.Prelude.{◌≡◌, ◌%◌, ◌+◌, ◌-◌, ◌<◌, ◌≤◌, ◌^◌, All, IfOk, length, min, nat_le};
+ghost use Rattle.std.specs.Prelude.{◌≡◌, ◌%◌, ◌+◌, ◌-◌, ◌<◌, ◌≤◌, ◌^◌, All, IfOk, false, length, min, nat_le};
 ghost use Rattle.std.specs.List.{AllByRecursion, list_any};
 ghost use Rattle.alf_archive.specs.Grammar.{IsValid as IsValidArchive};
 ghost use Rattle.aof_object.specs.Validity.{IsValid};
 ghost use Rattle.elf_image.specs.Files.{file_size};
+ghost use Rattle.armlink_core.specs.Tables.{no_tables};
 ghost use Rattle.sdt_fault.specs.declared.answer.Fault.TheVariants as fault;
 ghost use Rattle.tool_words.specs.declared.command.Container.TheVariants as written;
 ghost use Rattle.tool_words.specs.Commands.{IsBased, AreBanks};
 ghost use Rattle.sdt_toolkit.specs.Inputs.{AreValid, Tells, archives_among, objects_among};
 ghost use Rattle.sdt_toolkit.specs.Links as links;
-ghost use Rattle.sdt_toolkit.specs.Links.{ImageIs, filed, is_long, unless_long};
+ghost use Rattle.sdt_toolkit.specs.Links.{HasImage, filed, is_long, unless_long};
 
 use crate::laws::images_start;
 use crate::sound::{archives_fit, objects_fit};
@@ -129,7 +130,7 @@ pub fn image_of(
     requires based { IsBased placement.now }
     requires banks { AreBanks ram.now }
     requires inputs { AreValid inputs.items }
-    ensures { Tells result (ImageIs placement.now text.now ram.now inputs.items) }
+    ensures { Tells result (HasImage placement.now text.now ram.now inputs.items) }
 {
     let parts = parts_of(alloc, inputs)?;
     images_start();
@@ -146,7 +147,7 @@ pub fn image_of(
 
 // ---- its files
 
-fn too_large() -> Fault
+pub fn too_large() -> Fault
     ensures { result ≡ fault.Refused links.too_large }
 {
     Fault::Refused(Refusal::TooLarge {
@@ -174,7 +175,7 @@ fn has_long_file(files: &[OutFile]) -> bool
 /// A file for each load region, and the map.
 fn region_files(alloc: Global, image: &Image, out: &Text) -> Result<List<OutFile>, Fault>
     requires { AllByRecursion (λ r. r.length + r.zero ≤ 2 ^ 26) image.now.regions }
-    ensures value { Gives result (filed written.LoadFiles out.now image.now) }
+    ensures value { Gives result (filed written.LoadFiles out.now no_tables image.now) }
     ensures short { IfOk result (λ files. All (λ f. length f.bytes < 2 ^ 32) files) }
 {
     if has_long_load(image.loads.as_slice()) {
@@ -187,7 +188,7 @@ fn region_files(alloc: Global, image: &Image, out: &Text) -> Result<List<OutFile
     Ok(files)
 }
 
-fn one_file(alloc: Global, out: &Text, bytes: Bytes) -> Result<List<OutFile>, Fault>
+pub fn one_file(alloc: Global, out: &Text, bytes: Bytes) -> Result<List<OutFile>, Fault>
     ensures value { Gives result (unless_long (links.one_file out.now bytes)) }
     ensures short { IfOk result (λ files. All (λ f. length f.bytes < 2 ^ 32) files) }
 {
@@ -203,7 +204,7 @@ fn one_file(alloc: Global, out: &Text, bytes: Bytes) -> Result<List<OutFile>, Fa
 }
 
 /// The size in bytes of the ELF file of load regions; 2^64 - 1, where it would have more.
-fn elf_size(loads: &[LoadRegion]) -> u64
+pub fn elf_size(loads: &[LoadRegion]) -> u64
     requires { length loads.now < 2 ^ 16 }
     ensures { result ≡ min (file_size loads.now) (2 ^ 64 - 1) }
 {
@@ -224,7 +225,7 @@ fn is_long_elf(loads: &[LoadRegion]) -> bool
 /// The ELF file, which is made only where it is short enough.
 fn elf_file(alloc: Global, image: &Image, out: &Text) -> Result<List<OutFile>, Fault>
     requires { length image.now.loads < 2 ^ 16 }
-    ensures value { Gives result (filed written.Elf out.now image.now) }
+    ensures value { Gives result (filed (written.Elf false) out.now no_tables image.now) }
     ensures short { IfOk result (λ files. All (λ f. length f.bytes < 2 ^ 32) files) }
 {
     if is_long_elf(image.loads.as_slice()) {
@@ -235,7 +236,7 @@ fn elf_file(alloc: Global, image: &Image, out: &Text) -> Result<List<OutFile>, F
 }
 
 fn binary_file(alloc: Global, image: &Image, out: &Text) -> Result<List<OutFile>, Fault>
-    ensures value { Gives result (filed written.Binary out.now image.now) }
+    ensures value { Gives result (filed written.Binary out.now no_tables image.now) }
     ensures short { IfOk result (λ files. All (λ f. length f.bytes < 2 ^ 32) files) }
 {
     let bytes = make_binary(alloc, image)?;
@@ -244,28 +245,29 @@ fn binary_file(alloc: Global, image: &Image, out: &Text) -> Result<List<OutFile>
 
 fn image_file(alloc: Global, image: &Image, out: &Text) -> Result<List<OutFile>, Fault>
     requires { AllByRecursion (λ r. r.length + r.zero ≤ 2 ^ 26) image.now.regions }
-    ensures value { Gives result (filed written.ImageFile out.now image.now) }
+    ensures value { Gives result (filed written.ImageFile out.now no_tables image.now) }
     ensures short { IfOk result (λ files. All (λ f. length f.bytes < 2 ^ 32) files) }
 {
     let bytes = make_aif(alloc, image)?;
     one_file(alloc, out, bytes)
 }
 
-/// The files that a container has of an image in the order in which they are written, or TooLarge, if one would have 2^32
-/// bytes or more.
+/// The files that a container has of an image without its tables, in the order in which they are written, or TooLarge, if
+/// one would have 2^32 bytes or more.
 pub fn files_of(
     alloc: Global,
     container: Container,
     image: &Image,
     out: &Text,
 ) -> Result<List<OutFile>, Fault>
-    requires { links.IsWritable container image.now }
-    ensures value { Gives result (filed container out.now image.now) }
+    requires writable { links.IsWritable container image.now }
+    requires plain { links.has_tables container ≡ false }
+    ensures value { Gives result (filed container out.now no_tables image.now) }
     ensures short { IfOk result (λ files. All (λ f. length f.bytes < 2 ^ 32) files) }
 {
     match container {
         Container::LoadFiles => region_files(alloc, image, out),
-        Container::Elf => elf_file(alloc, image, out),
+        Container::Elf { .. } => elf_file(alloc, image, out),
         Container::Binary => binary_file(alloc, image, out),
         Container::ImageFile => image_file(alloc, image, out),
     }

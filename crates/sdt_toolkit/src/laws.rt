@@ -9,7 +9,7 @@ ghost use Rattle.sdt_toolkit.specs.Runs.{CommandsStart, FilesAreRead, LinkedRuns
 ghost use Rattle.sdt_toolkit.specs.Sources.{OneAsked};
 
 use armasm_core::laws::one_assembly;
-use armlink_core::laws::image_names;
+use armlink_core::laws::{image_names, table_names};
 use bin_image::{map_law, spelling_law};
 use link_model::linked_law;
 use run_laws::{bus_run_is_one, made_steps_are_one, started_exits_alike};
@@ -43,6 +43,7 @@ pub fn builds_are_links()
 {
     one_assembly();
     image_names();
+    table_names();
     images_start();
 }
 

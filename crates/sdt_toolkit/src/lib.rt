@@ -27,6 +27,7 @@ mod inputs;
 mod kit;
 pub mod laws;
 mod links;
+mod named;
 mod names;
 mod report;
 mod sound;

@@ -1,13 +1,14 @@
 //! The commands `link` and `build`.
 
-ghost use Rattle.std.specs.Prelude.{◌≡◌, ◌<◌, ◌≤◌, ◌^◌, All, IfOk, Ok, length};
+ghost use Rattle.std.specs.Prelude.{◌≡◌, ◌<◌, ◌≤◌, ◌^◌, All, IfOk, Ok, false, length, true};
 ghost use Rattle.sdt_toolkit.specs.Inputs.{AreValid, IsGot, Tells};
 ghost use Rattle.sdt_toolkit.specs.Reads.{Told};
-ghost use Rattle.sdt_toolkit.specs.Links.{InputsMake, LinkAnswersOver, LinkMakes, files_read, inputs_in};
+ghost use Rattle.sdt_toolkit.specs.Links.{InputsMake, LinkAnswersOver, LinkMakes, files_read, has_tables, inputs_in};
 ghost use Rattle.tool_words.specs.Commands.{IsLinked};
 
 use crate::images::{files_of, image_of};
 use crate::inputs::{files_read, inputs_in, inputs_of, text_in};
+use crate::named::{named_file, named_image_of};
 use crate::writing::write_files;
 use armlink_core::laws::image_sizes;
 use bin_image::OutFile;
@@ -20,7 +21,58 @@ use std::alloc::Global;
 use tool_answers::read_inputs;
 use tool_library::Linkable;
 use tool_library::ends::{end_answer, fault_answer};
-use tool_words::LinkWords;
+use tool_words::{Container, LinkWords};
+
+/// The files with sections and symbols that inputs make.
+fn named_files(
+    alloc: Global,
+    words: &LinkWords,
+    text: &[u8],
+    inputs: List<Named<Linkable>>,
+) -> Result<List<OutFile>, Fault>
+    requires good { IsLinked words.now }
+    requires named { has_tables words.now.container ≡ true }
+    requires inputs { AreValid inputs }
+    ensures makes { Tells result (InputsMake words.now text.now (Ok inputs)) }
+    ensures short { IfOk result (λ files. All (λ f. length f.bytes < 2 ^ 32) files) }
+{
+    image_sizes();
+    reading_law();
+    match named_image_of(alloc, text, &words.ram, inputs.into_vec()) {
+        Ok(named) => named_file(alloc, &named, &words.output),
+        Err(fault) => Err(fault),
+    }
+}
+
+/// The files without these that inputs make.
+fn plain_files(
+    alloc: Global,
+    words: &LinkWords,
+    text: &[u8],
+    inputs: List<Named<Linkable>>,
+) -> Result<List<OutFile>, Fault>
+    requires good { IsLinked words.now }
+    requires plain { has_tables words.now.container ≡ false }
+    requires inputs { AreValid inputs }
+    ensures makes { Tells result (InputsMake words.now text.now (Ok inputs)) }
+    ensures short { IfOk result (λ files. All (λ f. length f.bytes < 2 ^ 32) files) }
+{
+    image_sizes();
+    reading_law();
+    match image_of(alloc, &words.placement, text, &words.ram, inputs.into_vec()) {
+        Ok(image) => files_of(alloc, words.container, &image, &words.output),
+        Err(fault) => Err(fault),
+    }
+}
+
+fn has_tables(container: Container) -> bool
+    ensures { result ≡ has_tables container }
+{
+    match container {
+        Container::Elf { symbols } => symbols,
+        Container::LoadFiles | Container::Binary | Container::ImageFile => false,
+    }
+}
 
 /// The files that inputs make.
 fn files_by(
@@ -34,12 +86,10 @@ fn files_by(
     ensures makes { Tells result (InputsMake words.now text.now (Ok inputs)) }
     ensures short { IfOk result (λ files. All (λ f. length f.bytes < 2 ^ 32) files) }
 {
-    image_sizes();
-    reading_law();
-    match image_of(alloc, &words.placement, text, &words.ram, inputs.into_vec()) {
-        Ok(image) => files_of(alloc, words.container, &image, &words.output),
-        Err(fault) => Err(fault),
+    if has_tables(words.container) {
+        return named_files(alloc, words, text, inputs);
     }
+    plain_files(alloc, words, text, inputs)
 }
 
 /// The files that these contents make.

@@ -16,15 +16,15 @@ use Rattle.tool_words.specs.Commands.{told, command_of}
 -- ---- words that break a rule
 
 -- why an option breaks one, at its word or at a value: with what all items choose, and those before it
-pub data OptionBreaks (verb : Verb) (words : List (List ℕ)) (chosen : Choice) (before : List Item) (at : ℕ) (f : Flag) : ℕ → Type 0 where
-  excluded : is_allowed verb chosen f ≡ false → OptionBreaks verb words chosen before at f at
-  twice : is_bank f ≡ false → has f before ≡ true → OptionBreaks verb words chosen before at f at
-  second_mode : is_mode verb f ≡ true → is_some (mode_of verb before) ≡ true → OptionBreaks verb words chosen before at f at
-  too_many_banks : is_bank f ≡ true → 16 ≤ bank_count before → OptionBreaks verb words chosen before at f at
+pub data OptionBreaks (verb : Verb) (words : List (List ℕ)) (choice : Choice) (before : List Item) (at : ℕ) (f : Flag) : ℕ → Type 0 where
+  excluded : is_allowed verb choice f ≡ false → OptionBreaks verb words choice before at f at
+  twice : is_bank f ≡ false → has f before ≡ true → OptionBreaks verb words choice before at f at
+  second_mode : is_mode verb f ≡ true → is_some (mode_of verb before) ≡ true → OptionBreaks verb words choice before at f at
+  too_many_banks : is_bank f ≡ true → 16 ≤ bank_count before → OptionBreaks verb words choice before at f at
   bad_value : 1 ≤ value_count verb f → at + 1 < length words → first_is_good f words at ≡ false
-      → OptionBreaks verb words chosen before at f (at + 1)
+      → OptionBreaks verb words choice before at f (at + 1)
   bad_size : 2 ≤ value_count verb f → at + 2 < length words → second_is_good words at ≡ false
-      → OptionBreaks verb words chosen before at f (at + 2)
+      → OptionBreaks verb words choice before at f (at + 2)
 
 -- why a name does
 pub data NameBreaks (verb : Verb) (words : List (List ℕ)) (mode : Option Flag) (before : List Item) (at : ℕ) : Type 0 where
@@ -35,9 +35,9 @@ pub data NameBreaks (verb : Verb) (words : List (List ℕ)) (mode : Option Flag)
 
 -- an option that the command hasn't always does
 abbrev pub RoleBreaks : Verb → List (List ℕ) → Choice → List Item → ℕ → Role → ℕ → Type 0
-RoleBreaks verb words chosen before at Name place = (place ≡ at) × NameBreaks verb words chosen.mode before at
-RoleBreaks verb words chosen before at (Known f) place = OptionBreaks verb words chosen before at f place
-RoleBreaks verb words chosen before at Unknown place = place ≡ at
+RoleBreaks verb words choice before at Name place = (place ≡ at) × NameBreaks verb words choice.mode before at
+RoleBreaks verb words choice before at (Known f) place = OptionBreaks verb words choice before at f place
+RoleBreaks verb words choice before at Unknown place = place ≡ at
 
 -- the word at a place breaks a rule: it is the word or a value of some item
 pub record BreaksRule (verb : Verb) (words : List (List ℕ)) (items : List Item) (place : ℕ) : Type 0 where

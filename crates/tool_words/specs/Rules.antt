@@ -169,21 +169,21 @@ values_fault verb flag words at =
 -- an option of an image that is made and depends on another: -reloc on -aif, -elf on -scatter, -symbols on -elf; none
 -- beside -scatter takes -base, and none beside -bin or -reloc takes -ram
 abbrev pub is_image_allowed : Choice → Flag → Bool
-is_image_allowed chosen Base = not (is_the_mode Scatter chosen.mode)
-is_image_allowed chosen Reloc = is_the_mode Aif chosen.mode
-is_image_allowed chosen Elf = is_the_mode Scatter chosen.mode
-is_image_allowed chosen Symbols = chosen.executable
-is_image_allowed chosen Ram = not (is_the_mode Bin chosen.mode || chosen.moves)
-is_image_allowed chosen flag = true
+is_image_allowed choice Base = not (is_the_mode Scatter choice.mode)
+is_image_allowed choice Reloc = is_the_mode Aif choice.mode
+is_image_allowed choice Elf = is_the_mode Scatter choice.mode
+is_image_allowed choice Symbols = choice.executable
+is_image_allowed choice Ram = not (is_the_mode Bin choice.mode || choice.moves)
+is_image_allowed choice flag = true
 
 -- and beside these -o of a library on -e, and -at on -aif or -bin
 abbrev pub is_allowed : Verb → Choice → Flag → Bool
-is_allowed Library chosen Output = is_the_mode Extract chosen.mode
-is_allowed Run chosen At = is_the_mode Aif chosen.mode || is_the_mode Bin chosen.mode
-is_allowed Link chosen flag = is_image_allowed chosen flag
-is_allowed Build chosen flag = is_image_allowed chosen flag
-is_allowed Report chosen flag = is_image_allowed chosen flag
-is_allowed verb chosen flag = true
+is_allowed Library choice Output = is_the_mode Extract choice.mode
+is_allowed Run choice At = is_the_mode Aif choice.mode || is_the_mode Bin choice.mode
+is_allowed Link choice flag = is_image_allowed choice flag
+is_allowed Build choice flag = is_image_allowed choice flag
+is_allowed Report choice flag = is_image_allowed choice flag
+is_allowed verb choice flag = true
 
 -- an option stands once, or sixteen times if it is of banks, and beside no other of which there is one
 abbrev pub is_surplus : Verb → List Item → Flag → Bool
@@ -231,16 +231,16 @@ name_is_good verb words before at = is_plain (word_at words at) && is_met (must_
 
 -- an item, with what all items choose and those before it
 abbrev pub role_fault : Verb → List (List ℕ) → Choice → List Item → ℕ → Role → Option ℕ
-role_fault verb words chosen before at Name =
-    if name_is_good verb words before at && is_below (name_count before) (most_names verb chosen.mode) then None else Some at
-role_fault verb words chosen before at Unknown = Some at
-role_fault verb words chosen before at (Known flag) =
-    if is_allowed verb chosen flag && not (is_surplus verb before flag) then values_fault verb flag words at else Some at
+role_fault verb words choice before at Name =
+    if name_is_good verb words before at && is_below (name_count before) (most_names verb choice.mode) then None else Some at
+role_fault verb words choice before at Unknown = Some at
+role_fault verb words choice before at (Known flag) =
+    if is_allowed verb choice flag && not (is_surplus verb before flag) then values_fault verb flag words at else Some at
 
 abbrev pub items_fault : Verb → List (List ℕ) → Choice → List Item → List Item → Option ℕ
-items_fault verb words chosen before [] = None
-items_fault verb words chosen before (i ∷ is) =
-    or_else (role_fault verb words chosen before i.at i.role) (items_fault verb words chosen (before ++ i ∷ []) is)
+items_fault verb words choice before [] = None
+items_fault verb words choice before (i ∷ is) =
+    or_else (role_fault verb words choice before i.at i.role) (items_fault verb words choice (before ++ i ∷ []) is)
 
 -- ---- names that differ
 
@@ -320,6 +320,6 @@ lesser (Some a) (Some b) = Some (min a b)
 -- the first word that breaks a rule behind a command, or the place of what is missing
 abbrev pub verb_fault : Verb → List (List ℕ) → List Item → Option ℕ
 verb_fault verb words items =
-    let chosen = choice_of verb items in
-    or_else (lesser (items_fault verb words chosen [] items) (names_fault verb chosen.mode words items))
-    (if is_complete verb chosen.mode items then None else Some (length words))
+    let choice = choice_of verb items in
+    or_else (lesser (items_fault verb words choice [] items) (names_fault verb choice.mode words items))
+    (if is_complete verb choice.mode items then None else Some (length words))
