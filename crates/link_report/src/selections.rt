@@ -228,7 +228,8 @@ fn add_best<'a>(
     let Some(key) = best_key(keys, home, area) else {
         return Ok(());
     };
-    add(taken, key)
+    add(taken, key)?;
+    Ok(())
 }
 
 fn add_areas<'a>(
@@ -313,7 +314,8 @@ fn push_unused(
     if is_there(taken, key_of(selection)) {
         return Ok(());
     }
-    push_line(alloc, out, region, selection)
+    push_line(alloc, out, region, selection)?;
+    Ok(())
 }
 
 fn push_region(
