@@ -34,7 +34,7 @@ use Rattle.tool_library.specs.declared.linkables.Linkable.{Linkable}
 use Rattle.sdt_toolkit.specs.Inputs.{Tells, archives_among, objects_among}
 use Rattle.sdt_toolkit.specs.Links.{IsRam, LinksTo}
 use Rattle.sdt_toolkit.specs.Plans.{ImagesArePlaced, IsDescribed, IsPlacedAs}
-use Rattle.sdt_toolkit.specs.Reports.{ReportIs, TellsPlan, report_as}
+use Rattle.sdt_toolkit.specs.Reports.{IsReport, ReportIs, TellsPlan, report_as}
 use Rattle.sdt_toolkit.specs.Starting.{AreSound}
 use Rattle.sdt_toolkit.proofs.ImageLemmas.{LinksSound}
 use Rattle.sdt_toolkit.proofs.SelectionLemmas.{ok_same, selected, steps_ok}
@@ -179,9 +179,24 @@ module _ (law : ImagesArePlaced) (text : List ℕ) (banks : Option (List Bank)) 
     refused = λ r is. links_refused f os (length (objects_among inputs)) r (e ∙ is);
   }
 
-  pub told_report : (f : LinkPlacement) (inputs : List (Named Linkable)) → IsBased f → LinksSound (objects_among inputs) (archives_among inputs) → (r : Result (List ℕ) Fault)
-      → Links (objects_among inputs) (archives_among inputs) (report_as f text ram (length (objects_among inputs))) r → Tells r (ReportIs f text banks inputs)
-  told_report f inputs based sound (Ok t) h = report_is f inputs h.0 (Ok t) based h.1 (sound h.0 h.1) h.2
-  told_report f inputs based sound (Err (fault.Refused r)) h = report_is f inputs h.0 (Err r) based h.1 (sound h.0 h.1) h.2
-  told_report f inputs based sound (Err (fault.ReadFault name)) h = h
-  told_report f inputs based sound (Err fault.NoMemory) h = tt
+  pub report_linked : (f : LinkPlacement) (inputs : List (Named Linkable)) (os : List (Named Object)) (x : Result (List ℕ) Refusal) → IsBased f
+      → LinksSound (objects_among inputs) (archives_among inputs) → AreLinked (objects_among inputs) (archives_among inputs) os
+      → x ≡ report_as f text ram (length (objects_among inputs)) os → ReportIs f text banks inputs x
+  report_linked f inputs os x based sound linked e = report_is f inputs os x based linked (sound os linked) (sym e)
+
+-- ---- what a call tells of it
+
+pub told_as : (objects : List (Named Object)) (archives : List (Named Archive)) (f : LinkPlacement) (text : List ℕ) (banks : Option (List Bank)) (ram : Option (List Range32))
+    → IsRam banks ram → (r : Result (List ℕ) Fault) → Links objects archives (report_as f text ram (length objects)) r → Tells r (IsReport objects archives f text banks)
+told_as objects archives f text banks ram told (Ok t) h = (h.0, h.1, ram, told, sym h.2)
+told_as objects archives f text banks ram told (Err (fault.Refused r)) h = (h.0, h.1, ram, told, sym h.2)
+told_as objects archives f text banks ram told (Err (fault.ReadFault name)) h = h
+told_as objects archives f text banks ram told (Err fault.NoMemory) h = tt
+
+module _ (law : ImagesArePlaced) (text : List ℕ) (banks : Option (List Bank)) (f : LinkPlacement) (inputs : List (Named Linkable)) (based : IsBased f)
+    (sound : LinksSound (objects_among inputs) (archives_among inputs)) where
+  pub told_report : (r : Result (List ℕ) Fault) → Tells r (IsReport (objects_among inputs) (archives_among inputs) f text banks) → Tells r (ReportIs f text banks inputs)
+  told_report (Ok t) (os, linked, ram, told, e) = report_linked law text banks ram told f inputs os (Ok t) based sound linked e
+  told_report (Err (fault.Refused r)) (os, linked, ram, told, e) = report_linked law text banks ram told f inputs os (Err r) based sound linked e
+  told_report (Err (fault.ReadFault name)) h = h
+  told_report (Err fault.NoMemory) h = tt
