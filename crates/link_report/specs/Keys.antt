@@ -1,5 +1,5 @@
 -- Selections found by their modules and by what they choose. This project's.
-use Rattle.std.specs.Prelude.{◌≡◌, ℕ, ◌==◌, ◌&&◌, Bool, true, false, if◌then◌else◌, List, Option, Some, None}
+use Rattle.std.specs.Prelude.{◌≡◌, ℕ, ◌<◌, ◌==◌, ◌&&◌, Bool, true, false, if◌then◌else◌, List, Option, Some, None}
 use Rattle.std.specs.Borrow.{Bor}
 use Rattle.std.specs.List.{list_any}
 use Rattle.std.specs.Option.{option_map}
@@ -89,6 +89,10 @@ AreSought offers ks = (q : Key) → has_key ks q ≡ list_any (λ o. is_alike o.
 -- a selection of a rank matches an area
 abbrev pub has_rank : List Offer → Item → ℕ → Bool
 has_rank offers i n = list_any (λ o. rank o.selection == n && matches o.selection i) offers
+
+-- no selection of a lesser rank does
+abbrev pub NoneBelow : List Offer → Item → ℕ → Type 0
+NoneBelow offers i n = (m : ℕ) → m < n → has_rank offers i m ≡ false
 
 -- those of the selections that took one of these areas
 abbrev pub AreTaken : List Offer → List Item → Keys → Type 0

@@ -1,11 +1,12 @@
 //! The selections of a description that took no area.
 
-ghost use Rattle.std.specs.Prelude.{◌≡◌, ◌++◌, ◌||◌, ℕ, List, OnOk, IfOk, true, false};
+ghost use Rattle.std.specs.Prelude.{◌≡◌, ◌++◌, ◌||◌, ℕ, List, OnOk, IfOk};
 ghost use Rattle.std.specs.List.{flat_map, list_any};
 ghost use Rattle.place_model.specs.Assignment.{Offer, offers_from};
 ghost use Rattle.place_model.specs.Items.{Item};
 ghost use Rattle.link_items.specs.LinkedItems.{item_of, items_in, items_of};
-ghost use Rattle.link_report.specs.Keys.{class_by, choice_in, has_key, has_rank, home_in, is_alike, is_key, same_key, selection_at, AreSought, AreTaken};
+ghost use Rattle.link_report.specs.Keys.{class_by, choice_in, has_key, home_in, is_alike, is_key, same_key, selection_at, AreSought, AreTaken, NoneBelow};
+ghost use Rattle.place_model.specs.declared.scatter.Choice.TheVariants as chosen;
 ghost use Rattle.link_report.specs.Selections as selections;
 ghost use Rattle.link_report.specs.Selections.{has_taken, takes_area};
 
@@ -138,53 +139,81 @@ fn sought_keys<'a>(
 
 // ---- the keys of those that took an area
 
-/// The key of the best selection of an area that has none of its module.
-fn best_anywhere<'a>(keys: &IndexSet<Key<'a>>, area: &'a Area) -> Option<Key<'a>>
+/// The key of selections of an area's name.
+fn named_key<'a>(home: Option<&'a [u8]>, area: &'a Area) -> Key<'a>
+    ensures home { home_in result.home ≡ home_in home.entry }
+    ensures sought { choice_in result.sought ≡ chosen.Named area.now.name }
+{
+    Key {
+        home,
+        sought: Sought::Named(area.name.as_slice()),
+    }
+}
+
+/// The key of selections of an area's class.
+fn class_key<'a>(home: Option<&'a [u8]>, area: &Area) -> Key<'a>
+    ensures home { home_in result.home ≡ home_in home.entry }
+    ensures sought { choice_in result.sought ≡ class_by area.now.attributes }
+{
+    Key {
+        home,
+        sought: class_of(area),
+    }
+}
+
+/// The key of the best selection of an area, where it is that of its class.
+fn class_anywhere<'a>(keys: &IndexSet<Key<'a>>, area: &'a Area) -> Option<Key<'a>>
     ensures { (offers : List Offer) → AreSought offers keys.now → (q : Key) (object number : ℕ) (home : List ℕ)
-        → has_rank offers (item_of object home number area.now) 0 ≡ false → has_rank offers (item_of object home number area.now) 1 ≡ false
+        → NoneBelow offers (item_of object home number area.now) 3
         → is_key q result ≡ takes_area offers (selection_at q) (item_of object home number area.now) }
 {
-    let named = Key {
-        home: None,
-        sought: Sought::Named(area.name.as_slice()),
-    };
-    if is_there(keys, named) {
-        return Some(named);
-    }
-    let classed = Key {
-        home: None,
-        sought: class_of(area),
-    };
-    if is_there(keys, classed) {
-        return Some(classed);
+    let key = class_key(None, area);
+    if is_there(keys, key) {
+        return Some(key);
     }
     None
 }
 
-/// The key of the best selection of an area of a module.
-fn best_key<'a>(
+/// Where none names its module.
+fn best_anywhere<'a>(keys: &IndexSet<Key<'a>>, area: &'a Area) -> Option<Key<'a>>
+    ensures { (offers : List Offer) → AreSought offers keys.now → (q : Key) (object number : ℕ) (home : List ℕ)
+        → NoneBelow offers (item_of object home number area.now) 2
+        → is_key q result ≡ takes_area offers (selection_at q) (item_of object home number area.now) }
+{
+    let key = named_key(None, area);
+    if is_there(keys, key) {
+        return Some(key);
+    }
+    class_anywhere(keys, area)
+}
+
+/// Where none names its module and its name.
+fn class_in_module<'a>(
     keys: &IndexSet<Key<'a>>,
     home: &'a [u8],
     area: &'a Area,
 ) -> Option<Key<'a>>
     ensures { (offers : List Offer) → AreSought offers keys.now → (q : Key) (object number : ℕ)
+        → NoneBelow offers (item_of object home.now number area.now) 1
         → is_key q result ≡ takes_area offers (selection_at q) (item_of object home.now number area.now) }
 {
-    let named = Key {
-        home: Some(home),
-        sought: Sought::Named(area.name.as_slice()),
-    };
-    if is_there(keys, named) {
-        return Some(named);
-    }
-    let classed = Key {
-        home: Some(home),
-        sought: class_of(area),
-    };
-    if is_there(keys, classed) {
-        return Some(classed);
+    let key = class_key(Some(home), area);
+    if is_there(keys, key) {
+        return Some(key);
     }
     best_anywhere(keys, area)
+}
+
+/// The key of the best selection of an area of a module.
+fn best_key<'a>(keys: &IndexSet<Key<'a>>, home: &'a [u8], area: &'a Area) -> Option<Key<'a>>
+    ensures { (offers : List Offer) → AreSought offers keys.now → (q : Key) (object number : ℕ)
+        → is_key q result ≡ takes_area offers (selection_at q) (item_of object home.now number area.now) }
+{
+    let key = named_key(Some(home), area);
+    if is_there(keys, key) {
+        return Some(key);
+    }
+    class_in_module(keys, home, area)
 }
 
 fn add_best<'a>(
@@ -199,7 +228,8 @@ fn add_best<'a>(
     let Some(key) = best_key(keys, home, area) else {
         return Ok(());
     };
-    add(taken, key)
+    add(taken, key)?;
+    Ok(())
 }
 
 fn add_areas<'a>(
@@ -284,7 +314,8 @@ fn push_unused(
     if is_there(taken, key_of(selection)) {
         return Ok(());
     }
-    push_line(alloc, out, region, selection)
+    push_line(alloc, out, region, selection)?;
+    Ok(())
 }
 
 fn push_region(

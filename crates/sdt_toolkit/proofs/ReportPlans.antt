@@ -1,13 +1,11 @@
 -- The text of a report tells of the plan by which the image is placed, and a report is refused as that image is.
-use Rattle.std.proofs.Common.{◌≡◌, ℕ, Bool, List, length, Option, Some, None, Result, Ok, Err, refl, sym, ap, ◌∙◌, subst}
-use Rattle.std.specs.Prelude.{slice_get}
+use Rattle.std.proofs.Common.{◌≡◌, ℕ, List, length, Option, Some, None, Result, Ok, Err, refl, sym, ap, ◌∙◌, subst}
 use Rattle.sdt_word.specs.declared.ranges.Range32.{Range32}
 use Rattle.sdt_fault.specs.declared.answer.Fault.{Fault}
 use Rattle.sdt_fault.specs.declared.answer.Fault.TheVariants as fault
 use Rattle.sdt_fault.specs.declared.refusal.Refusal.{Refusal}
 use Rattle.chunk_file.specs.Reading.{◌>>=◌, Gives}
 use Rattle.alf_archive.specs.declared.records.Archive.{Archive}
-use Rattle.aof_object.specs.declared.records.Entry.{Entry}
 use Rattle.aof_object.specs.declared.records.Object.{Object}
 use Rattle.boot_code.specs.Boots.{ByteMap}
 use Rattle.place_model.specs.declared.scatter.Kind.{Kind}
@@ -15,29 +13,16 @@ use Rattle.place_model.specs.declared.scatter.Kind.TheVariants as kind
 use Rattle.place_model.specs.declared.scatter.Scatter.{Scatter}
 use Rattle.scatter_text.specs.Reading.{scatter_of}
 use Rattle.link_model.specs.declared.images.Image.{Image}
-use Rattle.link_model.specs.declared.placing.Assigned.{Assigned}
 use Rattle.link_model.specs.declared.placing.Placement.{Placement}
-use Rattle.link_model.specs.declared.placing.Veneer.{Veneer}
-use Rattle.link_model.specs.declared.selection.Definition.{Definition}
 use Rattle.link_model.specs.declared.selection.Linked.{Linked}
-use Rattle.link_model.specs.declared.selection.LinkedEntry.{LinkedEntry}
 use Rattle.link_model.specs.declared.selection.Named.{Named}
 use Rattle.link_model.specs.Chosen.{AreLinked}
-use Rattle.link_model.specs.Definitions.{definitions_from, is_thumb}
-use Rattle.link_model.specs.Members.{objects_in}
-use Rattle.link_items.specs.LinkedItems.{contents_of, has_header}
-use Rattle.link_assign.specs.Assigning.{assignment_of}
-use Rattle.link_veneer.specs.Planning.{planned_veneers}
-use Rattle.link_place.specs.Placed.{placed}
-use Rattle.link_apply.specs.Applied.{applied}
 use Rattle.link_select.specs.Selection.{selection_of}
-use Rattle.link_laws.specs.Joins.{IsMade}
-use Rattle.link_laws.specs.Plans.{IsSelection}
 use Rattle.link_report.specs.Reports.{report_text}
 use Rattle.armlink_core.specs.declared.making.PlacedImage.{PlacedImage}
 use Rattle.armlink_core.specs.declared.placing.PlacedLink.{PlacedLink}
 use Rattle.armlink_core.specs.Images.{Links, described, image_made, image_of, linking}
-use Rattle.armlink_core.specs.Linking.{made_at, made_of, made_with, symbols_of}
+use Rattle.armlink_core.specs.Linking.{made_of, symbols_of}
 use Rattle.armlink_core.specs.Moves.{moves_in}
 use Rattle.armlink_core.specs.Placing.{as_link, placed_by, placed_link, placing}
 use Rattle.armlink_core.specs.Reports.{report_made, report_of, text_of}
@@ -49,10 +34,11 @@ use Rattle.tool_library.specs.declared.linkables.Linkable.{Linkable}
 use Rattle.sdt_toolkit.specs.Inputs.{Tells, archives_among, objects_among}
 use Rattle.sdt_toolkit.specs.Links.{IsRam, LinksTo}
 use Rattle.sdt_toolkit.specs.Plans.{ImagesArePlaced, IsDescribed, IsPlacedAs}
-use Rattle.sdt_toolkit.specs.Reports.{ReportIs, TellsPlan, report_as}
+use Rattle.sdt_toolkit.specs.Reports.{IsReport, ReportIs, TellsPlan, report_as}
 use Rattle.sdt_toolkit.specs.Starting.{AreSound}
 use Rattle.sdt_toolkit.proofs.ImageLemmas.{LinksSound}
 use Rattle.sdt_toolkit.proofs.SelectionLemmas.{ok_same, selected, steps_ok}
+use Rattle.sdt_toolkit.proofs.TableLemmas.{same_link, same_made}
 
 err_same : {A B : Type 0} (q r : Refusal) → ◌≡◌ {A = Result A Refusal} (Err q) (Err r) → ◌≡◌ {A = Result B Refusal} (Err q) (Err r)
 err_same q r h = let same : q ≡ r = cc in ap (λ (e : Refusal). Err e) same
@@ -77,71 +63,6 @@ module _ (objects : List (Named Object)) (archives : List (Named Archive)) (f : 
   unplaced (fault.Refused r) is = (is.0, is.1, ap (λ (x : Result PlacedLink Refusal). x >>= report_made given) is.2)
   unplaced (fault.ReadFault name) is = is
   unplaced fault.NoMemory is = tt
-
--- ---- objects are selected as one link
-
-abbrev entered_at : ℕ → ℕ → ℕ → Bool → LinkedEntry
-entered_at object area offset thumb = record { object = object; area = area; offset = offset; thumb = thumb }
-
-same_entries : (o p a b x y : ℕ) (s t : Bool) → o ≡ p → a ≡ b → x ≡ y → s ≡ t → entered_at o a x s ≡ entered_at p b y t
-same_entries o p a b x y s t e f g h = rw (e, f, g, h) refl
-
-abbrev linked_of : List (Named Object) → List Definition → LinkedEntry → Linked
-linked_of os ds e = record { objects = os; definitions = ds; entry = e }
-
-same_links : (os ps : List (Named Object)) (ds fs : List Definition) (e f : LinkedEntry) → os ≡ ps → ds ≡ fs → e ≡ f → linked_of os ds e ≡ linked_of ps fs f
-same_links os ps ds fs e f g h k = rw (g, h, k) refl
-
-abbrev entry_at : ℕ → ℕ → Entry
-entry_at area offset = record { area = area; offset = offset }
-
-module _ (l m : Linked) (h : IsSelection l) (k : IsSelection m) (objects : l.objects ≡ m.objects) where
-  there : slice_get m.objects l.entry.object ≡ Some h.entered.object
-  there = subst (λ (os : List (Named Object)). slice_get os l.entry.object ≡ Some h.entered.object) objects h.entered.at
-
-  same_place : l.entry.object ≡ m.entry.object
-  same_place = k.only l.entry.object h.entered.object (entry_at l.entry.area l.entry.offset) there h.entered.entry
-
-  same_object : h.entered.object ≡ k.entered.object
-  same_object =
-      let one : slice_get m.objects m.entry.object ≡ Some h.entered.object = subst (λ (n : ℕ). slice_get m.objects n ≡ Some h.entered.object) same_place there in
-      let both : Some h.entered.object ≡ Some k.entered.object = sym one ∙ k.entered.at in cc
-
-  same_at : entry_at l.entry.area l.entry.offset ≡ entry_at m.entry.area m.entry.offset
-  same_at =
-      let both : Some (entry_at l.entry.area l.entry.offset) ≡ Some (entry_at m.entry.area m.entry.offset) =
-      sym h.entered.entry ∙ (ap (λ (o : Named Object). o.value.entry) same_object ∙ k.entered.entry) in cc
-
-  same_area : l.entry.area ≡ m.entry.area
-  same_area = ap (λ (e : Entry). e.area) same_at
-
-  same_state : l.entry.thumb ≡ m.entry.thumb
-  same_state =
-      h.entered.state ∙ (ap (λ (o : Named Object). is_thumb (slice_get o.value.areas l.entry.area)) same_object
-      ∙ (ap (λ (n : ℕ). is_thumb (slice_get k.entered.object.value.areas n)) same_area ∙ sym k.entered.state))
-
-  same_link : l ≡ m
-  same_link =
-      same_links l.objects m.objects l.definitions m.definitions l.entry m.entry objects
-      (h.definitions ∙ (ap (λ (os : List (Named Object)). definitions_from 0 (objects_in os)) objects ∙ sym k.definitions))
-      (same_entries l.entry.object m.entry.object l.entry.area m.entry.area l.entry.offset m.entry.offset l.entry.thumb m.entry.thumb same_place same_area
-      (ap (λ (e : Entry). e.offset) same_at) same_state)
-
--- ---- and made with one placement
-
-module _ (k : Kind) (ram : Option (List Range32)) (l : Linked) (a : Assigned) (vs : List Veneer) (p : Placement) (h : IsMade k ram l a vs p) where
-  made_there : made_of k ram l ≡ made_at l a vs p
-  made_there =
-      ap (λ (x : Result Assigned Refusal). x >>= made_with k ram l) h.assigned
-      ∙ (ap (λ (x : Result (List Veneer) Refusal). x >>= λ ws. placed k ram (contents_of l.objects a.regions ws) >>= made_at l a ws) h.planned
-      ∙ ap (λ (x : Result Placement Refusal). x >>= made_at l a vs) h.placed)
-
-  same_made : (m : PlacedImage) → made_of k ram l ≡ Ok m → (l ≡ m.linked) × (p ≡ m.placement)
-  same_made m made =
-      let (bytes, applies, is) = steps_ok (applied l p) (λ bytes. Ok (record { linked = l; assigned = a; veneers = vs; placement = p; bytes = bytes })) m (sym made_there ∙ made) in
-      let one : PlacedImage = record { linked = l; assigned = a; veneers = vs; placement = p; bytes = bytes } in
-      let same : one ≡ m = ok_same one m is in
-      (ap (λ (n : PlacedImage). n.linked) same, ap (λ (n : PlacedImage). n.placement) same)
 
 -- ---- the report of a form
 
@@ -258,9 +179,24 @@ module _ (law : ImagesArePlaced) (text : List ℕ) (banks : Option (List Bank)) 
     refused = λ r is. links_refused f os (length (objects_among inputs)) r (e ∙ is);
   }
 
-  pub told_report : (f : LinkPlacement) (inputs : List (Named Linkable)) → IsBased f → LinksSound (objects_among inputs) (archives_among inputs) → (r : Result (List ℕ) Fault)
-      → Links (objects_among inputs) (archives_among inputs) (report_as f text ram (length (objects_among inputs))) r → Tells r (ReportIs f text banks inputs)
-  told_report f inputs based sound (Ok t) h = report_is f inputs h.0 (Ok t) based h.1 (sound h.0 h.1) h.2
-  told_report f inputs based sound (Err (fault.Refused r)) h = report_is f inputs h.0 (Err r) based h.1 (sound h.0 h.1) h.2
-  told_report f inputs based sound (Err (fault.ReadFault name)) h = h
-  told_report f inputs based sound (Err fault.NoMemory) h = tt
+  pub report_linked : (f : LinkPlacement) (inputs : List (Named Linkable)) (os : List (Named Object)) (x : Result (List ℕ) Refusal) → IsBased f
+      → LinksSound (objects_among inputs) (archives_among inputs) → AreLinked (objects_among inputs) (archives_among inputs) os
+      → x ≡ report_as f text ram (length (objects_among inputs)) os → ReportIs f text banks inputs x
+  report_linked f inputs os x based sound linked e = report_is f inputs os x based linked (sound os linked) (sym e)
+
+-- ---- what a call tells of it
+
+pub told_as : (objects : List (Named Object)) (archives : List (Named Archive)) (f : LinkPlacement) (text : List ℕ) (banks : Option (List Bank)) (ram : Option (List Range32))
+    → IsRam banks ram → (r : Result (List ℕ) Fault) → Links objects archives (report_as f text ram (length objects)) r → Tells r (IsReport objects archives f text banks)
+told_as objects archives f text banks ram told (Ok t) h = (h.0, h.1, ram, told, sym h.2)
+told_as objects archives f text banks ram told (Err (fault.Refused r)) h = (h.0, h.1, ram, told, sym h.2)
+told_as objects archives f text banks ram told (Err (fault.ReadFault name)) h = h
+told_as objects archives f text banks ram told (Err fault.NoMemory) h = tt
+
+module _ (law : ImagesArePlaced) (text : List ℕ) (banks : Option (List Bank)) (f : LinkPlacement) (inputs : List (Named Linkable)) (based : IsBased f)
+    (sound : LinksSound (objects_among inputs) (archives_among inputs)) where
+  pub told_report : (r : Result (List ℕ) Fault) → Tells r (IsReport (objects_among inputs) (archives_among inputs) f text banks) → Tells r (ReportIs f text banks inputs)
+  told_report (Ok t) (os, linked, ram, told, e) = report_linked law text banks ram told f inputs os (Ok t) based sound linked e
+  told_report (Err (fault.Refused r)) (os, linked, ram, told, e) = report_linked law text banks ram told f inputs os (Err r) based sound linked e
+  told_report (Err (fault.ReadFault name)) h = h
+  told_report (Err fault.NoMemory) h = tt

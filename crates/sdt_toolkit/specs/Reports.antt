@@ -10,6 +10,7 @@ use Rattle.sdt_outside.specs.Counts.{Rose}
 use Rattle.sdt_outside.specs.Files.{Files}
 use Rattle.chunk_file.specs.Reading.{◌>>=◌}
 use Rattle.aof_object.specs.declared.records.Object.{Object}
+use Rattle.alf_archive.specs.declared.records.Archive.{Archive}
 use Rattle.link_model.specs.declared.images.Image.{Image}
 use Rattle.link_model.specs.declared.selection.Named.{Named}
 use Rattle.link_model.specs.Chosen.{AreLinked}
@@ -39,6 +40,12 @@ placed_as (placement.Plain base) text ram os = placed_link (kind.Plain base) Non
 
 abbrev pub report_as : LinkPlacement → List ℕ → Option (List Range32) → ℕ → List (Named Object) → Result (List ℕ) Refusal
 report_as f text ram given os = placed_as f text ram os >>= report_made given
+
+-- of objects that are linked of these, which are so many
+abbrev pub IsReport : List (Named Object) → List (Named Archive) → LinkPlacement → List ℕ → Option (List Bank) → Result (List ℕ) Refusal → Type 0
+IsReport objects archives f text banks report =
+    (os : List (Named Object)) × AreLinked objects archives os × (ram : Option (List Range32)) × IsRam banks ram
+    × (report ≡ report_as f text ram (length objects) os)
 
 -- a text tells of the plan by which the image of these objects is placed; so many of them as are given are inputs
 pub record TellsPlan (f : LinkPlacement) (text : List ℕ) (banks : Option (List Bank)) (os : List (Named Object)) (given : ℕ)

@@ -11,7 +11,7 @@ ghost use Rattle.sdt_toolkit.specs.Inputs.{AreValid, IsGot, Tells};
 ghost use Rattle.sdt_toolkit.specs.Links.{inputs_in, read_by};
 ghost use Rattle.sdt_toolkit.specs.Reads.{Told, outside_of};
 ghost use Rattle.sdt_toolkit.specs.Reports as reports;
-ghost use Rattle.sdt_toolkit.specs.Reports.{InputsReport, ReportAnswers, ReportIs, Reports};
+ghost use Rattle.sdt_toolkit.specs.Reports.{InputsReport, IsReport, ReportAnswers, ReportIs, Reports};
 
 use crate::images::{Parts, parts_of};
 use crate::inputs::{files_in, inputs_in, inputs_of, text_in};
@@ -82,6 +82,27 @@ fn report_as(
     }
 }
 
+fn report_within(
+    alloc: Global,
+    parts: Parts,
+    placement: &LinkPlacement,
+    text: &[u8],
+    ram: &Option<List<Bank>>,
+) -> Result<Text, Fault>
+    requires objects { AllByRecursion (λ o. IsValid o.value) parts.objects.items }
+    requires archives { AllByRecursion (λ a. IsValidArchive a.value) parts.archives.items }
+    requires banks { AreBanks ram.now }
+    ensures { Tells result (IsReport parts.objects.items parts.archives.items placement.now text.now ram.now) }
+{
+    match ram {
+        None => report_as(alloc, parts, placement, text, None),
+        Some(banks) => {
+            let ranges = ranges(alloc, banks.as_slice())?;
+            report_as(alloc, parts, placement, text, Some(ranges.as_slice()))
+        }
+    }
+}
+
 /// The report of inputs by a placement. `text` is the scatter file's.
 fn report_of(
     alloc: Global,
@@ -99,13 +120,7 @@ fn report_of(
     images_start();
     objects_fit(parts.objects.as_slice());
     archives_fit(parts.archives.as_slice());
-    match ram {
-        None => report_as(alloc, parts, placement, text, None),
-        Some(banks) => {
-            let ranges = ranges(alloc, banks.as_slice())?;
-            report_as(alloc, parts, placement, text, Some(ranges.as_slice()))
-        }
-    }
+    report_within(alloc, parts, placement, text, ram)
 }
 
 // ---- the command
