@@ -91,13 +91,13 @@ fn linked(alloc: Global, name: &Text, count: u32) -> Result<WithImage, Fault>
     ensures memory { IfErr result (λ e. e ≡ fault.NoMemory) }
 {
     big_law();
-    let WithObject { source, object } = assembled(alloc, name, count)?;
-    let words = first_words(object.value.areas.as_slice());
+    let parts = assembled(alloc, name, count)?;
+    let words = first_words(parts.object.value.areas.as_slice());
     let mut objects = Vec::new(alloc);
-    objects.push(object)?;
+    objects.push(parts.object)?;
     let image = link_scatter(alloc, objects, Vec::new(alloc), DESCRIPTION, None)?;
     Ok(WithImage {
-        source,
+        source: parts.source,
         words,
         image,
     })
@@ -194,15 +194,11 @@ pub fn build_program(alloc: Global, name: &Text, count: u32) -> Result<Program, 
     ensures memory { IfErr result (λ e. e ≡ fault.NoMemory) }
 {
     big_law();
-    let WithImage {
-        source,
-        words,
-        image,
-    } = linked(alloc, name, count)?;
-    let image = run_image(alloc, image)?;
+    let parts = linked(alloc, name, count)?;
+    let image = run_image(alloc, parts.image)?;
     Ok(Program {
-        source,
-        words,
+        source: parts.source,
+        words: parts.words,
         image,
     })
 }
