@@ -76,7 +76,7 @@ apart_more : (out : List ℕ) (before : List Piece) (l : LoadRegion) (ls : List 
 apart_more out before l [] h apart = tt
 apart_more out before l (m ∷ ms) h apart = (
   all_append (hex.AreApart (piece_of (load_of m))) before (piece_of (load_of l) ∷ []) h.0
-  ((λ a in_m in_l. apart.0 a (parts_of a (piece_of (load_of l)) in_l) (parts_of a (piece_of (load_of m)) in_m)), tt),
+      ((λ a in_m in_l. apart.0 a (parts_of a (piece_of (load_of l)) in_l) (parts_of a (piece_of (load_of m)) in_m)), tt),
   apart_more out before l ms h.1 apart.1,
 )
 
@@ -187,8 +187,7 @@ linked_burns law ihex srec records file output o answers sources w description b
     let by_name = subst (λ (name : List ℕ). IsRead (Some left) (Rose o.reads o.reads_now) (image.Map name) answers.read) by_map by_files in
     let is = law i w.output left o.reads o.reads_now answers.read filed (stand before (load_files i w.output) (can.named w.output)) by_name in
     let (out, asks, wrote, got) = answers.says in
-    let one = burnt_text records (run_image i) output out (ap (asked_by records output) (sym is) ∙ asks) in
-    (
+    let one = burnt_text records (run_image i) output out (ap (asked_by records output) (sym is) ∙ asks) in (
       text_of records (burn_in (run_image i)),
       one_written o.before o.after output (text_of records (burn_in (run_image i))) (subst (λ (x : Outcome). AreWritten o.before o.after x.files) one wrote),
       is_text records i (views i.start) ihex srec (is_burn i w.output filed.map can.bytes) boots,

@@ -106,11 +106,7 @@ fn read_elf_file<S: Store>(alloc: Global, store: &mut S, file: &Text) -> Result<
     }
 }
 
-fn read_burned_file<S: Store>(
-    alloc: Global,
-    store: &mut S,
-    file: &Text,
-) -> Result<Image, ImageEnd>
+fn read_burned_file<S: Store>(alloc: Global, store: &mut S, file: &Text) -> Result<Image, ImageEnd>
     ensures read { let told = S.files store.old in let rose = Rose (S.read_faults store.old) (S.read_faults store.new) in
         Reads (IsRead told rose (image.Burned file.now)) rose (IsInput told (image.Burned file.now)) result }
     ensures needed { IfOk result (λ image. AreNeeded image) }
@@ -173,8 +169,8 @@ fn read_mapped<S: Store>(alloc: Global, store: &mut S, file: &Text) -> Result<Im
 }
 
 /// The image that the words of a run name. Of an ARM image file the header is judged, and then where it may stand; an
-/// ELF executable is judged whole, and a text of records line by line. A map is read first, then its load files in their order, and then their lengths are judged. A load file whose name has a
-/// zero byte is missing.
+/// ELF executable is judged whole, and a text of records line by line. A map is read first, then its load files in their
+/// order, and then their lengths are judged. A load file whose name has a zero byte is missing.
 pub fn read_image<S: Store>(
     alloc: Global,
     store: &mut S,
