@@ -109,7 +109,7 @@ run_ends run o seats left answer.Done h = tt
 run_ends run o seats left (answer.Refused r) h = ((h.read, h.read_so, h.says.0), h.says.1)
 run_ends run o seats left (answer.ReadFault q) h = (h.says.0, h.says.2)
 run_ends run o seats left (answer.WriteFault q) h = absurd h.says
-run_ends run o seats left answer.SinkFault h = h.says.ran.is_run.runs.1.0
+run_ends run o seats left answer.SinkFault h = h.says.ran.is_run.runs.chokes.counted
 run_ends run o seats left (answer.Stopped why) h = refl
 run_ends run o seats left answer.NoMemory h = tt
 

@@ -1,13 +1,11 @@
 -- What the top call tells of runs: how those of a linked image start, and by which steps each runs.
 use Rattle.std.proofs.Common.{◌≡◌, ℕ, Bool, true, false, List, length, Option, Result, Ok, refl, sym, ap, subst, ◌∙◌}
-use Rattle.std.specs.Prelude.{MatchBool}
 use Rattle.sdt_fault.specs.declared.answer.Answer.{Answer}
 use Rattle.sdt_fault.specs.declared.answer.Answer.TheVariants as answer
 use Rattle.sdt_fault.specs.declared.answer.Stop.{Stop}
 use Rattle.sdt_fault.specs.declared.answer.Stop.TheVariants as stop
 use Rattle.sdt_fault.specs.declared.refusal.Refusal.{Refusal}
 use Rattle.sdt_outside.specs.Counts.{Rose}
-use Rattle.sdt_outside.specs.Sinks.{Got, GotPart}
 use Rattle.arm7_model.specs.declared.state.ArmState.{ArmState}
 use Rattle.arm7_model.specs.Outcomes.{Stepped}
 use Rattle.arm7_model.specs.Runs.{EachStep, accesses_of}
@@ -16,6 +14,7 @@ use Rattle.arm7_bus.specs.Seats.{Seat}
 use Rattle.arm7_bus.specs.States.{State}
 use Rattle.arm7_bus.specs.WholeWords.{AreWholeBanks, AreWholeSeats}
 use Rattle.arm7_run.specs.Runs.{Runs, is_sink}
+use Rattle.arm7_run.proofs.ChokeLemmas.{EndedBy, ended_by}
 use Rattle.arm7_transfers.specs.Boards.{board_of}
 use Rattle.arm7_transfers.specs.Ready.{IsReady}
 use Rattle.run_laws.specs.Devices.{AreOffDevices, ticked_for, touches_of}
@@ -58,9 +57,9 @@ steps_of most core s why made text core' s' ready run =
 
 -- those of a run whose sink failed are the steps that were made
 steps_by : (most : ℕ) (core : ArmState) (s : State) (why : Stop) (made : ℕ) (text : List ℕ) (core' : ArmState) (s' : State) (before after : Option (List ℕ)) (rose : Type 0) (b : Bool) → is_sink why ≡ b → IsReady s
-    → MatchBool b (rose × Runs made core s stop.Budget made text core' s' × GotPart before after text) (Runs most core s why made text core' s' × Got before after text) → AreStepsOf core s why made core' s'
-steps_by most core s why made text core' s' before after rose true e ready (faulty, run, got) =
-    let x = steps_of made core s stop.Budget made text core' s' ready run in
+    → EndedBy b most core s why made text core' s' before after rose → AreStepsOf core s why made core' s'
+steps_by most core s why made text core' s' before after rose true e ready c =
+    let x = steps_of made core s stop.Budget made text core' s' ready c.runs in
     record { steps = x.steps; count = x.count ∙ sink_made why made e; are = x.are; idle = x.idle }
 steps_by most core s why made text core' s' before after rose false e ready (run, got) = steps_of most core s why made text core' s' ready run
 
@@ -76,7 +75,8 @@ module _ (banks : List MemoryBank) (whole : AreWholeBanks banks) (i : Image) (mo
   by_steps ran =
       let run = ran.is_run in
       let s = ran.begin in
-      let x = steps_by most run.core s why run.made run.runs.0 run.core' run.end before after rose (is_sink why) refl (ready s ran.roomy ran.opening) run.runs.1 in
+      let (text, ended) = ended_by most run.core s why run.made run.core' run.end before after rose run.runs in
+      let x = steps_by most run.core s why run.made text run.core' run.end before after rose (is_sink why) refl (ready s ran.roomy ran.opening) ended in
       let same : s.devices ≡ seats = ran.opening.devices in
       record {
         ran = ran;

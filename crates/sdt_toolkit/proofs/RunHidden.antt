@@ -16,7 +16,6 @@ use Rattle.arm7_bus.specs.declared.memory.Bank.{Bank}
 use Rattle.arm7_bus.specs.Seats.{Seat}
 use Rattle.arm7_bus.specs.States.{State, protected_at}
 use Rattle.arm7_transfers.specs.Boards.{board_of, over}
-use Rattle.arm7_run.specs.Runs.{Runs}
 use Rattle.arm7_transfers.proofs.ReadyLemmas.{board-same, ready-same}
 use Rattle.boot_code.specs.Boots.{AreOrdinary, ByteMap}
 use Rattle.patch_model.specs.Fields.{Values}
@@ -170,8 +169,7 @@ module _ (law : StartedExitsAlike) (i : Image) (view : ByteMap) (banks : List Ba
       let run = ran.is_run in
       let o : IsOpened i (written_in i) t = opened i (written_in i) banks seats t ran.roomy may.allow ran.opening in
       let (steps, p) = startup o r run.core run.reset in
-      let (text, ended) = run.runs in
-      let runs : Runs most run.core t stop.Exit run.made text run.core' run.end = ended.0 in
+      let (text, runs, got) = run.runs in
       let has_t : has_word t.devices ack ≡ true = subst (λ (ds : List Seat). has_word ds ack ≡ true) (sym ran.opening.devices) has in
       let free_t = λ (k : ℕ) (lt : k < 12). subst (λ (bs : List Bank). protected_at bs (work + k) ≡ false) (sym ran.opening.banks_are) (may.free k lt) in
       let board : board_of q ≡ board_of t = board-same t q (same_places t) in
@@ -196,7 +194,7 @@ module _ (law : StartedExitsAlike) (i : Image) (view : ByteMap) (banks : List Ba
             stores = ran.opening.stores;
             devices = ap silenced ran.opening.devices;
           };
-          is_run = record { core = run.core; reset = run.reset; made = made; few = (let most_made = run.few in omega (arith, fewer, most_made)); core' = core; end = end; runs = (text, (silent, ended.1)); devices = refl {a = end.devices} };
+          is_run = record { core = run.core; reset = run.reset; made = made; few = (let most_made = run.few in omega (arith, fewer, most_made)); core' = core; end = end; runs = (text, silent, got); devices = refl {a = end.devices} };
         },
       )
 

@@ -26,6 +26,7 @@ use Rattle.arm7_bus.specs.States.{State}
 use Rattle.arm7_bus.specs.WholeWords.{AreWholeBanks, AreWholeSeats, IsWhole}
 use Rattle.arm7_core.specs.Resets.{IsReset}
 use Rattle.arm7_run.specs.Runs.{Runs, is_sink}
+use Rattle.arm7_run.proofs.ChokeLemmas.{ended_by}
 use Rattle.arm7_transfers.specs.Boards.{over}
 use Rattle.arm7_transfers.specs.Ready.{IsReady}
 use Rattle.run_laws.specs.Laws.{BusRunIsOne}
@@ -239,8 +240,8 @@ module _ (law : BusRunIsOne) (banks : List MemoryBank) (whole : AreWholeBanks ba
   ran_once : (why why' : Stop) (after after' : Option (List ℕ)) (rose rose' : Type 0) (left left' : List Seat) → is_sink why ≡ false → is_sink why' ≡ false
       → Ran banks i most why (Some printed) after rose seats left → Ran banks i most why' (Some printed) after' rose' seats left' → (why ≡ why') × (left ≡ left') × (after ≡ after')
   ran_once why why' after after' rose rose' left left' e e' x y =
-      let (text, ended) = x.is_run.runs in
-      let (text', ended') = y.is_run.runs in
+      let (text, ended) = ended_by most x.is_run.core x.begin why x.is_run.made x.is_run.core' x.is_run.end (Some printed) after rose x.is_run.runs in
+      let (text', ended') = ended_by most y.is_run.core y.begin why' y.is_run.made y.is_run.core' y.is_run.end (Some printed) after' rose' y.is_run.runs in
       let (run, got) = unsunk (is_sink why) _ _ e ended in
       let (run', got') = unsunk (is_sink why') _ _ e' ended' in
       let core = reset_once i.start i.thumb y.is_run.core x.is_run.core y.is_run.reset x.is_run.reset in

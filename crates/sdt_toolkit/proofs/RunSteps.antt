@@ -1,9 +1,9 @@
 -- A run of an image, and the startup's steps at its beginning.
 use Rattle.std.proofs.Common.{◌≡◌, ℕ, ◌+◌, ◌<◌, ◌≤◌, Bool, true, false, cond, List, [], ◌∷◌, ◌++◌, length, take, drop, Option, refl, sym, ap, ◌∙◌, subst, arith, ◌⊎◌, inl, inr}
-use Rattle.std.specs.Prelude.{MatchBool}
 use Rattle.std.proofs.lemmas.List.{take-append-drop}
 use Rattle.sdt_fault.specs.declared.answer.Stop.{Stop}
 use Rattle.sdt_fault.specs.declared.answer.Stop.TheVariants as stop
+use Rattle.sdt_outside.specs.Counts.{Rose}
 use Rattle.sdt_outside.specs.Sinks.{Got, GotPart}
 use Rattle.arm7_model.specs.declared.state.ArmState.{ArmState}
 use Rattle.arm7_model.specs.Outcomes.{Stepped}
@@ -13,6 +13,7 @@ use Rattle.arm7_model.proofs.MemoryLemmas.{below_or_not}
 use Rattle.arm7_bus.specs.States.{State}
 use Rattle.arm7_core.specs.Resets.{IsReset}
 use Rattle.arm7_run.specs.Runs.{EndsWith, Leads, Runs, is_sink}
+use Rattle.arm7_run.proofs.ChokeLemmas.{EndedBy, ended_by}
 use Rattle.arm7_transfers.specs.Boards.{board_of, over}
 use Rattle.boot_code.specs.Boots.{ByteMap}
 use Rattle.link_model.specs.declared.images.Image.{Image}
@@ -140,19 +141,19 @@ module _ (one : BusRunIsOne) (once : MadeStepsAreOne) {i : Image} {view : ByteMa
 
   module _ (most : ℕ) (why : Stop) (made : ℕ) (text : List ℕ) (core' : ArmState) (s' : State) (before after : Option (List ℕ)) (rose : Type 0) where
     abbrev Ended : Bool → Type 0
-    Ended b = MatchBool b (rose × Runs made core s stop.Budget made text core' s' × GotPart before after text) (Runs most core s why made text core' s' × Got before after text)
+    Ended b = EndedBy b most core s why made text core' s' before after rose
 
     short_by : (b : Bool) → is_sink why ≡ b → Ended b → cond b made most ≤ length steps → IsShort why (cond b made most) made core s core' s' before after steps
-    short_by true e (faulty, run, got) le =
-        let q = quiet made stop.Budget made text core' s' run le in
-        record { cut = sink_cut why e; all = refl; are = q.are; unprinted = part_none before after text q.nothing got; touches = q.touches }
+    short_by true e c le =
+        let q = quiet made stop.Budget made text core' s' c.runs le in
+        record { cut = sink_cut why e; all = refl; are = q.are; unprinted = part_none before after text q.nothing c.part; touches = q.touches }
     short_by false e (run, got) le =
         let q = quiet most why made text core' s' run le in
         record { cut = budget_cut why q.cut; all = q.all; are = q.are; unprinted = got_none before after text q.nothing got; touches = q.touches }
 
     long_by : (b : Bool) → is_sink why ≡ b → Ended b → length steps ≤ cond b made most → IsLong why made core s core' s' steps
-    long_by true e (faulty, run, got) le =
-        let l = begins made stop.Budget made text core' s' run le in
+    long_by true e c le =
+        let l = begins made stop.Budget made text core' s' c.runs le in
         record { rest = l.rest; count = l.count ∙ sink_made why made e; are = l.are }
     long_by false e (run, got) le = begins most why made text core' s' run le
 
@@ -165,7 +166,7 @@ runs_start one once i view written banks seats left most why before after faults
     let r : Reaches i view written = record { boots = boots; can = can } in
     let o = opened i written banks seats ran.begin ran.roomy allow ran.opening in
     let (steps, p) = startup o r run.core run.reset in
-    let (text, ended) = run.runs in
+    let (text, ended) = ended_by most run.core ran.begin why run.made run.core' run.end before after (Rose faults faults_now) run.runs in
     record {
       ran = ran;
       steps = steps;
