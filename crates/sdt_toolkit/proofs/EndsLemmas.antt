@@ -25,6 +25,7 @@ use Rattle.sdt_toolkit.specs.Links.{LinkAnswers, WordsAsk}
 use Rattle.sdt_toolkit.specs.Reads.{reads_of}
 use Rattle.sdt_toolkit.specs.Reports.{ReportAnswers, ReportAsked}
 use Rattle.sdt_toolkit.specs.Sources.{AssemblyAnswers, SourceAsks}
+use Rattle.sdt_toolkit.proofs.BigClauses.{big_ends}
 
 module _ (x : Result Command ℕ) (o : Outside) (seats : List Seat) where
   says_ends : (asked : Result Outcome Refusal) (inputs : List (List ℕ)) → ((r : Refusal) → asked ≡ Err r → IsFirst x (reads_of o) seats r)
@@ -140,6 +141,7 @@ command_ends (Ok (command.Build words)) o seats left a h =
 command_ends (Ok (command.Report words)) o seats left a h = still (Ok (command.Report words)) o seats left a h.1 (report_ends words o seats a h.0)
 command_ends (Ok (command.InterruptKit output acknowledge)) o seats left a h =
     still (Ok (command.InterruptKit output acknowledge)) o seats left a h.1 (kit_ends output acknowledge o seats a h.0)
+command_ends (Ok (command.MakeBig count output)) o seats left a h = big_ends count output o seats left a h
 command_ends (Ok (command.Burn records file output)) o seats left a h =
     still (Ok (command.Burn records file output)) o seats left a h.1 (burn_ends records file output o seats a h.0)
 

@@ -29,6 +29,7 @@ use Rattle.sdt_toolkit.specs.Links.{LinkAnswers, OneLinkAsked, WordsAsk, files_r
 use Rattle.sdt_toolkit.specs.Reads.{reads_of}
 use Rattle.sdt_toolkit.specs.Reports.{OneReportAsked, ReportAnswers, ReportAsked, report_reads}
 use Rattle.sdt_toolkit.specs.Sources.{AssemblyAnswers, OneAsked, SourceAsks}
+use Rattle.sdt_toolkit.proofs.BigClauses.{big_refused}
 use Rattle.sdt_toolkit.proofs.EndsLemmas.{ends_of}
 use Rattle.sdt_toolkit.proofs.RunOnce.{no_refusal, refusal_once}
 
@@ -170,6 +171,7 @@ module _ (o : Outside) (files : Files) (told : o.before ≡ Some files) (calm : 
   refused one link reported (Ok (command.Build words)) seats left a h first = link_refused link true words a h.0 first
   refused one link reported (Ok (command.Report words)) seats left a h first = report_refused reported words a h.0 first
   refused one link reported (Ok (command.InterruptKit output acknowledge)) seats left a h first = absurd first
+  refused one link reported (Ok (command.MakeBig count output)) seats left a h first = big_refused count output o seats left r calm first a h
   refused one link reported (Ok (command.Burn records file output)) seats left a h first = burn_refused records file output seats a h.0 first
 
 -- ---- the clause of the top call

@@ -57,3 +57,14 @@ pub returns-in-Burn-clause-commanded : goal.returns-in-Burn-clause-commanded
 unfolding Commanded
 returns-in-Burn-clause-commanded g c =
     rw c.in-Burn.is (c.burn.ensures (g.K.Sink.bytes c.args.sink.now) (g.K.Sink.faults c.args.sink.now), refl)
+
+pub make_big-requires-clause-some : goal.make_big-requires-clause-some
+make_big-requires-clause-some g c = (rw c.in-MakeBig.is at c.requires).0
+
+pub make_big-requires-clause-few : goal.make_big-requires-clause-few
+make_big-requires-clause-few g c = (rw c.in-MakeBig.is at c.requires).1
+
+pub returns-in-MakeBig-clause-commanded : goal.returns-in-MakeBig-clause-commanded
+unfolding Commanded
+returns-in-MakeBig-clause-commanded g c =
+    rw c.in-MakeBig.is c.make_big.ensures
