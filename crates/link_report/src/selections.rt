@@ -7,7 +7,7 @@ ghost use Rattle.place_model.specs.Items.{Item};
 ghost use Rattle.link_items.specs.LinkedItems.{item_of, items_in, items_of};
 ghost use Rattle.link_report.specs.Keys.{class_by, choice_in, has_key, home_in, is_alike, is_key, same_key, selection_at, AreSought, AreTaken, NoneBelow};
 ghost use Rattle.place_model.specs.declared.scatter.Choice.TheVariants as chosen;
-ghost use Rattle.link_report.specs.Selections as selections;
+ghost use Rattle.link_report.specs.Selections as texts;
 ghost use Rattle.link_report.specs.Selections.{has_taken, takes_area};
 
 use crate::lines::{push, push_field};
@@ -266,7 +266,7 @@ fn taken_keys<'a>(
 // ---- lines
 
 fn module_text(module: &Option<Text>) -> &[u8]
-    ensures { result.now ≡ selections.module_text module.now }
+    ensures { result.now ≡ texts.module_text module.now }
 {
     match module {
         None => b"*",
@@ -275,7 +275,7 @@ fn module_text(module: &Option<Text>) -> &[u8]
 }
 
 fn choice_text(choice: &Choice) -> &[u8]
-    ensures { result.now ≡ selections.choice_text choice.now }
+    ensures { result.now ≡ texts.choice_text choice.now }
 {
     match choice {
         Choice::Named(name) => name.as_slice(),
@@ -291,7 +291,7 @@ fn push_line(
     region: &[u8],
     selection: &Selection,
 ) -> Result<(), NoMemory>
-    ensures { OnOk result (out.new.items ≡ out.old.items ++ selections.unused_line region.now selection.now) }
+    ensures { OnOk result (out.new.items ≡ out.old.items ++ texts.unused_line region.now selection.now) }
 {
     push(out, b"unused ")?;
     push_decimal(alloc, out, u64::from(selection.line))?;
@@ -309,7 +309,7 @@ fn push_unused(
     selection: &Selection,
 ) -> Result<(), NoMemory>
     ensures { (offers : List Offer) (items : List Item) → AreTaken offers items taken.now
-        → OnOk result (out.new.items ≡ out.old.items ++ selections.unused_text (has_taken offers items) region.now selection.now) }
+        → OnOk result (out.new.items ≡ out.old.items ++ texts.unused_text (has_taken offers items) region.now selection.now) }
 {
     if is_there(taken, key_of(selection)) {
         return Ok(());
@@ -326,7 +326,7 @@ fn push_region(
     selections: &[Selection],
 ) -> Result<(), NoMemory>
     ensures { (offers : List Offer) (items : List Item) → AreTaken offers items taken.now
-        → OnOk result (out.new.items ≡ out.old.items ++ flat_map (selections.unused_text (has_taken offers items) region.now) selections.now) }
+        → OnOk result (out.new.items ≡ out.old.items ++ flat_map (texts.unused_text (has_taken offers items) region.now) selections.now) }
 {
     for selection in selections {
         push_unused(alloc, out, taken, region, selection)?;
@@ -341,7 +341,7 @@ fn push_load(
     regions: &[ScatterRegion],
 ) -> Result<(), NoMemory>
     ensures { (offers : List Offer) (items : List Item) → AreTaken offers items taken.now
-        → OnOk result (out.new.items ≡ out.old.items ++ flat_map (selections.region_unused (has_taken offers items)) regions.now) }
+        → OnOk result (out.new.items ≡ out.old.items ++ flat_map (texts.region_unused (has_taken offers items)) regions.now) }
 {
     for region in regions {
         let name = region.name.as_slice();
@@ -357,7 +357,7 @@ fn push_loads(
     loads: &[ScatterLoad],
 ) -> Result<(), NoMemory>
     ensures { (offers : List Offer) (items : List Item) → AreTaken offers items taken.now
-        → OnOk result (out.new.items ≡ out.old.items ++ flat_map (selections.load_unused (has_taken offers items)) loads.now) }
+        → OnOk result (out.new.items ≡ out.old.items ++ flat_map (texts.load_unused (has_taken offers items)) loads.now) }
 {
     for load in loads {
         push_load(alloc, out, taken, load.regions.as_slice())?;
@@ -372,7 +372,7 @@ fn push_described(
     objects: &[Named<Object>],
 ) -> Result<(), NoMemory>
     ensures { OnOk result (out.new.items ≡ out.old.items
-        ++ flat_map (selections.load_unused (has_taken (offers_from 0 (flat_map (λ l. l.regions) loads.now)) (items_in objects.now))) loads.now) }
+        ++ flat_map (texts.load_unused (has_taken (offers_from 0 (flat_map (λ l. l.regions) loads.now)) (items_in objects.now))) loads.now) }
 {
     let keys = sought_keys(alloc, loads)?;
     let taken = taken_keys(alloc, &keys, objects)?;
@@ -387,7 +387,7 @@ pub fn push_selections(
     kind: &Kind,
     objects: &[Named<Object>],
 ) -> Result<(), NoMemory>
-    ensures { OnOk result (out.new.items ≡ out.old.items ++ selections.selections_text kind.now objects.now) }
+    ensures { OnOk result (out.new.items ≡ out.old.items ++ texts.selections_text kind.now objects.now) }
 {
     match kind {
         Kind::Scatter(scatter) => push_described(alloc, out, scatter.loads.as_slice(), objects),
