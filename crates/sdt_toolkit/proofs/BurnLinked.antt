@@ -127,10 +127,10 @@ found_as : (records : BurnForm) (text : List ℕ) (b : Burn) → burn_of (hex_fo
 found_as form.IntelHex text b h = text_found Ihex text b h
 found_as form.SRecords text b h = text_found Srec text b h
 
-run_as : (records : BurnForm) (text : List ℕ) (b : Burn) (name : List ℕ) → form_in text ≡ hex_form records → burn_of (hex_form records) text ≡ Ok b
+run_as : (f : BurnForm) (text : List ℕ) (b : Burn) (name : List ℕ) → form_in text ≡ hex_form f → burn_of (hex_form f) text ≡ Ok b
     → burned_image name text ≡ Ok (loaded_burn b)
-run_as records text b name begins reads =
-    ap (λ (f : Form). named_by name (burn_of f text) >>= λ x. Ok (loaded_burn x)) begins
+run_as f text b name begins reads =
+    ap (λ (x : Form). named_by name (burn_of x text) >>= λ b. Ok (loaded_burn b)) begins
     ∙ ap (λ (r : Result Burn Refusal). named_by name r >>= λ x. Ok (loaded_burn x)) reads
 
 boots_as : (i : Image) (view bytes : ByteMap) (start : ℕ) → bytes ≡ map_of (segments_of i) → start ≡ i.start → BootsTo i view (written_in i)
