@@ -135,7 +135,7 @@ bus-runs-are-runs core s (suc n) whole core' s' r (goes {text = text} piece {cor
 
 -- ---- and the other way round
 
-first-step : (core : ArmState) (s : State) (n : ℕ) (piece text : List ℕ) (e : Event) (core1 core2 : ArmState) (s1 s2 : State)
+pub first-step : (core : ArmState) (s : State) (n : ℕ) (piece text : List ℕ) (e : Event) (core1 core2 : ArmState) (s1 s2 : State)
     → IsStep core s e core1 s1 → GoesOn e core1 s1 piece → Leads core1 s1 n text core2 s2 → Leads core s (suc n) (piece ++ text) core2 s2
 first-step core s zero piece text e core1 core2 s1 s2 step on stays =
     subst (λ (l : List ℕ). Leads core s 1 l core1 s1) (sym (append-nil piece)) (goes piece e stays step on)
@@ -172,7 +172,7 @@ pub each-as : (c d : Contents) (xs : List (List Access)) → d.used ≡ c.used �
 each-as c d [] e f h = tt
 each-as c d (x ∷ xs) e f h = (used-as c d x e f h.0, each-as c d xs e f h.1)
 
-abbrev Back : ArmState → State → List ℕ → List Stepped → Type 0
+abbrev pub Back : ArmState → State → List ℕ → List Stepped → Type 0
 Back core s text steps =
     (core' : ArmState) × (s' : State) × Leads core s (length steps) text core' s' × IsRunOf core s (length steps) text core' s' steps
 

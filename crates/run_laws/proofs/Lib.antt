@@ -2,6 +2,7 @@ pub mod Boards
 pub mod BusAlike
 pub mod BusBeside
 pub mod BusExits
+pub mod BusFrames
 pub mod BusRuns
 pub mod BusStarted
 pub mod BusStrings

@@ -28,7 +28,7 @@ left-banks : (o : Option BusFault) (c d : Contents) → d.banks ≡ c.banks → 
 left-banks None c d e = e
 left-banks (Some fault) c d e = refl
 
-places-any : (s : State) (a : ℕ) (width : Width) (v : ℕ) → SamePlaces s (after_write s a width v)
+pub places-any : (s : State) (a : ℕ) (width : Width) (v : ℕ) → SamePlaces s (after_write s a width v)
 places-any s a width v = go (bank_has s.contents.banks a (bytes_in width)) (is_some (device_at s.devices a (bytes_in width)))
   where
     go : (b d : Bool) → SamePlaces s (cond b (record s { contents = store_leaves (store_fault s.contents a (bytes_in width)) s.contents (after_store s.contents a width v) })

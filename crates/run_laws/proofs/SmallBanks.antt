@@ -18,7 +18,7 @@ use Rattle.arm7_bus.specs.declared.memory.BusFault.{BusFault}
 use Rattle.arm7_bus.specs.Buses.{after_read, after_tick, after_write}
 use Rattle.arm7_bus.specs.Meets.{IsNowhere}
 use Rattle.arm7_bus.specs.Paging.{used_count}
-use Rattle.arm7_bus.specs.Seats.{changed_at, device_at, has_access, lines_up, seat_written}
+use Rattle.arm7_bus.specs.Seats.{Seat, changed_at, device_at, has_access, lines_up, seat_written}
 use Rattle.arm7_bus.specs.States.{Contents, State, after_store, bank_has, noted, store_fault, store_leaves}
 use Rattle.arm7_bus.specs.Touches.{pages_touched, range_touches}
 use Rattle.arm7_transfers.specs.Frames.{has_frames, stored_to, used_with}
@@ -28,8 +28,10 @@ use Rattle.arm7_transfers.proofs.BoardLemmas.{contents-read}
 use Rattle.arm7_transfers.proofs.DoneLemmas.{fits}
 use Rattle.arm7_core.specs.Machines.{Ends, IsStep, levels}
 use Rattle.arm7_run.specs.Runs.{Leads, goes, stays}
+use Rattle.run_opening.specs.declared.image.Image.{Image}
 use Rattle.run_opening.specs.declared.image.Need.{Need}
-use Rattle.run_opening.specs.Banks.{AreUsed, is_lacking, lacks}
+use Rattle.run_opening.specs.Banks.{AreUsed, IsRoomy, is_lacking, lacks}
+use Rattle.run_opening.specs.Openings.{IsOpening}
 use Rattle.run_laws.specs.Laws.{SmallBanksHaveFrames, SmallBanksHaveRoom}
 use Rattle.kit_laws.proofs.Events.{step-frames}
 
@@ -144,15 +146,15 @@ pub record HasAll (c : Contents) : Type 0 where
   pub touched : AreTouched c.banks c.used
   pub frames : pages_touched c.banks 1048576 ≤ c.frames
 
-frames-for : (s : State) (xs : List Access) → HasAll s.contents → has_frames s xs ≡ true
+pub frames-for : (s : State) (xs : List Access) → HasAll s.contents → has_frames s xs ≡ true
 frames-for s xs h =
     let c = count s.contents.banks (used_with s.contents.used (stored_to s.contents.banks xs)) (with-stored s.contents.banks s.contents.used xs h.touched) in
     fits _ _ (omega (arith, c, h.frames))
 
-all-read : (s : State) (a : ℕ) (width : Width) → HasAll s.contents → HasAll (after_read s a width).contents
+pub all-read : (s : State) (a : ℕ) (width : Width) → HasAll s.contents → HasAll (after_read s a width).contents
 all-read s a width h = subst (λ (c : Contents). HasAll c) (sym (contents-read s a width)) h
 
-all-write : (s : State) (a : ℕ) (width : Width) (v : ℕ) → HasAll s.contents → HasAll (after_write s a width v).contents
+pub all-write : (s : State) (a : ℕ) (width : Width) (v : ℕ) → HasAll s.contents → HasAll (after_write s a width v).contents
 all-write s a width v h = go (bank_has s.contents.banks a (bytes_in width)) refl (is_some (device_at s.devices a (bytes_in width)))
   where
     left : (o : Option BusFault) → bank_has s.contents.banks a (bytes_in width) ≡ true → HasAll (store_leaves o s.contents (after_store s.contents a width v))
@@ -169,7 +171,7 @@ all-write s a width v h = go (bank_has s.contents.banks a (bytes_in width)) refl
     go false e true = record { touched = h.touched; frames = h.frames }
     go false e false = h
 
-all-served : (s : State) (xs : List Access) → HasAll s.contents → HasAll (served s xs).contents
+pub all-served : (s : State) (xs : List Access) → HasAll s.contents → HasAll (served s xs).contents
 all-served s [] h = h
 all-served s (Fetch a width ∷ rest) h = all-served (after_read s a width) rest (all-read s a width h)
 all-served s (Load a width ∷ rest) h = all-served (after_read s a width) rest (all-read s a width h)
@@ -249,10 +251,15 @@ small-banks-have-room banks seats needs quantity limit few (q, l, apart, room, l
     let m = lacks.too_many in
     absurd (omega (arith, c, m, few))
 
-pub small-banks-have-frames : SmallBanksHaveFrames
-small-banks-have-frames banks seats image most core s a made text core' s' few roomy opening run =
+pub opened-with-all : (banks : List Bank) (seats : List Seat) (image : Image) (s : State) → pages_touched banks 1048576 ≤ 65536 → IsRoomy banks seats image.needs
+    → IsOpening banks image seats s → HasAll s.contents
+opened-with-all banks seats image s few roomy opening =
     let touched = subst (λ (bs : List Bank). AreTouched bs s.contents.used) (sym opening.banks_are) (used-touched banks image.needs s.contents.used roomy.room opening.used) in
     let enough : pages_touched banks 1048576 ≤ s.contents.frames = let f = opening.frames in omega (arith, f, few) in
-    let all : HasAll s.contents = record { touched = touched; frames = subst (λ (bs : List Bank). pages_touched bs 1048576 ≤ s.contents.frames) (sym opening.banks_are) enough } in
+    record { touched = touched; frames = subst (λ (bs : List Bank). pages_touched bs 1048576 ≤ s.contents.frames) (sym opening.banks_are) enough }
+
+pub small-banks-have-frames : SmallBanksHaveFrames
+small-banks-have-frames banks seats image most core s a made text core' s' few roomy opening run =
+    let all = opened-with-all banks seats image s few roomy opening in
     let (below, count_is, step) = run.ends in
     (all-step run.core1 run.s1 (event.NoFrame a) core' s' (all-lead core s run.count text run.core1 run.s1 all run.leads) step).1 a refl
