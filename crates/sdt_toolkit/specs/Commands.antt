@@ -46,7 +46,7 @@ Commanded (Ok (command.Run run)) o seats left a = RunAnswers run o seats left a
 Commanded (Ok (command.Link words)) o seats left a = LinkAnswers false words o a × (left ≡ seats)
 Commanded (Ok (command.Build words)) o seats left a = LinkAnswers true words o a × (left ≡ seats)
 Commanded (Ok (command.InterruptKit output acknowledge)) o seats left a = KitAnswers output acknowledge o a × (left ≡ seats)
-Commanded (Ok (command.Burn records file output)) o seats left a = BurnAnswers records file output o a × (left ≡ seats)
+Commanded (Ok (command.Burn f file output)) o seats left a = BurnAnswers f file output o a × (left ≡ seats)
 
 -- ---- refusals: the first defect of the words, then of the files and, for a run, of the banks and devices
 
@@ -63,8 +63,8 @@ FirstOf (command.Run run) s seats r = (read : Result Image Refusal) × IsRead s.
 FirstOf (command.Link words) s seats r = WordsAsk s false words (Err r)
 FirstOf (command.Build words) s seats r = WordsAsk s true words (Err r)
 FirstOf (command.InterruptKit output acknowledge) s seats r = ⊥
-FirstOf (command.Burn records file output) s seats r =
-    (read : Result Image Refusal) × IsRead s.told (HasFailed s) (image.Map file) read × (asked_by records output read ≡ Err r)
+FirstOf (command.Burn f file output) s seats r =
+    (read : Result Image Refusal) × IsRead s.told (HasFailed s) (image.Map file) read × (asked_by f output read ≡ Err r)
 
 abbrev pub IsFirst : Result Command ℕ → Reads → List Seat → Refusal → Type 0
 IsFirst (Err place) s seats r = r ≡ BadWords place
