@@ -86,15 +86,15 @@ kit_ends output acknowledge o seats answer.SinkFault h = absurd h.0
 kit_ends output acknowledge o seats (answer.Stopped why) h = absurd h.0
 kit_ends output acknowledge o seats answer.NoMemory h = tt
 
-burn_ends : (records : BurnForm) (file output : List ℕ) (o : Outside) (seats : List Seat) (a : Answer) → BurnAnswers records file output o a
-    → Ends (Ok (command.Burn records file output)) o seats seats a
-burn_ends records file output o seats answer.Done h = tt
-burn_ends records file output o seats (answer.Refused r) h = ((h.read, h.read_so, h.says.0), record { outside = h.says.1; devices = refl })
-burn_ends records file output o seats (answer.ReadFault q) h = (h.says.0, record { outside = h.says.2; devices = refl })
-burn_ends records file output o seats (answer.WriteFault q) h = (h.says.0, h.says.2, refl)
-burn_ends records file output o seats answer.SinkFault h = h.says.0
-burn_ends records file output o seats (answer.Stopped why) h = absurd h.says
-burn_ends records file output o seats answer.NoMemory h = tt
+burn_ends : (f : BurnForm) (file output : List ℕ) (o : Outside) (seats : List Seat) (a : Answer) → BurnAnswers f file output o a
+    → Ends (Ok (command.Burn f file output)) o seats seats a
+burn_ends f file output o seats answer.Done h = tt
+burn_ends f file output o seats (answer.Refused r) h = ((h.read, h.read_so, h.says.0), record { outside = h.says.1; devices = refl })
+burn_ends f file output o seats (answer.ReadFault q) h = (h.says.0, record { outside = h.says.2; devices = refl })
+burn_ends f file output o seats (answer.WriteFault q) h = (h.says.0, h.says.2, refl)
+burn_ends f file output o seats answer.SinkFault h = h.says.0
+burn_ends f file output o seats (answer.Stopped why) h = absurd h.says
+burn_ends f file output o seats answer.NoMemory h = tt
 
 words_end : (place : ℕ) (o : Outside) (seats : List Seat) (a : Answer) → RefusesWords place o a → Ends (Err place) o seats seats a
 words_end place o seats answer.Done h = absurd h
@@ -142,8 +142,8 @@ command_ends (Ok (command.Report words)) o seats left a h = still (Ok (command.R
 command_ends (Ok (command.InterruptKit output acknowledge)) o seats left a h =
     still (Ok (command.InterruptKit output acknowledge)) o seats left a h.1 (kit_ends output acknowledge o seats a h.0)
 command_ends (Ok (command.MakeBig count output)) o seats left a h = big_ends count output o seats left a h
-command_ends (Ok (command.Burn records file output)) o seats left a h =
-    still (Ok (command.Burn records file output)) o seats left a h.1 (burn_ends records file output o seats a h.0)
+command_ends (Ok (command.Burn f file output)) o seats left a h =
+    still (Ok (command.Burn f file output)) o seats left a h.1 (burn_ends f file output o seats a h.0)
 
 pub ends_of : (words : List (List ℕ)) (o : Outside) (seats left : List Seat) (a : Answer) → Commanded (command_of words) o seats left a
     → Ends (command_of words) o seats left a

@@ -125,18 +125,18 @@ module _ (o : Outside) (files : Files) (told : o.before ≡ Some files) (calm : 
       go (answer.Stopped why) k = no_refusal run read o seats left why r k.1 refusal
       go answer.NoMemory k = tt
 
-  burn_refused : (records : BurnForm) (file output : List ℕ) (seats : List Seat) (a : Answer) → BurnAnswers records file output o a
-      → FirstOf (command.Burn records file output) (reads_of o) seats r → IsRefusedBy r a
-  burn_refused records file output seats a h first = go a h.says
+  burn_refused : (f : BurnForm) (file output : List ℕ) (seats : List Seat) (a : Answer) → BurnAnswers f file output o a
+      → FirstOf (command.Burn f file output) (reads_of o) seats r → IsRefusedBy r a
+  burn_refused f file output seats a h first = go a h.says
     where
       by_files : (x : Result Image Refusal) → IsRead o.before (Rose o.reads o.reads_now) (image.Map file) x → x ≡ image_of (image.Map file) files
       by_files x k = subst (λ (t : Option Files). IsRead t (Rose o.reads o.reads_now) (image.Map file) x) told k
 
       asked : Result Outcome Refusal
-      asked = asked_by records output h.read
+      asked = asked_by f output h.read
 
       is : asked ≡ Err r
-      is = ap (asked_by records output) (by_files h.read h.read_so ∙ sym (by_files first.0 first.1)) ∙ first.2
+      is = ap (asked_by f output) (by_files h.read h.read_so ∙ sym (by_files first.0 first.1)) ∙ first.2
 
       go : (b : Answer) → BurnSays file asked o b → IsRefusedBy r b
       go answer.Done k = says_refused asked [] o r calm is answer.Done k
@@ -172,7 +172,7 @@ module _ (o : Outside) (files : Files) (told : o.before ≡ Some files) (calm : 
   refused one link reported (Ok (command.Report words)) seats left a h first = report_refused reported words a h.0 first
   refused one link reported (Ok (command.InterruptKit output acknowledge)) seats left a h first = absurd first
   refused one link reported (Ok (command.MakeBig count output)) seats left a h first = big_refused count output o seats left r calm first a h
-  refused one link reported (Ok (command.Burn records file output)) seats left a h first = burn_refused records file output seats a h.0 first
+  refused one link reported (Ok (command.Burn f file output)) seats left a h first = burn_refused f file output seats a h.0 first
 
 -- ---- the clause of the top call
 

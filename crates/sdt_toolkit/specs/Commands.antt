@@ -50,7 +50,7 @@ Commanded (Ok (command.Build words)) o seats left a = LinkAnswers true words o a
 Commanded (Ok (command.Report words)) o seats left a = ReportAnswers words o a × (left ≡ seats)
 Commanded (Ok (command.InterruptKit output acknowledge)) o seats left a = KitAnswers output acknowledge o a × (left ≡ seats)
 Commanded (Ok (command.MakeBig count output)) o seats left a = BigAnswers count output o seats left a
-Commanded (Ok (command.Burn records file output)) o seats left a = BurnAnswers records file output o a × (left ≡ seats)
+Commanded (Ok (command.Burn f file output)) o seats left a = BurnAnswers f file output o a × (left ≡ seats)
 
 -- ---- refusals: the first defect of the words, then of the files and, for a run and `make-big`, of the banks and devices
 
@@ -69,8 +69,8 @@ FirstOf (command.Build words) s seats r = WordsAsk s true words (Err r)
 FirstOf (command.Report words) s seats r = ReportAsked s words (Err r)
 FirstOf (command.InterruptKit output acknowledge) s seats r = ⊥
 FirstOf (command.MakeBig count output) s seats r = IsMeeting seats r
-FirstOf (command.Burn records file output) s seats r =
-    (read : Result Image Refusal) × IsRead s.told (HasFailed s) (image.Map file) read × (asked_by records output read ≡ Err r)
+FirstOf (command.Burn f file output) s seats r =
+    (read : Result Image Refusal) × IsRead s.told (HasFailed s) (image.Map file) read × (asked_by f output read ≡ Err r)
 
 abbrev pub IsFirst : Result Command ℕ → Reads → List Seat → Refusal → Type 0
 IsFirst (Err place) s seats r = r ≡ BadWords place

@@ -69,7 +69,7 @@ module _ (law : MapLaw) (file : List ℕ) (i : Image) where
 
   pub in_space : (told : Option Files) (rose : Type 0) → IsRead told rose (image.Map file) (Ok i) → AreInSpace i.loads
   in_space None rose (inl (text, some)) = some_in_space (named_by file (map_of text)) (is_valid text) some
-  in_space None rose (inr (name, is, lost)) = absurd (let bad : ◌≡◌ {A = Result Image Refusal} (Ok i) (Err (Missing name)) = is in cc)
+  in_space None rose (inr (name, is, rises, lost)) = absurd (let bad : ◌≡◌ {A = Result Image Refusal} (Ok i) (Err (Missing name)) = is in cc)
   in_space (Some files) rose h =
       let (text, read, mapped) = bind_ok (input_of files file) (λ text. named_by file (map_of text) >>= λ m. mapped_image m files) i (sym h) in
       let (m, is_map, filed) = bind_ok (named_by file (map_of text)) (λ m. mapped_image m files) i mapped in

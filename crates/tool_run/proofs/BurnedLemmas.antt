@@ -18,11 +18,12 @@ use Rattle.tool_run.specs.Burned.{BurnLoadLaw, load_of}
 none_told : (ps before : List Piece) (p : Piece) (a : ℕ) → ((q : Piece) → AllByRecursion (AreApart q) before → AreApart q p) → EachApart before ps
     → holds a p ≡ true → told ps a ≡ None
 none_told [] before p a one h e = refl
-none_told (q ∷ qs) before p a one h e = go (holds a q) refl
+none_told (q ∷ qs) before p a one h e =
+    go (holds a q) refl (none_told qs (before ++ q ∷ []) p a (λ x all. one x (all_front (AreApart x) before (q ∷ []) all)) h.1 e)
   where
-    go : (t : Bool) → holds a q ≡ t → cond t (Some (slice_index q.bytes (a - q.base))) (told qs a) ≡ None
-    go true f = absurd (one q h.0 a f e)
-    go false f = none_told qs (before ++ q ∷ []) p a (λ x all. one x (all_front (AreApart x) before (q ∷ []) all)) h.1 e
+    go : (t : Bool) → holds a q ≡ t → told qs a ≡ None → cond t (Some (slice_index q.bytes (a - q.base))) (told qs a) ≡ None
+    go true f rest = absurd (one q h.0 a f e)
+    go false f rest = rest
 
 off_piece : (m : Bytes) (p : Piece) (a : ℕ) → holds a p ≡ false → store m p.base p.bytes a ≡ m a
 off_piece m p a h = go (below_or_not a p.base) (below_or_not a (end_of p))

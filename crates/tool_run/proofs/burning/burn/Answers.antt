@@ -23,8 +23,8 @@ returns-in-Ok-burnt g c = λ shown faults.
     let says = rw (c.as_slice.ensures, c.read_image.ensures.files, c.read_image.ensures.write_faults) at c.write.ensures.says in
     wrote c.args.form c.args.map c.args.output o c.write.result c.in-Ok.image c.in-Ok-burnt.text read c.in-Ok-burnt.ensures.exact (got_none shown) refl says
 
-pub returns : goal.returns
-returns g c = λ shown faults.
+pub returns-in-Err-burnt : goal.returns-in-Err-burnt
+returns-in-Err-burnt g c = λ shown faults.
     let o = unprinted shown faults (g.S.Store.files c.args.store.now) (g.S.Store.files c.read_image.new.store) (g.S.Store.read_faults c.args.store.now) (g.S.Store.read_faults c.read_image.new.store) (g.S.Store.write_faults c.args.store.now) (g.S.Store.write_faults c.read_image.new.store) in
-    rw (c.image_answer-2.ensures, c.fault_end.ensures)
+    rw (c.image_answer-in-Err-burnt.ensures, c.fault_end.ensures)
     (refused c.args.form c.args.map c.args.output o c.in-Err-burnt.fault c.in-Ok.image c.in-Ok.ensures.read c.in-Err-burnt.ensures.exact (record { files = c.read_image.ensures.files; sink = refl }))
