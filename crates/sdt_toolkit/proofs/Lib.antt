@@ -15,6 +15,7 @@ mod LinkLemmas
 mod LinkOnce
 mod ReadLemmas
 mod RefusalLemmas
+mod RunBooting
 mod RunBytes
 mod RunClauses
 mod RunCommands
