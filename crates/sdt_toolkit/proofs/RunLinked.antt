@@ -116,7 +116,7 @@ module _ (files_law : FilesAreRead) (elf_law : ElfLaw) (load_law : ElfLoadLaw) (
       let can = reaches.can in
       let reads : (read : Result RunImage Refusal) → IsRead o.before rose r.image read → read ≡ Ok (run_image i) =
       λ read h. files_law i w.output (files container.LoadFiles) o.reads o.reads_now read (can.filed w.output line some) (stand before (load_files i w.output) (can.named w.output))
-          (read_of container.LoadFiles (image.Map (map_name w.output)) read is_c by h) in
+      (read_of container.LoadFiles (image.Map (map_name w.output)) read is_c by h) in
       subst (λ (x : Booting). AnswerStarts x r o seats left a) (sym is_b)
       (law (map_booting i view) r o seats left a (map_can i view reaches) reads
       (λ banks are. (inl (λ x v e. can.ranged x v e), subst (λ (x : Booting). Allow banks seats x.written) is_b (allow banks are).1)) answers)
@@ -131,8 +131,8 @@ module _ (files_law : FilesAreRead) (elf_law : ElfLaw) (load_law : ElfLoadLaw) (
       let one : content (files container.Elf) w.output ≡ Some (elf_file i) = own_content before w.output (elf_file i) in
       let reads : (read : Result RunImage Refusal) → IsRead o.before rose r.image read → read ≡ Ok (loaded_elf (elf_file i) e) =
       λ read h. read_of container.Elf (image.Elf w.output) read is_c by h
-          ∙ ap (λ x. found_or w.output x >>= λ bytes. elf_image w.output bytes) one
-          ∙ ap (λ x. named_by w.output x >>= λ y. Ok (loaded_elf (elf_file i) y)) ((elf_law (elf_file i) e).1 read_so) in
+      ∙ ap (λ x. found_or w.output x >>= λ bytes. elf_image w.output bytes) one
+      ∙ ap (λ x. named_by w.output x >>= λ y. Ok (loaded_elf (elf_file i) y)) ((elf_law (elf_file i) e).1 read_so) in
       subst (λ (x : Booting). AnswerStarts x r o seats left a) (sym is_b)
       (law (elf_booting i view e) r o seats left a (elf_can load_law i view e read_so entry loads reaches) reads
       (λ banks are. (inr (subst (λ (x : Booting). TakeView x.view banks) is_b (allow banks are).0), subst (λ (x : Booting). Allow banks seats x.written) is_b (allow banks are).1)) answers)

@@ -1,7 +1,3 @@
-use Rattle.sdt_toolkit.proofs.RunClauses.{starts_told, steps_told}
-use Rattle.sdt_toolkit.proofs.RunHidden.{interrupts_are_hidden}
-use Rattle.sdt_toolkit.proofs.EndsLemmas.{ends_of}
-use Rattle.sdt_toolkit.proofs.RunOnce.{one_run}
 use Rattle.sdt_toolkit.proofs.RunLinked.{linked_runs_start}
 use Rattle.sdt_toolkit.proofs.laws.linked_runs_start.Goals as goal
 
