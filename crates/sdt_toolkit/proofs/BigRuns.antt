@@ -1,5 +1,5 @@
 -- The run of the image of a generated source in the default bank: what refuses it, and how it ends.
-use Rattle.std.proofs.Common.{◌≡◌, ℕ, ◌+◌, ◌-◌, ◌*◌, ◌/◌, ◌%◌, ◌<◌, ◌≤◌, ◌==◌, Bool, true, false, cond, List, [], ◌∷◌, length, Some, refl, sym, ap, ◌∙◌, subst, arith, nat_lt, ⊥}
+use Rattle.std.proofs.Common.{◌≡◌, inl, ℕ, ◌+◌, ◌-◌, ◌*◌, ◌/◌, ◌%◌, ◌<◌, ◌≤◌, ◌==◌, Bool, true, false, cond, List, [], ◌∷◌, length, Some, refl, sym, ap, ◌∙◌, subst, arith, nat_lt, ⊥}
 use Rattle.std.specs.List.{AllByRecursion}
 use Rattle.std.proofs.lemmas.Bool.{lt-ltb}
 use Rattle.sdt_word.specs.Numbers.{flag}
@@ -13,6 +13,7 @@ use Rattle.arm7_model.specs.declared.event.Event.TheVariants as event
 use Rattle.arm7_model.specs.Memory.{Board}
 use Rattle.arm7_model.specs.Outcomes.{Stepped}
 use Rattle.arm7_model.specs.Registers.{State as Whole}
+use Rattle.arm7_model.specs.Runs.{accesses_of}
 use Rattle.arm7_bus.specs.Meets.{IsLeast}
 use Rattle.arm7_bus.specs.Seats.{Seat}
 use Rattle.arm7_bus.specs.States.{State}
@@ -37,11 +38,12 @@ use Rattle.sdt_toolkit.specs.BigEnds.{BigRunEnds}
 use Rattle.sdt_toolkit.specs.BigMade.{big_image}
 use Rattle.sdt_toolkit.specs.BigStarts.{ImageStarts, IsBigStart, big_startup, big_view}
 use Rattle.sdt_toolkit.specs.RunImages.{needs_of, run_image}
-use Rattle.sdt_toolkit.specs.Runs.{Allow, HasStarted, entry_of}
+use Rattle.sdt_toolkit.specs.Runs.{Allow, CanBoot, HasStarted, entry_of, map_booting}
 use Rattle.sdt_toolkit.specs.Starting.{segments_of, written_in}
 use Rattle.sdt_toolkit.proofs.RunOnce.{frames_there, least_once, nowhere}
-use Rattle.sdt_toolkit.proofs.RunOpened.{IsOpened, Reaches, can_start, opened, valid}
-use Rattle.sdt_toolkit.proofs.RunStartup.{exact_startup}
+use Rattle.sdt_toolkit.proofs.RunBooting.{map_can}
+use Rattle.sdt_toolkit.proofs.RunOpened.{IsOpened, can_start, opened, valid}
+use Rattle.sdt_toolkit.proofs.RunStartup.{each_used, exact_startup}
 use Rattle.sdt_toolkit.proofs.RunSteps.{starts}
 
 -- ---- what refuses it
@@ -111,8 +113,8 @@ module _ (ends : BigRunEnds) (program : ProgramIsEntered) (one : BusRunIsOne) (o
     writable = λ x e. refl;
   }
 
-  o : IsOpened i (written_in i) s
-  o = opened i (written_in i) default_banks seats s roomy allow opening
+  o : IsOpened (map_booting i view) s
+  o = opened (map_booting i view) default_banks seats s roomy allow (inl start.can.ranged) opening
 
   exact : (board : Board) (t : Whole) → CanStart (map_of (segments_of i)) view (written_in i) i.start board t
       → BootsIn (big_startup n) (map_of (segments_of i)) view (entry_of i) board t
@@ -121,21 +123,21 @@ module _ (ends : BigRunEnds) (program : ProgramIsEntered) (one : BusRunIsOne) (o
   within : big_startup n ≤ i.bound
   within = subst (λ (b : ℕ). big_startup n ≤ b) (sym start.bound) (startup_few n few)
 
-  r : Reaches i view (written_in i)
-  r = record { boots = λ board t can. (big_startup n, within, exact board t can); can = start.can }
+  boots : CanBoot (map_booting i view)
+  boots = map_can i view (record { boots = λ board t can. (big_startup n, within, exact board t can); can = start.can })
 
   outcome : (left : List Seat) (why : Stop) (steps sum : ℕ) → HasEnded i.start n s why steps sum left → IsBigOutcome n i seats left why steps sum
   outcome left why steps sum h =
       let most : ℕ = 5 * n + 51 in
-      let can = can_start o r h.core h.reset in
-      let (front, count, p) = exact_startup o r h.core (big_startup n) within (exact (board_of s) (over h.core s) can) in
-      let quiet : AreQuiet h.core s front = record { are = p.given; ordinary = ordinary front p.are.boot.ordinary; off = p.are.off; used = p.uses } in
+      let can = can_start o boots h.core h.reset in
+      let (front, count, p) = exact_startup o boots h.core (big_startup n) within (exact (board_of s) (over h.core s) can) in
+      let quiet : AreQuiet h.core s front = record { are = p.given; ordinary = ordinary front p.are.boot.ordinary; off = p.are.off; used = each_used o boots start.can.ranged (accesses_of front) p.are.boot.booted.safe } in
       let boot : BootSteps (length front) (map_of (segments_of i)) view 0 (board_of s) (over h.core s) (lines_for (length front) s.devices) front =
       subst (λ (e : ℕ). BootSteps (length front) (map_of (segments_of i)) view e (board_of s) (over h.core s) (lines_for (length front) s.devices) front) entry p.are.boot in
       let entered =
       program n (length front) i.start (map_of (segments_of i)) view (written_in i) (board_of s) (over h.core s) (lines_for (length front) s.devices) front few start.shown can boot in
       let enough : length front + (n + 3) ≤ most = (let bound = start.bound in let least = p.are.few in omega (arith, bound, least)) in
-      let end = ends n 0 most h.made h.core h.core' s h.end front why h.text few is_ready (valid o r h.core h.reset) quiet entered enough h.runs in
+      let end = ends n 0 most h.made h.core h.core' s h.end front why h.text few is_ready (valid o boots h.core h.reset) quiet entered enough h.runs in
       let runs : Runs most h.core s stop.Exit h.made [] h.core' h.end =
       subst (λ (t : List ℕ). Runs most h.core s stop.Exit h.made t h.core' h.end) end.unprinted
       (subst (λ (w : Stop). Runs most h.core s w h.made h.text h.core' h.end) end.exits h.runs) in
@@ -154,10 +156,10 @@ module _ (ends : BigRunEnds) (program : ProgramIsEntered) (one : BusRunIsOne) (o
           devices = h.devices;
         };
       } in
-      let started : HasStarted i view default_banks most stop.Exit (Some []) (Some []) (Rose 0 0) seats left = record {
+      let started : HasStarted (map_booting i view) default_banks most stop.Exit (Some []) (Some []) (Rose 0 0) seats left = record {
         ran = ran;
         steps = front;
-        starts = starts one once o r h.core h.reset front p most stop.Exit h.made [] h.core' h.end (Some []) (Some []) (Rose 0 0) (runs, refl);
+        starts = starts one once o boots h.core h.reset front p most stop.Exit h.made h.core' h.end (Some []) (Some []) (Rose 0 0) ([], (runs, refl));
         devices = opening.devices;
         devices_left = h.devices;
       } in

@@ -30,6 +30,7 @@ mod RefusalLemmas
 mod ReportLemmas
 mod ReportPlans
 mod ReportRefusals
+mod RunBooting
 mod RunBytes
 mod RunClauses
 mod RunCommands

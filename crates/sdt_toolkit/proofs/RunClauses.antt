@@ -121,7 +121,7 @@ steps_told words o seats left a commanded r is placed =
     answer_steps r (λ banks are. banks_whole words r banks is are) o seats left placed answers.read answers.read_so a answers.says
 
 pub starts_told : LinkedRunsStart → (words : List (List ℕ)) (o : Outside) (seats left : List Seat) (a : Answer) → Commanded (command_of words) o seats left a → StartsAsLinked (command_of words) o seats left a
-starts_told law words o seats left a commanded r is sources w description before after i views is_scatter are_loads line some link told by_map placed writable =
-    law sources w description before after i views r o seats left a is_scatter are_loads line some link told by_map
-    (λ banks are. record { banks_whole = banks_whole words r banks is are; seats_whole = placed; writable = writable banks are })
+starts_told law words o seats left a commanded r is sources w before after i views b together link told names placed suit =
+    law sources w before after i views b r o seats left a together link told names
+    (λ banks are. let s = suit banks are in (s.ranges, record { banks_whole = banks_whole words r banks is are; seats_whole = placed; writable = s.writable }))
     (run_answers words o seats left a commanded r is)

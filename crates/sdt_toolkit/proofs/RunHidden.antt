@@ -1,5 +1,5 @@
 -- The kit in an image, and the run of a program that keeps the rules over silent devices.
-use Rattle.std.proofs.Common.{◌≡◌, ℕ, zero, suc, ◌+◌, ◌-◌, ◌%◌, ◌^◌, ◌<◌, ◌≤◌, true, false, List, [], ◌∷◌, length, get_or, Option, Some, Result, Ok, refl, sym, ap, ◌∙◌, subst, arith}
+use Rattle.std.proofs.Common.{◌≡◌, inl, ℕ, zero, suc, ◌+◌, ◌-◌, ◌%◌, ◌^◌, ◌<◌, ◌≤◌, true, false, List, [], ◌∷◌, length, get_or, Option, Some, Result, Ok, refl, sym, ap, ◌∙◌, subst, arith}
 use Rattle.std.specs.List.{AllByRecursion}
 use Rattle.sdt_fault.specs.declared.answer.Answer.{Answer}
 use Rattle.sdt_fault.specs.declared.answer.Answer.TheVariants as answer
@@ -11,7 +11,7 @@ use Rattle.aof_object.specs.declared.records.Object.{Object}
 use Rattle.arm7_model.specs.declared.event.Event.TheVariants as event
 use Rattle.arm7_model.specs.Memory.{Board, Bytes}
 use Rattle.arm7_model.specs.Outcomes.{Stepped}
-use Rattle.arm7_model.specs.Runs.{behind}
+use Rattle.arm7_model.specs.Runs.{accesses_of, behind}
 use Rattle.arm7_bus.specs.declared.memory.Bank.{Bank}
 use Rattle.arm7_bus.specs.Seats.{Seat}
 use Rattle.arm7_bus.specs.States.{State, protected_at}
@@ -52,13 +52,14 @@ use Rattle.sdt_toolkit.specs.Commands.{Commanded}
 use Rattle.sdt_toolkit.specs.Interrupts.{HidesInterrupts, InterruptsAreHidden, IsInForce, MayBeInterrupted, has_word, silenced}
 use Rattle.sdt_toolkit.specs.Links.{IsAskedAs, image_files, outputs, text_in}
 use Rattle.sdt_toolkit.specs.RunImages.{is_needed, needs_of, run_image}
-use Rattle.sdt_toolkit.specs.Runs.{FilesAreRead}
-use Rattle.sdt_toolkit.specs.Starting.{FitsAt, ReachesEntry, written_in}
+use Rattle.sdt_toolkit.specs.Runs.{FilesAreRead, map_booting}
+use Rattle.sdt_toolkit.specs.Starting.{FitsAt, ReachesEntry}
 use Rattle.sdt_toolkit.proofs.RunLinked.{stand}
 use Rattle.sdt_toolkit.proofs.RunNeeds.{needed_page}
-use Rattle.sdt_toolkit.proofs.RunOpened.{IsOpened, Reaches as Ways, bank_there, opened, ready, valid}
+use Rattle.sdt_toolkit.proofs.RunBooting.{Reaches as Ways, map_can}
+use Rattle.sdt_toolkit.proofs.RunOpened.{IsOpened, bank_there, opened, ready, valid}
 use Rattle.sdt_toolkit.proofs.RunSilenced.{are_silent, device_word, no_bank, roomy_silenced, same_places, silent_bus}
-use Rattle.sdt_toolkit.proofs.RunStartup.{startup}
+use Rattle.sdt_toolkit.proofs.RunStartup.{each_used, startup}
 
 -- ---- what the view shows of the kit
 
@@ -114,7 +115,7 @@ ordinary : (steps : List Stepped) → AreOrdinary steps → AllByRecursion (λ x
 ordinary [] h = tt
 ordinary (x ∷ xs) h = (h.0, ordinary xs h.1)
 
-module _ {i : Image} {view : ByteMap} {s : State} (o : IsOpened i (written_in i) s) (r : Ways i view (written_in i)) (ack work : ℕ) (seen : IsSeen ack work view)
+module _ {i : Image} {view : ByteMap} {s : State} (o : IsOpened (map_booting i view) s) (r : Ways i view) (ack work : ℕ) (seen : IsSeen ack work view)
     (low : 0x50 ≤ work) (whole : ack % 4 ≡ 0) (small : ack < 2 ^ 32) (has : has_word s.devices ack ≡ true) (free : (k : ℕ) → k < 12 → protected_at s.contents.banks (work + k) ≡ false) where
   there : (x b : ℕ) → view x ≡ Some b → (board_of s).memory x ≡ true
   there x b e = bank_there o x (r.can.ranged x b e)
@@ -159,7 +160,7 @@ module _ {i : Image} {view : ByteMap} {s : State} (o : IsOpened i (written_in i)
 
 -- the run of an image over silent devices
 module _ (law : StartedExitsAlike) (i : Image) (view : ByteMap) (banks : List Bank) (seats left : List Seat) (most ack work : ℕ) (before after : Option (List ℕ)) (rose : Type 0)
-    (r : Ways i view (written_in i)) (seen : IsSeen ack work view) (low : 0x50 ≤ work) (whole : ack % 4 ≡ 0) (small : ack < 2 ^ 32) (has : has_word seats ack ≡ true)
+    (r : Ways i view) (seen : IsSeen ack work view) (low : 0x50 ≤ work) (whole : ack % 4 ≡ 0) (small : ack < 2 ^ 32) (has : has_word seats ack ≡ true)
     (may : MayBeInterrupted i view banks seats work) where
   pub silent_run : Ran banks (run_image i) most stop.Exit before after rose seats left
       → (left' : List Seat) × Ran banks (run_image i) most stop.Exit before after rose (silenced seats) left'
@@ -167,21 +168,22 @@ module _ (law : StartedExitsAlike) (i : Image) (view : ByteMap) (banks : List Ba
       let t = ran.begin in
       let q = silent_bus t in
       let run = ran.is_run in
-      let o : IsOpened i (written_in i) t = opened i (written_in i) banks seats t ran.roomy may.allow ran.opening in
-      let (steps, p) = startup o r run.core run.reset in
+      let can = map_can i view r in
+      let o : IsOpened (map_booting i view) t = opened (map_booting i view) banks seats t ran.roomy may.allow (inl (λ x v e. r.can.ranged x v e)) ran.opening in
+      let (steps, p) = startup o can run.core run.reset in
       let (text, runs, got) = run.runs in
       let has_t : has_word t.devices ack ≡ true = subst (λ (ds : List Seat). has_word ds ack ≡ true) (sym ran.opening.devices) has in
       let free_t = λ (k : ℕ) (lt : k < 12). subst (λ (bs : List Bank). protected_at bs (work + k) ≡ false) (sym ran.opening.banks_are) (may.free k lt) in
       let board : board_of q ≡ board_of t = board-same t q (same_places t) in
       let ready_q = ready-same t q (same_places t) refl (ready o).room (ready o) in
-      let quiet : AreQuiet run.core t steps = record { are = p.given; ordinary = ordinary steps p.are.boot.ordinary; off = p.are.off; used = p.uses } in
+      let quiet : AreQuiet run.core t steps = record { are = p.given; ordinary = ordinary steps p.are.boot.ordinary; off = p.are.off; used = each_used o can (λ x v e. r.can.ranged x v e) (accesses_of steps) p.are.boot.booted.safe } in
       let kit_t = kit_over o r ack work seen low whole small has_t free_t (behind (over run.core t) steps).memory p.are.boot.booted.shown in
       let kit_q : IsKit (board_of q) work ack (behind (over run.core t) steps).memory =
       subst (λ (b : Board). IsKit b work ack (behind (over run.core t) steps).memory) (sym board) kit_t in
       let rules_t = may.rules run.core t steps run.reset ran.opening p.are in
       let (made, fewer, core, end, silent) =
       law work ack most run.made run.core run.core' q t run.end steps text ready_q (ready o) (are_silent t.devices) (has_work o r ack work seen low whole small has_t free_t) refl (sym board)
-      (valid o r run.core run.reset) quiet kit_q (subst (λ (b : Board). KeepsRules b work (behind (over run.core t) steps)) (sym board) rules_t) runs in (
+      (valid o can run.core run.reset) quiet kit_q (subst (λ (b : Board). KeepsRules b work (behind (over run.core t) steps)) (sym board) rules_t) runs in (
         end.devices,
         record {
           roomy = roomy_silenced banks seats (needs_of i) ran.roomy;

@@ -1,5 +1,5 @@
 -- A bus that was opened for an image: it is ready, and the startup code may run over it.
-use Rattle.std.proofs.Common.{◌≡◌, ℕ, ◌<◌, ◌≤◌, Bool, true, false, ◌||◌, List, [], map, refl, sym, ap, ◌∙◌, subst, arith}
+use Rattle.std.proofs.Common.{◌≡◌, ◌⊎◌, inl, inr, ℕ, ◌<◌, ◌≤◌, Bool, true, false, ◌||◌, List, Some, refl, sym, ap, ◌∙◌, subst}
 use Rattle.std.specs.Prelude.{◌&&◌}
 use Rattle.sdt_word.specs.Numbers.{bit, bits}
 use Rattle.arm7_model.specs.declared.state.ArmState.{ArmState}
@@ -14,44 +14,50 @@ use Rattle.arm7_bus.specs.WholeWords.{AreWholeBanks, AreWholeSeats}
 use Rattle.arm7_core.specs.Resets.{IsReset}
 use Rattle.arm7_transfers.specs.Boards.{board_of, over}
 use Rattle.arm7_transfers.specs.Ready.{IsReady}
-use Rattle.boot_code.specs.Boots.{ByteMap, CanStart}
-use Rattle.boot_code.specs.Maps.{map_of}
-use Rattle.chunk_file.specs.Grammar.{AreBytes}
-use Rattle.place_model.proofs.ListLemmas.{all_map}
-use Rattle.link_model.specs.declared.images.Image.{Image}
-use Rattle.run_opening.specs.declared.image.Load.{Load}
+use Rattle.boot_code.specs.Boots.{CanStart}
 use Rattle.run_opening.specs.declared.image.Need.{Need}
 use Rattle.run_opening.specs.Banks.{AreUsed, IsRoomy, banks_share, frames_of}
 use Rattle.run_opening.specs.Openings.{IsOpening, loaded}
-use Rattle.sdt_toolkit.specs.RunImages.{CanRun, is_needed, load_of, needs_of, region_need, run_image}
-use Rattle.sdt_toolkit.specs.Runs.{Allow, BootsTo}
-use Rattle.sdt_toolkit.specs.Starting.{segments_of}
-use Rattle.sdt_toolkit.proofs.RunLoads.{load_needed, loaded_at, loaded_bytes}
+use Rattle.run_laws.proofs.SmallBanks.{HasAll, opened-with-all}
+use Rattle.sdt_toolkit.specs.RunImages.{is_needed}
+use Rattle.sdt_toolkit.specs.Runs.{Allow, Booting, CanBoot, HasView}
 use Rattle.sdt_toolkit.proofs.RunNeeds.{needed_bank, none_left, none_right, same_used}
 
--- the image reaches its entry, and can be run
-pub record Reaches (i : Image) (view : ByteMap) (written : ℕ → Bool) : Type 0 where
-  pub boots : BootsTo i view written
-  pub can : CanRun i view
+-- where the view has a byte, a page that the image uses; or memory, with a frame for each page that can be stored to
+pub record HasFrames (b : Booting) (s : State) : Type 0 where
+  pub there : (x v : ℕ) → b.view x ≡ Some v → bank_has s.contents.banks x 1 ≡ true
+  pub all : HasAll s.contents
+
+abbrev pub IsViewed : Booting → State → Type 0
+IsViewed b s = ((x v : ℕ) → b.view x ≡ Some v → is_needed b.run.needs x ≡ true) ⊎ HasFrames b s
 
 -- a bus that has room for the image, as its opening left it
-pub record IsOpened (i : Image) (written : ℕ → Bool) (s : State) : Type 0 where
-  pub roomy : IsRoomy s.contents.banks s.devices (needs_of i)
-  pub allow : Allow s.contents.banks s.devices written
-  pub memory : s.contents.memory ≡ loaded (λ a. 0) (map load_of i.loads)
-  pub used : AreUsed s.contents.used (needs_of i)
+pub record IsOpened (b : Booting) (s : State) : Type 0 where
+  pub roomy : IsRoomy s.contents.banks s.devices b.run.needs
+  pub allow : Allow s.contents.banks s.devices b.written
+  pub memory : s.contents.memory ≡ loaded (λ a. 0) b.run.loads
+  pub used : AreUsed s.contents.used b.run.needs
   pub frames : s.contents.frames ≡ frames_of s.contents.banks
+  pub viewed : IsViewed b s
 
-pub opened : (i : Image) (written : ℕ → Bool) (banks : List Bank) (seats : List Seat) (s : State) → IsRoomy banks seats (needs_of i) → Allow banks seats written
-    → IsOpening banks (run_image i) seats s → IsOpened i written s
-opened i written banks seats s roomy allow o =
-    let b = o.banks_are in let d = o.devices in
+is_viewed : (b : Booting) (banks : List Bank) (seats : List Seat) (s : State) → IsRoomy banks seats b.run.needs → IsOpening banks b.run seats s → HasView b banks → IsViewed b s
+is_viewed b banks seats s roomy o (inl h) = inl h
+is_viewed b banks seats s roomy o (inr t) = inr (record {
+  there = λ x v e. subst (λ (bs : List Bank). bank_has bs x 1 ≡ true) (sym o.banks_are) (t.there x v e);
+  all = opened-with-all banks seats b.run s t.pages roomy o;
+})
+
+pub opened : (b : Booting) (banks : List Bank) (seats : List Seat) (s : State) → IsRoomy banks seats b.run.needs → Allow banks seats b.written → HasView b banks
+    → IsOpening banks b.run seats s → IsOpened b s
+opened b banks seats s roomy allow has o =
+    let k = o.banks_are in let d = o.devices in
     record {
-      roomy = subst (λ (bs : List Bank). IsRoomy bs s.devices (needs_of i)) (sym b) (subst (λ (ds : List Seat). IsRoomy banks ds (needs_of i)) (sym d) roomy);
-      allow = subst (λ (bs : List Bank). Allow bs s.devices written) (sym b) (subst (λ (ds : List Seat). Allow banks ds written) (sym d) allow);
+      roomy = subst (λ (bs : List Bank). IsRoomy bs s.devices b.run.needs) (sym k) (subst (λ (ds : List Seat). IsRoomy banks ds b.run.needs) (sym d) roomy);
+      allow = subst (λ (bs : List Bank). Allow bs s.devices b.written) (sym k) (subst (λ (ds : List Seat). Allow banks ds b.written) (sym d) allow);
       memory = o.memory;
       used = o.used;
-      frames = o.frames ∙ ap frames_of (sym b);
+      frames = o.frames ∙ ap frames_of (sym k);
+      viewed = is_viewed b banks seats s roomy o has;
     }
 
 not_both : (x y : Bool) → (x && y) ≡ false → y ≡ true → x ≡ false
@@ -81,30 +87,35 @@ ready_for needs s roomy banks seats used frames = record {
     both : (a : ℕ) → (banks_share s.contents.banks a || seats_share s.devices a || (bank_has s.contents.banks a 1 && seats_have s.devices a)) ≡ false
     both a = roomy.apart.none a
 
-module _ {i : Image} {written : ℕ → Bool} {s : State} (o : IsOpened i written s) where
+module _ {b : Booting} {s : State} (o : IsOpened b s) where
   pub ready : IsReady s
-  ready = ready_for (needs_of i) s o.roomy o.allow.banks_whole o.allow.seats_whole o.used o.frames
+  ready = ready_for b.run.needs s o.roomy o.allow.banks_whole o.allow.seats_whole o.used o.frames
 
-  pub bank_there : (x : ℕ) → is_needed (needs_of i) x ≡ true → (board_of s).memory x ≡ true
+  pub bank_there : (x : ℕ) → is_needed b.run.needs x ≡ true → (board_of s).memory x ≡ true
   unfolding board_of
-  bank_there x e = needed_bank s.contents.banks (needs_of i) o.roomy.room x e
+  bank_there x e = needed_bank s.contents.banks b.run.needs o.roomy.room x e
 
-  module _ {view : ByteMap} (r : Reaches i view written) where
-    pub valid : (core : ArmState) → IsReset i.start false core → IsValidState (over core s)
+  pub view_there : (x v : ℕ) → b.view x ≡ Some v → (board_of s).memory x ≡ true
+  unfolding board_of
+  view_there x v e = go o.viewed
+    where
+      go : IsViewed b s → (board_of s).memory x ≡ true
+      go (inl ranged) = needed_bank s.contents.banks b.run.needs o.roomy.room x (ranged x v e)
+      go (inr t) = t.there x v e
+
+  module _ (can : CanBoot b) where
+    pub valid : (core : ArmState) → IsReset b.run.start false core → IsValidState (over core s)
     valid core reset = record {
       core = reset.valid;
-      memory = λ x. subst (λ (m : Bytes). m x < 256) (sym o.memory) (loaded_bytes (λ a. 0) (map load_of i.loads) (λ y. omega arith) (all_map (λ (l : Load). AreBytes l.bytes) load_of i.loads r.can.bytes) x);
+      memory = λ x. subst (λ (m : Bytes). m x < 256) (sym o.memory) (can.small x);
     }
 
-    pub can_start : (core : ArmState) → IsReset i.start false core → CanStart (map_of (segments_of i)) view written i.start (board_of s) (over core s)
+    pub can_start : (core : ArmState) → IsReset b.run.start false core → CanStart b.files b.view b.written b.run.start (board_of s) (over core s)
     unfolding board_of
     can_start core reset = record {
       valid = valid core reset;
-      loaded = λ x b e. (
-        bank_there x (load_needed i.loads (map region_need i.regions) x b e),
-        ap (λ (m : Bytes). m x) o.memory ∙ loaded_at (λ a. 0) [] i.loads x b (r.can.filed [] refl refl).map.apart e,
-      );
-      there = λ x b e. bank_there x (r.can.ranged x b e);
+      loaded = λ x v e. (bank_there x (can.needed x v e), ap (λ (m : Bytes). m x) o.memory ∙ can.holds x v e);
+      there = view_there;
       writable = o.allow.writable;
       supervisor = ap (λ (n : ℕ). bits n 0 5) reset.status;
       arm = ap (λ (n : ℕ). bit n 5) reset.status;

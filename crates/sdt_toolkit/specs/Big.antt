@@ -45,7 +45,7 @@ use Rattle.sdt_toolkit.specs.BigStarts.{big_startup}
 use Rattle.sdt_toolkit.specs.Headline.{IsLinkedInto}
 use Rattle.sdt_toolkit.specs.Inputs.{is_source_name, module_of}
 use Rattle.sdt_toolkit.specs.RunImages.{needs_of, run_image}
-use Rattle.sdt_toolkit.specs.Runs.{HasStarted}
+use Rattle.sdt_toolkit.specs.Runs.{HasStarted, map_booting}
 use Rattle.sdt_toolkit.specs.Starting.{HasBytes}
 
 -- ---- the image
@@ -83,7 +83,7 @@ default_banks = banks_of [] []
 pub record IsBigRun (n : ℕ) (i : Image) (seats left : List Seat) : Type 0 where
   pub view : ByteMap
   pub most : ℕ
-  pub started : HasStarted i view default_banks most stop.Exit (Some []) (Some []) (Rose 0 0) seats left
+  pub started : HasStarted (map_booting i view) default_banks most stop.Exit (Some []) (Some []) (Rose 0 0) seats left
   pub count : started.ran.is_run.made ≡ length started.steps + (n + 3)
   pub sum : register started.ran.is_run.core' 4 ≡ big_sum n
   pub ticked : left ≡ ticked_for (length started.steps + (n + 3)) seats

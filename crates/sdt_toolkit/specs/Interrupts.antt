@@ -39,7 +39,7 @@ use Rattle.tool_run.specs.Runs.{AreBanks, RunAnswers}
 use Rattle.sdt_toolkit.specs.Headline.{IsLinkedInto}
 use Rattle.sdt_toolkit.specs.Plans.{plan_at}
 use Rattle.sdt_toolkit.specs.RunImages.{run_image}
-use Rattle.sdt_toolkit.specs.Runs.{Allow, AreStartup}
+use Rattle.sdt_toolkit.specs.Runs.{Allow, AreStartup, map_booting}
 use Rattle.sdt_toolkit.specs.Starting.{written_in}
 
 -- ---- the kit in an image
@@ -68,7 +68,7 @@ pub record MayBeInterrupted (i : Image) (view : ByteMap) (banks : List Bank) (se
   pub allow : Allow banks seats (written_in i)
   pub free : (k : ℕ) → k < 12 → protected_at banks (work + k) ≡ false
   pub rules : (core : ArmState) (s : State) (steps : List Stepped) → IsReset i.start false core → IsOpening banks (run_image i) seats s
-      → AreStartup i view core s steps → KeepsRules (board_of s) work (behind (over core s) steps)
+      → AreStartup (map_booting i view) core s steps → KeepsRules (board_of s) work (behind (over core s) steps)
 
 -- ---- the run without interrupts
 

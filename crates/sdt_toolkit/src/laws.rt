@@ -12,10 +12,12 @@ ghost use Rattle.sdt_toolkit.specs.Sources.{OneAsked};
 use armasm_core::laws::one_assembly;
 use armlink_core::laws::{image_names, table_names};
 use bin_image::{map_law, spelling_law};
+use elf_image::elf_law;
 use hex_image::{ihex_law, srec_law};
 use link_model::linked_law;
 use run_laws::{bus_run_is_one, made_steps_are_one, started_exits_alike};
 use scatter_text::reading_law;
+use tool_run::elf_load_law;
 
 /// Files ask for one thing.
 pub fn one_asked()
@@ -57,8 +59,8 @@ fn files_are_read()
     spelling_law();
 }
 
-/// The first steps of a run of it are the startup code's, which lead to the entry; a run that ends there or before touches no
-/// device.
+/// The first steps of a run of an image that starts are the startup code's, which lead to the entry; a run that ends there or
+/// before touches no device.
 fn runs_start()
     ensures { RunsStart }
 {
@@ -66,19 +68,22 @@ fn runs_start()
     made_steps_are_one();
 }
 
-/// Where the files of a scatter image that can be run stand in a store, each run that the command `run` makes by its map
-/// begins with the startup code's steps, which lead to the entry with memory as its view.
+/// Each run that the command `run` makes of such an image, which its words read, begins with the startup code's steps, which
+/// lead to the entry with memory as its view.
 pub fn commands_start()
     ensures { CommandsStart }
 {
-    files_are_read();
     runs_start();
 }
 
-/// So does each run by the map that `link` or `build` left of a scatter image, over the files as they left them.
+/// So does each run by the map, or of the ELF executable, that `link` or `build` left of a scatter image, over the files as they
+/// left them.
 pub fn linked_runs_start()
     ensures { LinkedRunsStart }
 {
+    files_are_read();
+    elf_law();
+    elf_load_law();
     commands_start();
 }
 

@@ -27,7 +27,7 @@ file_length b s h = by_place h.within
     by_place (inl none) = ap (λ n. length (take n (drop s.offset b))) none ∙ sym none
     by_place (inr le) = length-take-le s.file_size (drop s.offset b) (omega (arith, length-drop s.offset b))
 
-memory_length : (b : List ℕ) (s : Segment) → IsSegment (length b) s → length (bytes_in b s) ≡ s.memory_size
+pub memory_length : (b : List ℕ) (s : Segment) → IsSegment (length b) s → length (bytes_in b s) ≡ s.memory_size
 memory_length b s h =
     let held = h.held in
     omega (arith, length-append (file_bytes b s) (replicate (s.memory_size - s.file_size) 0), length-replicate {A = ℕ} (s.memory_size - s.file_size) 0, file_length b s h)
@@ -77,13 +77,13 @@ zero_behind xs n k le =
     ap (λ i. get_or (xs ++ replicate n 0) i 0) place ∙ (get_or-append-add xs (replicate n 0) (k - length xs) 0 ∙ zero_at n (k - length xs))
 
 -- the memory, and the byte that a file shows with one segment more
-abbrev held_by : List ℕ → List Segment → Bytes
+abbrev pub held_by : List ℕ → List Segment → Bytes
 held_by b ss = loaded (λ x. 0) (map (load_of b) ss)
 
 abbrev shown_with : List ℕ → List Segment → Segment → ℕ → ℕ
 shown_with b ss s a = unwrap_or (map_of (map (elf.loaded b) ss ++ elf.loaded b s ∷ []) a) 0
 
-abbrev Same : List ℕ → List Segment → Type 0
+abbrev pub Same : List ℕ → List Segment → Type 0
 Same b ss = (a : ℕ) → held_by b ss a ≡ unwrap_or (map_of (map (elf.loaded b) ss) a) 0
 
 -- a segment more, whose bytes lie on zeros
@@ -125,7 +125,7 @@ all_more : (n : ℕ) (ss : List Segment) (s : Segment) → AllByRecursion (IsSeg
 all_more n [] s all h = (h, tt)
 all_more n (t ∷ ts) s all h = (all.0, all_more n ts s all.1 h)
 
-abbrev AreLoaded : List ℕ → List Segment → Type 0
+abbrev pub AreLoaded : List ℕ → List Segment → Type 0
 AreLoaded b ss = AllByRecursion (IsSegment (length b)) ss × Same b ss
 
 walk : (b : List ℕ) (n : ℕ) → ((k : ℕ) → k < n → Holds (Fits k) b × Holds (Apart k) b) → AreLoaded b (segments_before b n)
@@ -147,7 +147,7 @@ each b j (suc n) h zero lt = subst (λ i. Holds (Fits i) b × Holds (Apart i) b)
 each b j (suc n) h (suc k) lt =
     subst (λ i. Holds (Fits i) b × Holds (Apart i) b) (let same : suc j + k ≡ j + suc k = omega arith in same) (each b (suc j) n h.1.1 k (omega arith))
 
-are_loaded : (b : List ℕ) (e : Elf) → ReadsElf b e → AreLoaded b e.segments
+pub are_loaded : (b : List ℕ) (e : Elf) → ReadsElf b e → AreLoaded b e.segments
 are_loaded b e h =
     subst (AreLoaded b) (sym h.segments) (walk b (header_count b) (λ k lt. subst (λ i. Holds (Fits i) b × Holds (Apart i) b) (let same : 0 + k ≡ k = omega arith in same) (each b 0 (header_count b) h.checked.1.1.1.1.1.1.1 k lt)))
 
