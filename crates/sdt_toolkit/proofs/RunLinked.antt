@@ -24,7 +24,7 @@ use Rattle.bin_image.specs.declared.records.OutFile.{OutFile}
 use Rattle.bin_image.specs.Files.{load_files, map_name}
 use Rattle.elf_image.specs.declared.records.Elf.{Elf}
 use Rattle.elf_image.specs.Files.{elf_file, elf_load}
-use Rattle.elf_image.specs.Named.{named_file}
+use Rattle.elf_image.specs.Tables.{named_file}
 use Rattle.elf_image.specs.Reading.{ElfLaw, elf_of}
 use Rattle.run_opening.specs.declared.image.Image.{Image as RunImage}
 use Rattle.tool_answers.specs.Inputs.{found_or}
@@ -46,7 +46,7 @@ use Rattle.sdt_toolkit.specs.Containers.{FilesHold, IsElfFile, IsNamedFile}
 use Rattle.sdt_toolkit.specs.Headline.{IsLinkedInto}
 use Rattle.sdt_toolkit.specs.Links.{IsAskedAs, image_files, outputs, text_in}
 use Rattle.sdt_toolkit.specs.RunImages.{HasFiles, run_image}
-use Rattle.sdt_toolkit.specs.Runs.{Allow, AnswerStarts, Booting, CommandsStart, FilesAreRead, HaveRanges, LinkedRunsStart, Names, TakeView, elf_booting, map_booting}
+use Rattle.sdt_toolkit.specs.Runs.{Allow, AnswerStarts, Booting, CommandsStart, FilesAreRead, HaveRanges, LinkedRunsStart, Names, TakeView, elf_booting, map_booting, executable}
 use Rattle.sdt_toolkit.specs.Starting.{ReachesEntry, segments_of}
 use Rattle.sdt_toolkit.proofs.RunBooting.{Reaches, elf_can, map_can}
 

@@ -31,9 +31,9 @@ use Rattle.bin_image.specs.Fields.{lacks}
 use Rattle.bin_image.specs.Files.{load_files, map_name}
 use Rattle.elf_image.specs.declared.records.Elf.{Elf}
 use Rattle.elf_image.specs.Checks.{ReadsElf}
-use Rattle.elf_image.specs.declared.records.Tables.{Tables}
+use Rattle.elf_image.specs.declared.tables.Tables.{Tables}
 use Rattle.elf_image.specs.Files.{elf_file}
-use Rattle.elf_image.specs.Named.{named_file}
+use Rattle.elf_image.specs.Tables.{named_file}
 use Rattle.tool_answers.specs.Outcomes.{Outside}
 use Rattle.tool_words.specs.declared.command.Command.{Command}
 use Rattle.tool_words.specs.declared.command.Command.TheVariants as command
