@@ -4,4 +4,4 @@ use Rattle.link_report.proofs.SelectionLemmas.{cond_or}
 use Rattle.link_report.proofs.selections.add.Goals as goal
 
 pub returns : goal.returns
-returns c = λ q. c.in_ok-insert.ensures.updates.0 q ∙ cond_or (same_key c.args.key q) (has_key c.args.keys.now q)
+returns c = λ q. c.in_ok-insert.ensures q ∙ cond_or (same_key c.args.key q) (has_key c.args.keys.now q)
