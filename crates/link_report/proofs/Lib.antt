@@ -1,3 +1,4 @@
+mod EqualLemmas
 mod KeyLemmas
 mod MemberLemmas
 mod OrderingLemmas

@@ -1,8 +1,8 @@
 -- The key of an area's best selections, and sets of keys that grow.
-use Rattle.std.proofs.Common.{◌≡◌, ◌⊎◌, inl, inr, ℕ, suc, ◌+◌, ◌<◌, ◌≤◌, Bool, true, false, ◌&&◌, ◌||◌, ◌==◌, if◌then◌else◌, List, [], ◌∷◌, ◌++◌, length, get_or, drop, map, flat_map, Option, Some, None, refl, sym, ap, ◌∙◌, subst, arith, append_assoc, append-nil}
+use Rattle.std.proofs.Common.{◌≡◌, ◌⊎◌, inl, inr, ℕ, suc, ◌+◌, ◌<◌, ◌≤◌, Bool, true, false, cond, ◌&&◌, ◌||◌, ◌==◌, if◌then◌else◌, List, [], ◌∷◌, ◌++◌, length, get_or, drop, map, flat_map, Option, Some, None, refl, sym, ap, ◌∙◌, subst, arith, append_assoc, append-nil}
 use Rattle.std.specs.Prelude.{is_some}
 use Rattle.std.specs.List.{filter, list_any}
-use Rattle.std.proofs.lemmas.Bool.{cases_lt}
+use Rattle.std.proofs.lemmas.Bool.{cases_lt, eqb-true}
 use Rattle.std.proofs.lemmas.List.{at_drop_all, at_drop_more}
 use Rattle.std.proofs.lemmas.List.Folds.{list_any-append}
 use Rattle.aof_object.specs.declared.records.Area.{Area}
@@ -27,6 +27,10 @@ in_turn true true h = refl
 in_turn true false h = refl
 in_turn false r h = refl
 
+pub cond_or : (b x : Bool) → cond b true x ≡ (b || x)
+cond_or true x = refl
+cond_or false x = refl
+
 -- one more of a list whose others are still to come
 pub one_more : {X : Type 0} (p : X → Bool) (x : X) (rest : List X) (h g : Bool) → g ≡ (p x || h) → (list_any p rest || g) ≡ (list_any p (x ∷ rest) || h)
 one_more p x rest h g e = ap (λ b. list_any p rest || b) e ∙ sym (in_turn (p x) (list_any p rest) h)
@@ -38,17 +42,17 @@ some_more p xs rest h g e =
 
 -- ---- selections of regions
 
-map_any : (region : ℕ) (p : Selection → Bool) (ss : List Selection) → list_any (λ o. p o.selection) (map (λ s. record { region = region; selection = s }) ss) ≡ list_any p ss
+map_any : (region : ℕ) (p : Selection → Bool) (ss : List Selection) → list_any (λ (o : Offer). p o.selection) (map (λ (s : Selection). record { region = region; selection = s }) ss) ≡ list_any p ss
 map_any region p [] = refl
 map_any region p (s ∷ ss) = ap (λ b. p s || b) (map_any region p ss)
 
-pub offers_any : (k : ℕ) (p : Selection → Bool) (rs : List ScatterRegion) → list_any (λ o. p o.selection) (offers_from k rs) ≡ list_any p (flat_map (λ r. r.selections) rs)
+pub offers_any : (k : ℕ) (p : Selection → Bool) (rs : List ScatterRegion) → list_any (λ (o : Offer). p o.selection) (offers_from k rs) ≡ list_any p (flat_map (λ (r : ScatterRegion). r.selections) rs)
 offers_any k p [] = refl
 offers_any k p (r ∷ rs) =
-    list_any-append (λ o. p o.selection) (map (λ s. record { region = k; selection = s }) r.selections) (offers_from (suc k) rs)
-    ∙ ap (λ b. b || list_any (λ o. p o.selection) (offers_from (suc k) rs)) (map_any k p r.selections)
-    ∙ ap (λ b. list_any p r.selections || b) (offers_any (suc k) p rs)
-    ∙ sym (list_any-append p r.selections (flat_map (λ q. q.selections) rs))
+    list_any-append (λ (o : Offer). p o.selection) (map (λ (s : Selection). record { region = k; selection = s }) r.selections) (offers_from (suc k) rs)
+    ∙ ap (λ (b : Bool). b || list_any (λ (o : Offer). p o.selection) (offers_from (suc k) rs)) (map_any k p r.selections)
+    ∙ ap (λ (b : Bool). list_any p r.selections || b) (offers_any (suc k) p rs)
+    ∙ sym (list_any-append p r.selections (flat_map (λ (q : ScatterRegion). q.selections) rs))
 
 -- ---- those that pass a test
 
@@ -81,7 +85,7 @@ and_first true b h = refl
 and_first false b h = h
 
 same_rank : (m n : ℕ) → (m == n) ≡ true → m ≡ n
-same_rank m n h = omega (arith, h)
+same_rank m n h = eqb-true m n h
 
 module _ (offers : List Offer) (i : Item) where
   -- the first rank of some is that of all that take the area

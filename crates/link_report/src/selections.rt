@@ -1,6 +1,6 @@
 //! The selections of a description that took no area.
 
-ghost use Rattle.std.specs.Prelude.{◌≡◌, ◌++◌, ◌||◌, ℕ, List, OnOk, IfOk};
+ghost use Rattle.std.specs.Prelude.{◌≡◌, ◌++◌, ◌||◌, ℕ, List, OnOk, IfOk, if◌then◌else◌, true};
 ghost use Rattle.std.specs.List.{flat_map, list_any};
 ghost use Rattle.place_model.specs.Assignment.{Offer, offers_from};
 ghost use Rattle.place_model.specs.Items.{Item};
@@ -80,10 +80,17 @@ fn class_of<'a>(area: &Area) -> Sought<'a>
     Sought::Rw
 }
 
+fn insert<'a>(keys: &mut IndexSet<Key<'a>>, key: Key<'a>) -> Result<(), NoMemory>
+    ensures { OnOk result ((q : Key) → has_key keys.new q ≡ (if same_key key.entry q then true else has_key keys.old q)) }
+{
+    keys.insert(key)?;
+    Ok(())
+}
+
 fn add<'a>(keys: &mut IndexSet<Key<'a>>, key: Key<'a>) -> Result<(), NoMemory>
     ensures { OnOk result ((q : Key) → has_key keys.new q ≡ (same_key key.entry q || has_key keys.old q)) }
 {
-    keys.insert(key)?;
+    insert(keys, key)?;
     Ok(())
 }
 
