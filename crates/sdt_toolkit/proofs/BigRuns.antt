@@ -1,5 +1,5 @@
 -- The run of the image of a generated source in the default bank: what refuses it, and how it ends.
-use Rattle.std.proofs.Common.{◌≡◌, inl, ℕ, ◌+◌, ◌-◌, ◌*◌, ◌/◌, ◌%◌, ◌<◌, ◌≤◌, ◌==◌, Bool, true, false, cond, List, [], ◌∷◌, length, Some, refl, sym, ap, ◌∙◌, subst, arith, nat_lt, ⊥}
+use Rattle.std.proofs.Common.{◌≡◌, inl, ℕ, ◌+◌, ◌-◌, ◌*◌, ◌/◌, ◌%◌, ◌<◌, ◌≤◌, ◌==◌, Bool, true, false, cond, List, [], ◌∷◌, length, Some, refl, sym, ap, ◌∙◌, subst, arith, nat_lt}
 use Rattle.std.specs.List.{AllByRecursion}
 use Rattle.std.proofs.lemmas.Bool.{lt-ltb}
 use Rattle.sdt_word.specs.Numbers.{flag}
@@ -152,14 +152,14 @@ module _ (ends : BigRunEnds) (program : ProgramIsEntered) (one : BusRunIsOne) (o
           few = (let c = end.count in omega (arith, c, enough));
           core' = h.core';
           end = h.end;
-          runs = ([], (runs, refl));
+          runs = ([], runs, refl);
           devices = h.devices;
         };
       } in
       let started : HasStarted (map_booting i view) default_banks most stop.Exit (Some []) (Some []) (Rose 0 0) seats left = record {
         ran = ran;
         steps = front;
-        starts = starts one once o boots h.core h.reset front p most stop.Exit h.made h.core' h.end (Some []) (Some []) (Rose 0 0) ([], (runs, refl));
+        starts = starts one once o boots h.core h.reset front p most stop.Exit h.made h.core' h.end (Some []) (Some []) (Rose 0 0) ([], runs, refl);
         devices = opening.devices;
         devices_left = h.devices;
       } in

@@ -181,7 +181,7 @@ linked_burns law ihex srec records file output o answers sources w description b
     subst (λ (p : LinkPlacement). IsAskedAs p (text_in w.placement link.contents) w.ram link.shape link.ram) is_scatter link.asked in
     let (boots, can) : ReachesEntry (kind.Scatter asked.0) i views = subst (λ (k : Kind). ReachesEntry k i views) asked.2 link.placed.reaches in
     let left : Files = written before (outputs (load_files i w.output)) in
-    let are : o.before ≡ Some left = told ∙ link.left ∙ ap (λ (c : Container). Some (written before (outputs (image_files c w.output i)))) are_loads in
+    let are : o.before ≡ Some left = told ∙ link.left ∙ ap (λ (c : Container). Some (written before (outputs (image_files c w.output link.tables i)))) are_loads in
     let filed = can.filed w.output line some in
     let by_files = subst (λ (t : Option Files). IsRead t (Rose o.reads o.reads_now) (image.Map file) answers.read) are answers.read_so in
     let by_name = subst (λ (name : List ℕ). IsRead (Some left) (Rose o.reads o.reads_now) (image.Map name) answers.read) by_map by_files in
