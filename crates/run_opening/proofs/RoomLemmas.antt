@@ -1,5 +1,5 @@
 -- What is needed and is no memory, and the least of three.
-use Rattle.std.proofs.Common.{◌≡◌, ℕ, suc, ◌+◌, ◌-◌, ◌^◌, ◌<◌, ◌≤◌, Bool, true, false, ◌||◌, not, List, [], ◌∷◌, length, get_or, take, drop, Option, None, Some, refl, sym, ap, ◌∙◌, subst, arith, le-leb}
+use Rattle.std.proofs.Common.{◌≡◌, ℕ, ◌+◌, ◌-◌, ◌^◌, ◌<◌, ◌≤◌, Bool, true, false, ◌||◌, not, List, [], ◌∷◌, length, take, Option, None, Some, refl, sym, ap, ◌∙◌, subst, arith, le-leb}
 use Rattle.std.specs.Prelude.{◌&&◌, nat_le}
 use Rattle.std.proofs.lemmas.Bool.Decides.{nat_tests}
 use Rattle.arm7_bus.specs.declared.memory.Bank.{Bank}
@@ -8,7 +8,7 @@ use Rattle.arm7_bus.specs.States.{bank_has}
 use Rattle.arm7_bus.specs.Meets.{IsFound, lesser_of}
 use Rattle.arm7_bus.proofs.MeetLemmas.{either}
 use Rattle.run_opening.specs.declared.image.Need.{Need}
-use Rattle.run_opening.specs.Banks.{is_lacking, lacks}
+use Rattle.run_opening.specs.Banks.{lacks}
 
 pub three_found : (p q r : ℕ → Bool) (o u w x y : Option ℕ) → IsFound p o → IsFound q u → IsFound r w → x ≡ lesser_of o u → y ≡ lesser_of x w
     → IsFound (λ a. p a || q a || r a) y
@@ -69,18 +69,6 @@ walked bs base a e before next x le lt = go (nat_le a x) refl
     go true l = next x (grind (arith, nat_tests)) lt
     go false l = before x le (grind (arith, nat_tests))
 
-pub one_more_need : (bs : List Bank) (all ns : List Need) (n : Need) (o u x : Option ℕ) → IsFound (λ a. lacks bs n a) o → IsFound (λ a. is_lacking bs ns a) u → x ≡ lesser_of o u
-    → all ≡ n ∷ ns → IsFound (λ a. is_lacking bs all a) x
-one_more_need bs all ns n o u x f g e is =
-    subst (λ (xs : List Need). IsFound (λ a. is_lacking bs xs a) x) (sym is)
-    (subst (λ (z : Option ℕ). IsFound (λ a. is_lacking bs (n ∷ ns) a) z) (sym e) (either (λ a. lacks bs n a) (λ a. is_lacking bs ns a) o u f g))
-
 pub take_all : {A : Type 0} (xs : List A) → take (length xs) xs ≡ xs
 take_all [] = refl
 take_all {A} (x ∷ xs) = ap (λ (ys : List A). x ∷ ys) (take_all xs)
-
-pub split_first : {A : Type 0} (xs : List A) (d : A) → 1 ≤ length xs → xs ≡ get_or xs 0 d ∷ take (length xs - 1) (drop 1 xs)
-split_first [] d le = absurd (omega arith)
-split_first {A} (x ∷ xs) d le =
-    let e : suc (length xs) - 1 ≡ length xs = omega arith in
-    rw e (ap (λ (ys : List A). x ∷ ys) (sym (take_all xs)))

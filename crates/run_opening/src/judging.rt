@@ -126,8 +126,9 @@ fn first_lacking(banks: &[Range32], need: Need) -> Option<u32>
 pub fn least_lacking(banks: &[Range32], needs: &[Need]) -> Option<u32>
     ensures { IsFound (λ a. is_lacking (map memory_bank banks.now) needs.now a) result }
 {
-    let [first, rest @ ..] = needs else {
-        return None;
-    };
-    lesser(first_lacking(banks, *first), least_lacking(banks, rest))
+    let mut least = None;
+    for need in needs {
+        least = lesser(least, first_lacking(banks, *need));
+    }
+    least
 }
