@@ -1,6 +1,6 @@
 //! Links whose objects are placed: what images are made of, and what else is told of a link.
 
-ghost use Rattle.std.specs.Prelude.{◌≡◌, IfOk, Err, ⊥};
+ghost use Rattle.std.specs.Prelude.{◌≡◌, IfOk, Err, None};
 ghost use Rattle.std.specs.List.{AllByRecursion};
 ghost use Rattle.std.specs.Option.{option_copied};
 ghost use Rattle.alf_archive.specs.Grammar.{IsValid as IsValidArchive};
@@ -83,7 +83,7 @@ fn refuse(
     archives: Vec<Named<Archive>>,
     refusal: Refusal,
 ) -> Result<PlacedLink, Fault>
-    ensures exact { Links objects.items archives.items (places.placed_by (Err refusal)) result }
+    ensures exact { Links objects.items archives.items (places.placed_by (Err refusal) None) result }
     ensures none { IfOk result (λ p. ⊥) }
 {
     let _ = select(alloc, objects, archives, None)?;

@@ -4,8 +4,6 @@ use Rattle.std.specs.Prelude.{replicate}
 use Rattle.std.specs.List.{flat_map, AllByRecursion}
 use Rattle.std.proofs.lemmas.List.{length-append, length-map}
 use Rattle.sdt_word.specs.Numbers.{flag}
-use Rattle.aof_object.specs.declared.records.Symbol.{Symbol}
-use Rattle.aof_object.specs.Flags.{is_definition}
 use Rattle.boot_code.specs.Boots.{ByteMap, Boots}
 use Rattle.boot_code.specs.Maps.{bytes_of_words, map_of}
 use Rattle.place_model.specs.declared.scatter.Kind.{Kind}
@@ -134,15 +132,16 @@ regions_count k c words number region (l ∷ ls) =
     let rest = placed_regions (suc number) (loads_from k c words (region + length l.regions) ls) in
     let a = length-append (map (placed_region number) own) rest in
     let b = length-map own (placed_region number) in
-    let c1 = planned_count k c words region l.regions l.base l.base in
+    let counts = planned_count k c words region l.regions l.base l.base in
     let d = regions_count k c words (suc number) (region + length l.regions) ls in
     let e = length-append l.regions (flat_map (λ l. l.regions) ls) in
-    omega (arith, a, b, c1, d, e)
+    omega (arith, a, b, counts, d, e)
 
 pub few_sections : (k : Kind) (c : Contents) (l : Linked) (loads : ℕ) → length (described_regions k) ≤ 64
     → length (tables_in l (placement_of (plan_of k c)) loads).sections < 0xFEFC
 few_sections k c l loads few =
-    let a = two_of_all (first_offset loads) (placement_of (plan_of k c)).regions in
+    let a : length (tables_in l (placement_of (plan_of k c)) loads).sections ≤ 2 * length (placement_of (plan_of k c)).regions =
+    two_of_all (first_offset loads) (placement_of (plan_of k c)).regions in
     let b : length (placement_of (plan_of k c)).regions ≡ length (described_regions k) = regions_count k c (table_words k c) 0 0 (description k) in
     omega (arith, a, b, few)
 

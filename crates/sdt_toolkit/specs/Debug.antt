@@ -18,12 +18,12 @@ use Rattle.tool_words.specs.declared.command.Container.{Container}
 use Rattle.tool_words.specs.declared.command.Container.TheVariants as container
 
 -- the file's table of a number has a symbol of the name, with this value, for others to see as the definition says
-pub record IsFound (file : List ℕ) (table : ℕ) (s : Symbol) (value : ℕ) : Type 0 where
+pub record IsFound (file : List ℕ) (table : ℕ) (s : Symbol) (final : ℕ) : Type 0 where
   pub number : ℕ
   pub symbol : ElfSymbol
   pub there : IsSymbol file table number symbol
   pub name : symbol.name ≡ s.name
-  pub value : symbol.value ≡ value
+  pub value : symbol.value ≡ final
   pub binding : symbol.binding ≡ binding_of s.attributes
 
 -- the definition of a number of the linked object of a number; its value by the plan has bit 0 set for a label of Thumb code
