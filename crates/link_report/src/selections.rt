@@ -37,10 +37,10 @@ pub struct Key<'a> {
     pub sought: Sought<'a>,
 }
 
-fn home_of(module: &Option<Text>) -> Option<&[u8]>
-    ensures { home_in result ≡ module.now }
+fn home_of(named: &Option<Text>) -> Option<&[u8]>
+    ensures { home_in result ≡ named.now }
 {
-    match module {
+    match named {
         None => None,
         Some(home) => Some(home.as_slice()),
     }
@@ -265,10 +265,10 @@ fn taken_keys<'a>(
 
 // ---- lines
 
-fn module_text(module: &Option<Text>) -> &[u8]
-    ensures { result.now ≡ texts.module_text module.now }
+fn module_text(named: &Option<Text>) -> &[u8]
+    ensures { result.now ≡ texts.module_text named.now }
 {
-    match module {
+    match named {
         None => b"*",
         Some(home) => home.as_slice(),
     }
