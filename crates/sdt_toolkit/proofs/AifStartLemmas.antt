@@ -1,7 +1,9 @@
 -- What an ARM image file is in memory: it is the view of its plan, or becomes it at each address that leaves room; and so of every
 -- kind of image that is answered.
-use Rattle.std.proofs.Common.{◌≡◌, ◌⊎◌, inl, inr, ℕ, ◌+◌, ◌-◌, ◌*◌, ◌/◌, ◌^◌, ◌<◌, ◌≤◌, Bool, true, false, cond, List, [], ◌∷◌, length, Option, Some, None, refl, sym, ap, ◌∙◌, subst, arith}
-use Rattle.std.specs.Prelude.{slice_index}
+use Rattle.std.proofs.Common.{◌≡◌, ◌⊎◌, inl, inr, ℕ, zero, suc, ◌+◌, ◌-◌, ◌*◌, ◌/◌, ◌%◌, ◌^◌, ◌<◌, ◌≤◌, Bool, true, false, cond, List, [], ◌∷◌, ◌++◌, drop, length, length-append, map, Option, Some, None, refl, sym, ap, ◌∙◌, subst, arith}
+use Rattle.std.specs.Prelude.{slice_get, slice_index, unwrap_or}
+use Rattle.std.specs.List.{AllByRecursion}
+use Rattle.std.proofs.lemmas.Option.{slice_get-map}
 use Rattle.sdt_word.specs.Numbers.{flag}
 use Rattle.sdt_word.specs.declared.ranges.Range32.{Range32}
 use Rattle.aof_object.specs.declared.records.Object.{Object}
@@ -9,22 +11,33 @@ use Rattle.arm7_model.specs.Memory.{store}
 use Rattle.arm7_model.proofs.MemoryLemmas.{store-below, store-in}
 use Rattle.boot_code.specs.Aif.{BootsAif, IsFixedLoadable, IsRelocatable, ShowsImage, aif_bound, file_at, shifted_file}
 use Rattle.boot_code.specs.Boots.{ByteMap, Boots, covers, zeroed}
+use Rattle.boot_code.specs.Maps.{bytes_of_words}
 use Rattle.boot_code.specs.Startup.{zeros}
+use Rattle.boot_code.specs.Words.{relocator_list}
 use Rattle.boot_code.proofs.ViewLemmas.{covers-false, covers-inside, covers-true, get_or-zeros, length-zeros}
 use Rattle.place_model.specs.declared.scatter.Kind.{Kind}
 use Rattle.place_model.specs.declared.scatter.Kind.TheVariants as kind
 use Rattle.place_model.specs.Assignment.{description}
-use Rattle.place_model.specs.Plans.{Plan}
+use Rattle.place_model.specs.Laws.{IsWholeRegion}
+use Rattle.place_model.specs.Plans.{Plan, Planned, execution_size, length_of, regions_of, zero_length_of}
+use Rattle.place_model.specs.Things.{Thing, Header, AnArea, AVeneer, Startup, size_of}
+use Rattle.place_model.proofs.PlanLemmas.{whole_law}
 use Rattle.scatter_text.specs.Laws.{ReadingLaw}
 use Rattle.image_model.specs.AifFiles.{aif_plan, fixed_aif, offsets_of, shifted_offsets}
 use Rattle.image_model.specs.AifFiles as plan
+use Rattle.image_model.specs.Regions.{Filling, Given, filled, region_bytes}
+use Rattle.image_laws.specs.AifLaws.{IsAif as IsPlannedAif}
 use Rattle.image_laws.proofs.AifFixed.{fixed_image_loads}
-use Rattle.aif_image.specs.Files.{aif_file, parts_size, zero_size}
+use Rattle.image_laws.proofs.AifLemmas.{base_small, header_low, no_length_2, ro, rw_, size_most, zi}
+use Rattle.image_laws.proofs.ViewLemmas.{bytes_size}
+use Rattle.aif_image.specs.Files.{IsAif, aif_file, can_move, header_words, loaded, mover_bytes, parts_bytes, parts_size, ro_size, rw_size, size_in, zero_size}
+use Rattle.aif_image.proofs.WrittenLemmas.{written as reads_back}
 use Rattle.aif_laws.specs.Laws.{IsOfPlan}
 use Rattle.aif_laws.proofs.FileLemmas.{fixed_file, relocatable_file}
 use Rattle.link_model.specs.declared.images.Image.{Image}
 use Rattle.link_model.specs.declared.placing.Assigned.{Assigned}
 use Rattle.link_model.specs.declared.placing.Placement.{Placement}
+use Rattle.link_model.specs.declared.placing.Region.{Region}
 use Rattle.link_model.specs.declared.placing.Veneer.{Veneer}
 use Rattle.link_model.specs.declared.selection.Linked.{Linked}
 use Rattle.link_model.specs.declared.selection.Named.{Named}
@@ -33,6 +46,7 @@ use Rattle.link_model.specs.Veneers.{veneers_of}
 use Rattle.link_model.specs.RegionNames.{names_of_plain}
 use Rattle.link_select.specs.Laws.{HaveMeanings}
 use Rattle.link_items.specs.LinkedItems.{items_in}
+use Rattle.link_apply.specs.Laws.{AreBytes}
 use Rattle.link_apply.specs.Placed.{called}
 use Rattle.link_place.specs.Placed.{placement_of}
 use Rattle.link_values.specs.Shifts.{not_relocatable, shifts_of}
@@ -48,11 +62,37 @@ use Rattle.link_laws.proofs.Aif.Starts.{becomes_there, entry_moves, relocator_th
 use Rattle.link_laws.proofs.Made.PlacedLemmas.{are_needed, made_is_placed}
 use Rattle.link_laws.proofs.Plans.Numbers.{plain_numbered}
 use Rattle.link_laws.proofs.Plans.Seen.{entry_whole, views_are_seen}
+use Rattle.link_laws.proofs.Shifts.Aif.{parts_at, zero_at}
 use Rattle.armlink_core.specs.Images.{image_of}
 use Rattle.sdt_toolkit.specs.Plans.{HasViews, ImagesArePlaced, IsPlacedAs, zero_part}
 use Rattle.sdt_toolkit.specs.Starting.{HasRoom}
+use Rattle.sdt_toolkit.proofs.RunBytes.{OfBytes, each_byte, joined, loads_are_bytes, of_bytes, words_bytes}
 use Rattle.sdt_toolkit.proofs.SelectionLemmas.{IsAnswered, answered, made_by, meant_by, not_refused, still_image}
 use Rattle.sdt_toolkit.proofs.StartLemmas.{bytes_alike, loads_named, plain_views, scatter_views}
+
+-- ---- bytes and sizes
+
+drop_bytes : (n : ℕ) (xs : List ℕ) → OfBytes xs → OfBytes (drop n xs)
+drop_bytes zero xs h = h
+drop_bytes (suc n) [] h = tt
+drop_bytes (suc n) (x ∷ xs) h = drop_bytes n xs h.1
+
+bytes_if : (b : Bool) (xs : List ℕ) → OfBytes xs → OfBytes (cond b xs [])
+bytes_if true xs h = h
+bytes_if false xs h = tt
+
+size_same : (size : Region → ℕ) (planned : Planned → ℕ) (rs : List Region) (p : Plan) (n : ℕ) → map size rs ≡ map planned (regions_of p) → size_in size rs n ≡ plan.size_in planned p n
+size_same size planned rs p n same =
+    ap (λ (o : Option ℕ). unwrap_or o 0) (sym (slice_get-map size rs n) ∙ ap (λ (xs : List ℕ). slice_get xs n) same ∙ slice_get-map planned (regions_of p) n)
+
+-- what holds things of their sizes does so with zeros for a header
+sized_as : (g : Given) (p : Plan) (header : List ℕ) (r : Planned) (ts : List Thing) → AllByRecursion (λ t. length (filled g p header r t) ≡ size_of t) ts
+    → AllByRecursion (λ t. length (filled g p (zeros 0x80) r t) ≡ size_of t) ts
+sized_as g p header r [] h = tt
+sized_as g p header r (Header ∷ ts) h = (length-zeros 0x80, sized_as g p header r ts h.1)
+sized_as g p header r (AnArea x ∷ ts) h = (h.0, sized_as g p header r ts h.1)
+sized_as g p header r (AVeneer target thumb ∷ ts) h = (h.0, sized_as g p header r ts h.1)
+sized_as g p header r (Startup words ∷ ts) h = (h.0, sized_as g p header r ts h.1)
 
 -- ---- a file that is loaded where it runs, with its zero part cleared
 
@@ -151,6 +191,94 @@ module _ (base : ℕ) (relocatable : Bool) (ram : Option (List Range32)) (l : Li
     call = refl;
   }
 
+  -- ---- what a run asks of its file
+
+  is_planned : IsPlannedAif base relocatable (contents_at l a vs) (items_in l.objects) (given_of l own) ram
+  is_planned = made_is_aif base relocatable ram l a vs own h
+
+  abbrev first : Planned
+  first = ro base relocatable (contents_at l a vs) (items_in l.objects) (given_of l own) ram is_planned
+
+  abbrev second : Planned
+  second = rw_ base relocatable (contents_at l a vs) (items_in l.objects) (given_of l own) ram is_planned
+
+  abbrev third : Planned
+  third = zi base relocatable (contents_at l a vs) (items_in l.objects) (given_of l own) ram is_planned
+
+  are_whole : AllByRecursion IsWholeRegion (first ∷ second ∷ third ∷ [])
+  are_whole = whole_law (kind.Aif base relocatable) (contents_at l a vs) 0 is_planned.whole
+
+  ro_is : ro_size own.regions ≡ length_of first
+  ro_is = size_same (λ r. r.length) length_of own.regions its_plan 0 has_parts.lengths
+
+  rw_is : rw_size own.regions ≡ length_of second
+  rw_is = size_same (λ r. r.length) length_of own.regions its_plan 1 has_parts.lengths
+
+  zi_is : zero_size own.regions ≡ execution_size third
+  zi_is = size_same (λ r. r.length + r.zero) execution_size own.regions its_plan 2 has_parts.sizes
+
+  parts_is : parts_size own.regions ≡ plan.parts_size its_plan
+  parts_is = has_parts.parts
+
+  zero_is : zero_size own.regions ≡ plan.zero_size its_plan
+  zero_is = has_parts.zero
+
+  abbrev plain : Filling
+  plain = filled (given_of l own) its_plan (zeros 0x80)
+
+  loads_size : length (loaded aif.loads) ≡ parts_size own.regions
+  loads_size =
+      let header : List ℕ = bytes_of_words (plan.header_words false its_plan base (given_of l own).call) in
+      let sized = is_planned.sized false in
+      let x = region_bytes plain first in
+      let y = region_bytes plain second in
+      let z = region_bytes plain third in
+      let a0 : length x ≡ length_of first = bytes_size plain first (sized_as (given_of l own) its_plan header first first.things sized.0) in
+      let a1 : length y ≡ length_of second = bytes_size plain second (sized_as (given_of l own) its_plan header second second.things sized.1.0) in
+      let a2 : length z ≡ length_of third = bytes_size plain third (sized_as (given_of l own) its_plan header third third.things sized.1.1.0) in
+      let none : length_of third ≡ 0 = no_length_2 base relocatable (contents_at l a vs) (items_in l.objects) (given_of l own) ram is_planned in
+      let all : length (loaded aif.loads) ≡ length (x ++ (y ++ (z ++ []))) = ap length is_of_plan.loads in
+      let ro_ = ro_is in
+      let rw0 = rw_is in
+      let parts : parts_size own.regions ≡ ro_size own.regions + rw_size own.regions = refl in
+      omega (arith, all, length-append x (y ++ (z ++ [])), length-append y (z ++ []), length-append z [], a0, a1, a2, none, ro_, rw0, parts)
+
+  is_aif : IsAif aif
+  is_aif =
+      let w = are_whole in
+      let l0 = w.0.loaded in
+      let l1 = w.1.0.loaded in
+      let l2 = w.1.1.0.loaded in
+      let z2 = w.1.1.0.cleared in
+      let most = size_most base relocatable (contents_at l a vs) (items_in l.objects) (given_of l own) ram is_planned in
+      let low = header_low base relocatable (contents_at l a vs) (items_in l.objects) (given_of l own) ram is_planned in
+      let high = is_planned.call_high in
+      let ro_ = ro_is in
+      let rw0 = rw_is in
+      let zi_ = zi_is in
+      let parts = parts_is in
+      let zero = zero_is in
+      let call : aif.call - aif.start ≤ 2 ^ 26 = (let near : (given_of l own).call - base ≤ 2 ^ 26 = omega (arith, high, most) in near) in
+      record {
+        ro_whole = ap (λ (n : ℕ). n % 4) ro_ ∙ l0;
+        rw_whole = ap (λ (n : ℕ). n % 4) rw0 ∙ l1;
+        zero_whole = ap (λ (n : ℕ). n % 4) zi_ ∙ (let both : (length_of third + zero_length_of third) % 4 ≡ 0 = omega (arith, l2, z2) in both);
+        header = (let least : 0x80 ≤ ro_size own.regions = omega (arith, low, ro_) in least);
+        loads = loads_size;
+        parts = (let few : parts_size own.regions ≤ 2 ^ 26 = omega (arith, most, parts) in few);
+        zeros = (let few : zero_size own.regions < 2 ^ 32 = omega (arith, most, zero) in few);
+        base = base_small base relocatable (contents_at l a vs) (items_in l.objects) (given_of l own) ram is_planned;
+        call = call;
+      }
+
+  bytes_are : AreBytes (aif_file aif)
+  bytes_are =
+      let ls = loads_are_bytes (link_of l) own l.objects refl h.bytes (description (kind.Aif base relocatable)) in
+      let front = joined (bytes_of_words (header_words aif)) (drop 0x80 (loaded aif.loads)) (words_bytes (header_words aif)) (drop_bytes 0x80 (loaded aif.loads) (of_bytes (loaded aif.loads) ls.0)) in
+      each_byte (aif_file aif)
+      (joined (parts_bytes aif) (cond (can_move aif.kind) (mover_bytes aif.moves) []) front
+      (bytes_if (can_move aif.kind) (mover_bytes aif.moves) (words_bytes (relocator_list ++ (aif.moves ++ 0xFFFFFFFF ∷ [])))))
+
   is_needed : vs ≡ veneers_of (link_of l) a.regions true
   is_needed = are_needed (kind.Aif base relocatable) ram l a vs own h
 
@@ -225,7 +353,20 @@ module _ (base : ℕ) (ram : Option (List Range32)) (l : Linked) (a : Assigned) 
     seen = λ to fits. aif_seen base false ram l a vs chosen (is_needed base false ram l a vs [] h) fixed_view fixed_seen meanings;
     files = λ to fits. record { size = ap length its_file ∙ loads.size; cleared = fixed_loads };
     entry = λ to fits. whole_entry base false ram l a vs chosen (is_needed base false ram l a vs [] h) fixed_view fixed_seen;
-    reaches = fixed_boots;
+    reaches = (
+      fixed_boots,
+      record {
+        bytes = bytes_are base false ram l a vs [] h;
+        reads = reads_back fixed_image (is_aif base false ram l a vs [] h);
+        within = λ to fits x v e.
+            let at : to ≡ base = fits in
+            let (low, high, is) = loads.inside x v e in
+            let parts = parts_is base false ram l a vs [] h in
+            let zero = zero_is base false ram l a vs [] h in
+            (omega (arith, at, low), (let below : x < to + parts_size fixed_own.regions + zero_size fixed_own.regions = omega (arith, at, high, parts, zero) in below));
+        moves = refl;
+      },
+    );
   }
 
 -- ---- one that can be moved
@@ -339,7 +480,21 @@ module _ (base : ℕ) (ram : Option (List Range32)) (l : Linked) (a : Assigned) 
     seen = λ to fits. seen_there to fits meanings;
     files = λ to fits. record { size = moving_size to fits; image = relocates to fits; becomes = becomes to fits };
     entry = entry_there;
-    reaches = moving_boots;
+    reaches = (
+      moving_boots,
+      record {
+        bytes = bytes_are base true ram l a vs (moves_of l moving_own) h;
+        reads = reads_back moving_image (is_aif base true ram l a vs (moves_of l moving_own) h);
+        within = λ to fits x v e.
+            let (low, high, is) = (becomes to fits).inside x v e in
+            let parts = parts_is base true ram l a vs (moves_of l moving_own) h in
+            let zero = zero_is base true ram l a vs (moves_of l moving_own) h in
+            let same_parts = parts_at to (contents_at l a vs) ∙ sym (parts_at base (contents_at l a vs)) in
+            let same_zero = zero_at to (contents_at l a vs) ∙ sym (zero_at base (contents_at l a vs)) in
+            (low, (let below : x < to + parts_size moving_own.regions + zero_size moving_own.regions = omega (arith, high, parts, zero, same_parts, same_zero) in below));
+        moves = refl;
+      },
+    );
   }
 
 -- ---- as it is answered

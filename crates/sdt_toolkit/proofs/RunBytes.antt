@@ -40,12 +40,12 @@ pub of_bytes : (bytes : List ℕ) → law.AreBytes bytes → OfBytes bytes
 of_bytes [] h = tt
 of_bytes (b ∷ bs) h = (h 0, of_bytes bs (λ i. h (suc i)))
 
-each_byte : (bytes : List ℕ) → OfBytes bytes → (k : ℕ) → slice_index bytes k < 256
+pub each_byte : (bytes : List ℕ) → OfBytes bytes → (k : ℕ) → slice_index bytes k < 256
 each_byte [] h k = omega arith
 each_byte (b ∷ bs) h zero = h.0
 each_byte (b ∷ bs) h (suc k) = each_byte bs h.1 k
 
-joined : (xs ys : List ℕ) → OfBytes xs → OfBytes ys → OfBytes (xs ++ ys)
+pub joined : (xs ys : List ℕ) → OfBytes xs → OfBytes ys → OfBytes (xs ++ ys)
 joined xs ys a b = all_append IsByte xs ys a b
 
 -- ---- numbers, words and zeros
@@ -54,7 +54,7 @@ number_bytes : (v k : ℕ) → OfBytes (bytes_of v k)
 number_bytes v zero = tt
 number_bytes v (suc k) = (omega arith, number_bytes (v / 256) k)
 
-words_bytes : (ws : List ℕ) → OfBytes (bytes_of_words ws)
+pub words_bytes : (ws : List ℕ) → OfBytes (bytes_of_words ws)
 words_bytes [] = tt
 words_bytes (w ∷ ws) = joined (bytes_of w 4) (bytes_of_words ws) (number_bytes w 4) (words_bytes ws)
 

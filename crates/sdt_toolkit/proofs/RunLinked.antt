@@ -1,5 +1,5 @@
 -- What a link leaves in the store are the files of its image, so that each run by their map starts.
-use Rattle.std.proofs.Common.{◌≡◌, inl, inr, ℕ, Bool, true, false, cond, List, [], ◌∷◌, map, Option, Some, Result, Ok, refl, sym, ap, ◌∙◌, subst}
+use Rattle.std.proofs.Common.{◌≡◌, inl, inr, ℕ, Bool, true, false, cond, List, [], ◌∷◌, map, Option, Some, None, Result, Ok, refl, sym, ap, ◌∙◌, subst}
 use Rattle.std.specs.List.{AllByRecursion}
 use Rattle.std.specs.Ordering.{eq_by_cmp, nat_cmp}
 use Rattle.std.specs.Cmp.{eq_by_cmp_equiv}
@@ -22,6 +22,9 @@ use Rattle.place_model.specs.declared.scatter.Kind.{Kind}
 use Rattle.place_model.specs.declared.scatter.Kind.TheVariants as kind
 use Rattle.bin_image.specs.declared.records.OutFile.{OutFile}
 use Rattle.bin_image.specs.Files.{load_files, map_name}
+use Rattle.aif_image.specs.Checks.{ReadsAif}
+use Rattle.aif_image.specs.Files.{aif_file, aif_record}
+use Rattle.aif_image.specs.Reading.{AifLaw}
 use Rattle.elf_image.specs.declared.records.Elf.{Elf}
 use Rattle.elf_image.specs.Files.{elf_file, elf_load}
 use Rattle.elf_image.specs.Tables.{named_file}
@@ -38,6 +41,7 @@ use Rattle.tool_words.specs.declared.command.RunImage.{RunImage as Named}
 use Rattle.tool_words.specs.declared.command.RunImage.TheVariants as image
 use Rattle.tool_words.specs.declared.command.RunWords.{RunWords}
 use Rattle.tool_words.specs.Commands.{ComeTogether}
+use Rattle.tool_run.specs.Aifs.{aif_at, base_for, loaded_aif, placed_aif}
 use Rattle.tool_run.specs.Elfs.{ElfLoadLaw, elf_image, loaded_elf}
 use Rattle.tool_run.specs.Ends.{named_by}
 use Rattle.tool_run.specs.Images.{IsRead}
@@ -46,9 +50,9 @@ use Rattle.sdt_toolkit.specs.Containers.{FilesHold, IsElfFile, IsNamedFile}
 use Rattle.sdt_toolkit.specs.Headline.{IsLinkedInto}
 use Rattle.sdt_toolkit.specs.Links.{IsAskedAs, image_files, outputs, text_in}
 use Rattle.sdt_toolkit.specs.RunImages.{HasFiles, run_image}
-use Rattle.sdt_toolkit.specs.Runs.{Allow, AnswerStarts, Booting, CommandsStart, FilesAreRead, HaveRanges, LinkedRunsStart, Names, TakeView, elf_booting, map_booting, executable}
-use Rattle.sdt_toolkit.specs.Starting.{ReachesEntry, segments_of}
-use Rattle.sdt_toolkit.proofs.RunBooting.{Reaches, elf_can, map_can}
+use Rattle.sdt_toolkit.specs.Runs.{Allow, AnswerStarts, Booting, CommandsStart, FilesAreRead, HaveRanges, LinkedRunsStart, Names, PutAt, TakeView, aif_booting, elf_booting, executable, map_booting}
+use Rattle.sdt_toolkit.specs.Starting.{CanLoad, FitsAt, ReachesEntry, segments_of}
+use Rattle.sdt_toolkit.proofs.RunBooting.{Reaches, aif_based, aif_boots, aif_can, aif_load, aif_ranged, elf_can, map_can}
 
 -- ---- files that are written
 
@@ -86,7 +90,7 @@ stand files (f ∷ fs) differ = (
 same_record : (x y : Elf) (read : Result Elf Refusal) → read ≡ Ok x → read ≡ Ok y → x ≡ y
 same_record x y read e f = let same : ◌≡◌ {A = Result Elf Refusal} (Ok x) (Ok y) = sym e ∙ f in cc
 
-module _ (files_law : FilesAreRead) (elf_law : ElfLaw) (load_law : ElfLoadLaw) (law : CommandsStart) (sources : Bool) (w : LinkWords) (before : Files) (after : Option Files) (i : Image)
+module _ (files_law : FilesAreRead) (elf_law : ElfLaw) (load_law : ElfLoadLaw) (aif_law : AifLaw) (law : CommandsStart) (sources : Bool) (w : LinkWords) (before : Files) (after : Option Files) (i : Image)
     (views : ℕ → ByteMap) (b : Booting) (r : RunWords) (o : Outside) (seats left : List Seat) (a : Answer) (link : IsLinkedInto sources w before after i views) (told : o.before ≡ after)
     (answers : RunAnswers r o seats left a) where
   abbrev view : ByteMap
@@ -111,7 +115,7 @@ module _ (files_law : FilesAreRead) (elf_law : ElfLaw) (load_law : ElfLoadLaw) (
       let are : o.before ≡ Some (files c) = told ∙ link.left ∙ ap (λ (x : Container). Some (files x)) is_c in
       subst (λ (x : Named). IsRead (Some (files c)) rose x read) is_named (subst (λ (f : Option Files). IsRead f rose r.image read) are h)
 
-  by_map : Reaches i view → w.container ≡ container.LoadFiles → Names container.LoadFiles w.output link.tables i views r.image b
+  by_map : Reaches i view → w.container ≡ container.LoadFiles → Names container.LoadFiles link.shape w.output link.tables i views r.image b
       → ((banks : List Bank) → AreBanks r banks → HaveRanges container.LoadFiles b.view banks × Allow banks seats b.written) → AnswerStarts b r o seats left a
   by_map reaches is_c (line, some, by, is_b) allow =
       let can = reaches.can in
@@ -132,7 +136,7 @@ module _ (files_law : FilesAreRead) (elf_law : ElfLaw) (load_law : ElfLoadLaw) (
   stands false = own_content before w.output (elf_file i)
   stands true = own_content before w.output (named_file i link.tables)
 
-  by_elf : (symbols : Bool) → Reaches i view → w.container ≡ container.Elf symbols → Names (container.Elf symbols) w.output link.tables i views r.image b
+  by_elf : (symbols : Bool) → Reaches i view → w.container ≡ container.Elf symbols → Names (container.Elf symbols) link.shape w.output link.tables i views r.image b
       → ((banks : List Bank) → AreBanks r banks → HaveRanges (container.Elf symbols) b.view banks × Allow banks seats b.written) → AnswerStarts b r o seats left a
   by_elf symbols reaches is_c (e, read_so, by, is_b) allow =
       let file = executable symbols i link.tables in
@@ -148,17 +152,50 @@ module _ (files_law : FilesAreRead) (elf_law : ElfLaw) (load_law : ElfLoadLaw) (
       (law (elf_booting i view file e) r o seats left a (elf_can load_law i view file e read_so entry loads reaches) reads
       (λ banks are. (inr (subst (λ (x : Booting). TakeView x.view banks) is_b (allow banks are).0), subst (λ (x : Booting). Allow banks seats x.written) is_b (allow banks are).1)) answers)
 
-  by_words : (p : LinkPlacement) (c : Container) → w.placement ≡ p → w.container ≡ c → ComeTogether p c → Names c w.output link.tables i views r.image b
+  -- what the words read of an ARM image file that is put somewhere
+  aif_read : (to : ℕ) (at : Option ℕ) (read : Result RunImage Refusal) → w.container ≡ container.ImageFile → r.image ≡ image.Aif w.output at → ReadsAif (aif_file i) (aif_record i)
+      → base_for w.output at (aif_record i) ≡ Ok to → IsRead o.before rose r.image read → read ≡ Ok (loaded_aif to (aif_record i) (aif_file i))
+  aif_read to at read is_c by reads based h =
+      let one : content (files container.ImageFile) w.output ≡ Some (aif_file i) = own_content before w.output (aif_file i) in
+      read_of container.ImageFile (image.Aif w.output at) read is_c by h
+      ∙ ap (λ x. found_or w.output x >>= λ bytes. aif_at w.output at bytes) one
+      ∙ ap (λ x. named_by w.output x >>= λ y. placed_aif w.output at (aif_file i) y) ((aif_law (aif_file i) (aif_record i)).1 reads)
+      ∙ ap (λ x. x >>= λ n. Ok (loaded_aif n (aif_record i) (aif_file i))) based
+
+  by_aif : (base : ℕ) (relocatable : Bool) → w.placement ≡ placement.Aif base relocatable → w.container ≡ container.ImageFile → Names container.ImageFile link.shape w.output link.tables i views r.image b
+      → ((banks : List Bank) → AreBanks r banks → HaveRanges container.ImageFile b.view banks × Allow banks seats b.written) → AnswerStarts b r o seats left a
+  by_aif base relocatable is_aif is_c (to, fits, by, is_b) allow =
+      let k : Kind = kind.Aif base relocatable in
+      let asked : IsAskedAs (placement.Aif base relocatable) (text_in w.placement link.contents) w.ram link.shape link.ram =
+      subst (λ (p : LinkPlacement). IsAskedAs p (text_in w.placement link.contents) w.ram link.shape link.ram) is_aif link.asked in
+      let reaches : ReachesEntry k i views = subst (λ (x : Kind). ReachesEntry x i views) asked.0 link.placed.reaches in
+      let fits_k : FitsAt k i to = subst (λ (x : Kind). FitsAt x i to) asked.0 fits in
+      let is_k : b ≡ aif_booting k i views to = is_b ∙ ap (λ (x : Kind). aif_booting x i views to) asked.0 in
+      let can : CanLoad k i views = aif_load base relocatable i views reaches in
+      let reads : (read : Result RunImage Refusal) → IsRead o.before rose r.image read → read ≡ Ok (loaded_aif to (aif_record i) (aif_file i)) =
+      λ read h. put to can fits_k by read is_c h in
+      subst (λ (x : Booting). AnswerStarts x r o seats left a) (sym is_k)
+      (law (aif_booting k i views to) r o seats left a (aif_can base relocatable i views to can fits_k (aif_boots base relocatable i views to reaches fits_k)) reads
+      (λ banks are. (inl (aif_ranged base relocatable i views to can fits_k), subst (λ (x : Booting). Allow banks seats x.written) is_k (allow banks are).1)) answers)
+    where
+      put : (to : ℕ) → CanLoad (kind.Aif base relocatable) i views → FitsAt (kind.Aif base relocatable) i to → PutAt w.output i r.image to → (read : Result RunImage Refusal)
+          → w.container ≡ container.ImageFile → IsRead o.before rose r.image read → read ≡ Ok (loaded_aif to (aif_record i) (aif_file i))
+      put to can fits (inl there) read is_c h = aif_read to (Some to) read is_c there can.reads (aif_based base relocatable i views to w.output (Some to) can fits (inl refl)) h
+      put to can fits (inr (there, own)) read is_c h = aif_read to None read is_c there can.reads (aif_based base relocatable i views to w.output None can fits (inr (refl, own))) h
+
+  by_words : (p : LinkPlacement) (c : Container) → w.placement ≡ p → w.container ≡ c → ComeTogether p c → Names c link.shape w.output link.tables i views r.image b
       → ((banks : List Bank) → AreBanks r banks → HaveRanges c b.view banks × Allow banks seats b.written) → AnswerStarts b r o seats left a
   by_words (placement.Scatter d) container.LoadFiles is_p is_c together names allow = by_map (scatter_reaches d is_p) is_c names allow
   by_words (placement.Scatter d) (container.Elf symbols) is_p is_c together names allow = by_elf symbols (scatter_reaches d is_p) is_c names allow
+  by_words (placement.Aif base relocatable) container.ImageFile is_p is_c together names allow = by_aif base relocatable is_p is_c names allow
+  by_words (placement.Scatter d) container.ImageFile is_p is_c together names allow = absurd together
+  by_words (placement.Plain base) container.ImageFile is_p is_c together names allow = absurd together
   by_words (placement.Plain base) container.LoadFiles is_p is_c together names allow = absurd together
   by_words (placement.Plain base) (container.Elf symbols) is_p is_c together names allow = absurd together
   by_words (placement.Aif base relocatable) container.LoadFiles is_p is_c together names allow = absurd together
   by_words (placement.Aif base relocatable) (container.Elf symbols) is_p is_c together names allow = absurd together
   by_words p container.Binary is_p is_c together names allow = absurd names
-  by_words p container.ImageFile is_p is_c together names allow = absurd names
 
-pub linked_runs_start : FilesAreRead → ElfLaw → ElfLoadLaw → CommandsStart → LinkedRunsStart
-linked_runs_start files_law elf_law load_law law sources w before after i views b r o seats left a together link told names allow answers =
-    by_words files_law elf_law load_law law sources w before after i views b r o seats left a link told answers w.placement w.container refl refl together names allow
+pub linked_runs_start : FilesAreRead → ElfLaw → ElfLoadLaw → AifLaw → CommandsStart → LinkedRunsStart
+linked_runs_start files_law elf_law load_law aif_law law sources w before after i views b r o seats left a together link told names allow answers =
+    by_words files_law elf_law load_law aif_law law sources w before after i views b r o seats left a link told answers w.placement w.container refl refl together names allow

@@ -1,6 +1,6 @@
 -- How a run of an image starts: its first steps are the startup code's, which lead to the program's entry; by which steps it runs,
 -- and what it leaves of devices. This project's.
-use Rattle.std.specs.Prelude.{◌≡◌, ◌⊎◌, ℕ, ◌+◌, ◌<◌, ◌≤◌, Bool, true, false, List, [], ◌++◌, length, take, Option, Some, Result, Ok}
+use Rattle.std.specs.Prelude.{◌≡◌, ◌⊎◌, ℕ, ◌+◌, ◌<◌, ◌≤◌, Bool, true, false, List, [], ◌++◌, length, take, Option, Some, None, Result, Ok}
 use Rattle.sdt_word.specs.Numbers.{flag}
 use Rattle.sdt_fault.specs.declared.answer.Answer.{Answer}
 use Rattle.sdt_fault.specs.declared.answer.Answer.TheVariants as answer
@@ -23,10 +23,14 @@ use Rattle.run_laws.specs.Devices.{AreOffDevices, lines_for, ticked_for, touches
 use Rattle.run_laws.specs.Steps.{AreMade, steps_made}
 use Rattle.run_opening.specs.declared.image.Image.{Image as RunImage}
 use Rattle.run_opening.specs.Openings.{loaded}
-use Rattle.boot_code.specs.Boots.{BootSteps, Boots, ByteMap}
+use Rattle.boot_code.specs.Aif.{aif_written, file_at}
+use Rattle.boot_code.specs.Boots.{BootSteps, Boots, ByteMap, covers}
 use Rattle.boot_code.specs.Maps.{map_of}
 use Rattle.link_model.specs.declared.images.Image.{Image}
 use Rattle.chunk_file.specs.Grammar.{AreBytes}
+use Rattle.place_model.specs.declared.scatter.Kind.{Kind}
+use Rattle.place_model.specs.declared.scatter.Kind.TheVariants as kind
+use Rattle.aif_image.specs.Files.{aif_file, aif_record, parts_size, zero_size}
 use Rattle.bin_image.specs.Fields.{lacks}
 use Rattle.bin_image.specs.Files.{load_files, map_name}
 use Rattle.elf_image.specs.declared.records.Elf.{Elf}
@@ -44,12 +48,13 @@ use Rattle.tool_words.specs.declared.command.RunImage.{RunImage as Named}
 use Rattle.tool_words.specs.declared.command.RunImage.TheVariants as image
 use Rattle.tool_words.specs.declared.command.RunWords.{RunWords}
 use Rattle.tool_words.specs.Commands.{ComeTogether, command_of}
+use Rattle.tool_run.specs.Aifs.{loaded_aif}
 use Rattle.tool_run.specs.Elfs.{loaded_elf}
 use Rattle.tool_run.specs.Images.{IsRead, has_zero}
 use Rattle.tool_run.specs.Runs.{AreBanks, Ran, RunAnswers}
 use Rattle.sdt_toolkit.specs.Headline.{IsLinkedInto}
 use Rattle.sdt_toolkit.specs.RunImages.{HasFiles, IsFiled, is_needed, run_image}
-use Rattle.sdt_toolkit.specs.Starting.{segments_of, written_in}
+use Rattle.sdt_toolkit.specs.Starting.{FitsAt, entered_at, segments_of, written_in}
 
 -- ---- an image that starts
 
@@ -179,15 +184,34 @@ abbrev pub executable : Bool → Image → Tables → List ℕ
 executable false i t = elf_file i
 executable true i t = named_file i t
 
+-- an ARM image file at an address, as a run has it: what is moved is written as a whole, and otherwise the zero part
+abbrev pub written_there : Kind → Image → ℕ → ℕ → Bool
+written_there (kind.Aif base true) i to = aif_written (aif_file i) to (parts_size i.regions) (zero_size i.regions)
+written_there other i to = covers (to + parts_size i.regions) (zero_size i.regions)
+
+abbrev pub aif_booting : Kind → Image → (ℕ → ByteMap) → ℕ → Booting
+aif_booting k i views to = record {
+  run = loaded_aif to (aif_record i) (aif_file i);
+  files = file_at (aif_file i) to;
+  view = views to;
+  written = written_there k i to;
+  bound = i.bound;
+  entry = entered_at k i to;
+}
+
+-- the words put the file at an address, or at its own
+abbrev pub PutAt : List ℕ → Image → Named → ℕ → Type 0
+PutAt out i named to = (named ≡ image.Aif out (Some to)) ⊎ ((named ≡ image.Aif out None) × (to ≡ i.start))
+
 -- what the words of a run name in the files of a container, as an image that starts: by the map, under a name of one line
--- without a zero byte, or by the ELF executable; not yet an ARM image file, and bytes alone have no startup code
-abbrev pub Names : Container → List ℕ → Tables → Image → (ℕ → ByteMap) → Named → Booting → Type 0
-Names container.LoadFiles out t i views named b =
+-- without a zero byte; by the ELF executable; or the ARM image file, where it fits; bytes alone have no startup code
+abbrev pub Names : Container → Kind → List ℕ → Tables → Image → (ℕ → ByteMap) → Named → Booting → Type 0
+Names container.LoadFiles k out t i views named b =
     (lacks 10 out ≡ true) × (has_zero out ≡ false) × (named ≡ image.Map (map_name out)) × (b ≡ map_booting i (views i.start))
-Names (container.Elf symbols) out t i views named b =
+Names (container.Elf symbols) k out t i views named b =
     (e : Elf) × ReadsElf (executable symbols i t) e × (named ≡ image.Elf out) × (b ≡ elf_booting i (views i.start) (executable symbols i t) e)
-Names container.Binary out t i views named b = ⊥
-Names container.ImageFile out t i views named b = ⊥
+Names container.ImageFile k out t i views named b = (to : ℕ) × FitsAt k i to × PutAt out i named to × (b ≡ aif_booting k i views to)
+Names container.Binary k out t i views named b = ⊥
 
 -- an ELF executable tells load ranges alone: the banks have memory for the view
 abbrev pub HaveRanges : Container → ByteMap → List Bank → Type 0
@@ -229,19 +253,20 @@ abbrev pub LinkedRunsStart : Type 0
 LinkedRunsStart =
     (sources : Bool) (w : LinkWords) (before : Files) (after : Option Files) (i : Image) (views : ℕ → ByteMap) (b : Booting)
     (r : RunWords) (o : Outside) (seats left : List Seat) (a : Answer) → ComeTogether w.placement w.container
-    → (h : IsLinkedInto sources w before after i views) → o.before ≡ after → Names w.container w.output h.tables i views r.image b
+    → (link : IsLinkedInto sources w before after i views) → o.before ≡ after
+    → Names w.container link.shape w.output link.tables i views r.image b
     → ((banks : List Bank) → AreBanks r banks → HaveRanges w.container b.view banks × Allow banks seats b.written)
     → RunAnswers r o seats left a → AnswerStarts b r o seats left a
 
 -- ---- clauses of the top call
 
--- Over the files as `link` or `build` left them of a scatter image, a run by their map or of the ELF executable starts so.
+-- Over the files as `link` or `build` left them, a run by their map, of the ELF executable or of the ARM image file starts so.
 -- Devices are of whole words, and the banks suit the image.
 abbrev pub IsStarted : RunWords → Outside → List Seat → List Seat → Answer → Type 0
 IsStarted r o seats left a =
     (sources : Bool) (w : LinkWords) (before : Files) (after : Option Files) (i : Image) (views : ℕ → ByteMap) (b : Booting)
-    → ComeTogether w.placement w.container → (h : IsLinkedInto sources w before after i views) → o.before ≡ after
-    → Names w.container w.output h.tables i views r.image b → AreWholeSeats seats
+    → ComeTogether w.placement w.container → (link : IsLinkedInto sources w before after i views) → o.before ≡ after
+    → Names w.container link.shape w.output link.tables i views r.image b → AreWholeSeats seats
     → ((banks : List Bank) → AreBanks r banks → Suit w.container b banks) → AnswerStarts b r o seats left a
 
 abbrev pub StartsAsLinked : Result Command ℕ → Outside → List Seat → List Seat → Answer → Type 0

@@ -2,7 +2,7 @@
 -- address or, where it can be moved, at each that leaves room. From every permitted state the startup code reaches the entry
 -- within the image's bound, with the memory as a view says (SDT 2.50 Reference Guide, scatter loading: load view and execution
 -- view; ARM Image Format; the startup code is this project's).
-use Rattle.std.specs.Prelude.{◌≡◌, ℕ, ◌+◌, ◌-◌, ◌%◌, ◌^◌, ◌≤◌, Bool, true, false, List, length, map}
+use Rattle.std.specs.Prelude.{◌≡◌, ℕ, ◌+◌, ◌-◌, ◌%◌, ◌^◌, ◌<◌, ◌≤◌, Bool, true, false, List, length, map, Some}
 use Rattle.std.specs.List.{AllByRecursion}
 use Rattle.sdt_word.specs.Numbers.{flag}
 use Rattle.aof_object.specs.declared.records.Object.{Object}
@@ -11,7 +11,8 @@ use Rattle.boot_code.specs.Aif.{BootsAif, file_at}
 use Rattle.boot_code.specs.Boots.{ByteMap, Boots, covers}
 use Rattle.boot_code.specs.Laws.{written_by}
 use Rattle.boot_code.specs.Maps.{Segment, map_of}
-use Rattle.aif_image.specs.Files.{aif_file, parts_size, zero_size}
+use Rattle.aif_image.specs.Checks.{ReadsAif}
+use Rattle.aif_image.specs.Files.{aif_file, aif_record, can_move, parts_size, zero_size}
 use Rattle.link_model.specs.declared.images.Image.{Image}
 use Rattle.link_model.specs.declared.selection.Named.{Named}
 use Rattle.link_apply.specs.Laws.{AreBytes}
@@ -46,10 +47,27 @@ abbrev pub kind_at : Kind → ℕ → Kind
 kind_at (kind.Aif base true) to = kind.Aif to true
 kind_at other to = other
 
+abbrev pub is_movable : Kind → Bool
+is_movable (kind.Aif base true) = true
+is_movable other = false
+
 -- and its entry: what is moved begins as far behind
 abbrev pub entry_at : Kind → Image → ℕ → ℕ
 entry_at (kind.Aif base true) i to = to + (i.entry - i.start)
 entry_at other i to = i.entry
+
+-- ---- what a run asks of an ARM image file
+
+-- a view has bytes in the file's parts and its zero part alone, where it is put
+abbrev pub IsWithin : Image → ℕ → ByteMap → Type 0
+IsWithin i to view = (x v : ℕ) → view x ≡ Some v → (to ≤ x) × (x < to + parts_size i.regions + zero_size i.regions)
+
+-- the file is bytes, which read as its record, and can be moved where its kind says so
+pub record CanLoad (k : Kind) (i : Image) (views : ℕ → ByteMap) : Type 0 where
+  pub bytes : AreBytes (aif_file i)
+  pub reads : ReadsAif (aif_file i) (aif_record i)
+  pub within : (to : ℕ) → FitsAt k i to → IsWithin i to (views to)
+  pub moves : can_move i.kind ≡ is_movable k
 
 -- ---- how it starts
 
@@ -65,9 +83,11 @@ ReachesEntry (kind.Scatter s) i views =
 ReachesEntry (kind.Plain base) i views = Unit {0}
 ReachesEntry (kind.Aif base true) i views =
     BootsAif (aif_file i) (parts_size i.regions) (zero_size i.regions) views i.bound (entered_at (kind.Aif base true) i)
+    × CanLoad (kind.Aif base true) i views
 ReachesEntry (kind.Aif base false) i views =
     Boots (file_at (aif_file i) i.start) (views i.start) (covers (i.start + parts_size i.regions) (zero_size i.regions))
     i.start i.bound (i.entry + flag i.thumb)
+    × CanLoad (kind.Aif base false) i views
 
 -- ---- objects as they are read and assembled
 

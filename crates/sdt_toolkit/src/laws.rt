@@ -9,6 +9,7 @@ ghost use Rattle.sdt_toolkit.specs.Reports.{OneReportAsked};
 ghost use Rattle.sdt_toolkit.specs.Runs.{CommandsStart, FilesAreRead, LinkedRunsStart, OneRun, RunsStart};
 ghost use Rattle.sdt_toolkit.specs.Sources.{OneAsked};
 
+use aif_image::aif_law;
 use armasm_core::laws::one_assembly;
 use armlink_core::laws::{image_names, table_names};
 use bin_image::{map_law, spelling_law};
@@ -76,14 +77,15 @@ pub fn commands_start()
     runs_start();
 }
 
-/// So does each run by the map, or of the ELF executable, that `link` or `build` left of a scatter image, over the files as they
-/// left them.
+/// So does each run by the map, of the ELF executable, or of the ARM image file, that `link` or `build` left, over the files as
+/// they left them.
 pub fn linked_runs_start()
     ensures { LinkedRunsStart }
 {
     files_are_read();
     elf_law();
     elf_load_law();
+    aif_law();
     commands_start();
 }
 
