@@ -1,6 +1,6 @@
 -- An image that was read, or why not, by what the store told.
-use Rattle.std.proofs.Common.{◌≡◌, ℕ, zero, suc, ◌<◌, List, [], ◌∷◌, ◌++◌, length, Option, Some, None, Result, Ok, Err, refl, sym, ap, ◌∙◌, subst, inl, inr, ◌⊎◌, take, drop, arith, append_assoc}
-use Rattle.std.specs.Prelude.{◌==◌, ◌||◌, slice_index_or}
+use Rattle.std.proofs.Common.{◌≡◌, ℕ, zero, suc, ◌<◌, List, [], ◌∷◌, ◌++◌, length, Option, Some, None, Result, Ok, Err, refl, sym, ap, ◌∙◌, subst, inl, inr, take, drop, arith, append_assoc}
+use Rattle.std.specs.Prelude.{slice_index_or}
 use Rattle.std.proofs.lemmas.List.{take-append-drop}
 use Rattle.std.proofs.lemmas.List.Quantifiers.{position-Some}
 use Rattle.sdt_fault.specs.declared.answer.Fault.{Fault}
@@ -9,9 +9,6 @@ use Rattle.sdt_fault.specs.declared.refusal.Refusal.{Refusal}
 use Rattle.sdt_fault.specs.declared.refusal.Refusal.TheVariants.{Missing}
 use Rattle.sdt_outside.specs.Files.{Files, IsFound}
 use Rattle.chunk_file.specs.Reading.{◌>>=◌, Gives}
-use Rattle.link_model.specs.declared.images.Aif.{Aif}
-use Rattle.aif_image.specs.Reading.{holds}
-use Rattle.elf_image.specs.declared.records.Elf.{Elf}
 use Rattle.bin_image.specs.declared.records.MapFile.{MapFile}
 use Rattle.bin_image.specs.Maps.{ReadsMap}
 use Rattle.bin_image.specs.Reading.{map_of, read}
