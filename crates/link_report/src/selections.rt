@@ -131,10 +131,7 @@ fn add_regions<'a>(
 }
 
 /// Those of the selections of a description.
-fn sought_keys<'a>(
-    alloc: Global,
-    loads: &'a [ScatterLoad],
-) -> Result<IndexSet<Key<'a>>, NoMemory>
+fn sought_keys<'a>(alloc: Global, loads: &'a [ScatterLoad]) -> Result<IndexSet<Key<'a>>, NoMemory>
     ensures { IfOk result (AreSought (offers_from 0 (flat_map (λ l. l.regions) loads.now))) }
 {
     let mut keys = IndexSet::new(alloc);
@@ -195,11 +192,7 @@ fn best_anywhere<'a>(keys: &IndexSet<Key<'a>>, area: &'a Area) -> Option<Key<'a>
 }
 
 /// Where none names its module and its name.
-fn class_in_module<'a>(
-    keys: &IndexSet<Key<'a>>,
-    home: &'a [u8],
-    area: &'a Area,
-) -> Option<Key<'a>>
+fn class_in_module<'a>(keys: &IndexSet<Key<'a>>, home: &'a [u8], area: &'a Area) -> Option<Key<'a>>
     ensures { (offers : List Offer) → AreSought offers keys.now → (q : Key) (object number : ℕ)
         → NoneBelow offers (item_of object home.now number area.now) 1
         → is_key q result ≡ takes_area offers (selection_at q) (item_of object home.now number area.now) }
