@@ -65,7 +65,7 @@ pub fn run_tool<S: Store, K: Sink>(
     ensures burns { BurnsAsLinked (command_of (map string_bytes words.now)) (outside_of (S.files store.old) (S.files store.new)
         (K.bytes sink.old) (K.bytes sink.new) (S.read_faults store.old) (S.read_faults store.new)
         (S.write_faults store.old) (S.write_faults store.new) (K.faults sink.old) (K.faults sink.new)) result }
-    // A run by the map that a link or a build left begins with the startup code's steps, which lead to the entry and touch no device.
+    // A run of what a link or a build left begins with the startup code's steps, which lead to the entry and touch no device.
     ensures starts { StartsAsLinked (command_of (map string_bytes words.now)) (outside_of (S.files store.old) (S.files store.new)
         (K.bytes sink.old) (K.bytes sink.new) (S.read_faults store.old) (S.read_faults store.new)
         (S.write_faults store.old) (S.write_faults store.new) (K.faults sink.old) (K.faults sink.new))
