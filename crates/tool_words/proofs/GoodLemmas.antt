@@ -1,23 +1,24 @@
 -- What words keep in which no word breaks a rule.
-use Rattle.std.proofs.Common.{◌≡◌, ℕ, ◌+◌, ◌%◌, ◌==◌, nat_lt, Bool, true, false, cond, not, ◌&&◌, List, [], ◌∷◌, ◌++◌, length, map, Option, Some, None, unwrap_or, refl, sym, ap, ◌∙◌, arith}
+use Rattle.std.proofs.Common.{◌≡◌, ℕ, ◌+◌, ◌%◌, ◌<◌, ◌≤◌, ◌==◌, nat_lt, nat_le, Bool, true, false, cond, not, ◌&&◌, List, [], ◌∷◌, ◌++◌, length, map, Option, Some, None, unwrap_or, refl, sym, ap, subst, ◌∙◌, arith}
 use Rattle.std.specs.Prelude.{filter, find, option_map, if◌then◌else◌, is_some}
 use Rattle.std.specs.List.{AllByRecursion}
 use Rattle.std.specs.Option.{option_map_or}
 use Rattle.std.proofs.lemmas.Bool.Decides.{nat_tests}
 use Rattle.std.proofs.lemmas.List.{length-map}
-use Rattle.std.proofs.lemmas.List.Sums.{length-filter}
+use Rattle.std.proofs.lemmas.List.Sums.{length-filter, sum_by-cons, sum_by_push}
 use Rattle.tool_words.specs.declared.items.Verb.{Verb}
-use Rattle.tool_words.specs.declared.items.Verb.TheVariants.{Assemble, Library, List as Listing, Run, Link, Build, InterruptKit}
+use Rattle.tool_words.specs.declared.items.Verb.TheVariants.{Assemble, Library, List as Listing, Run, Link, Build, InterruptKit, Burn, Report, MakeBig}
 use Rattle.tool_words.specs.declared.items.Flag.{Flag}
 use Rattle.tool_words.specs.declared.items.Flag.TheVariants as flag
 use Rattle.tool_words.specs.declared.items.Role.{Role}
 use Rattle.tool_words.specs.declared.items.Role.TheVariants.{Name, Known, Unknown}
 use Rattle.tool_words.specs.declared.items.Item.{Item}
+use Rattle.tool_words.specs.declared.rules.Choice.{Choice}
 use Rattle.tool_words.specs.declared.command.LinkPlacement.TheVariants as placement
 use Rattle.tool_words.specs.declared.command.Container.TheVariants as container
 use Rattle.tool_words.specs.Items.{word_at}
-use Rattle.tool_words.specs.Rules.{code, has, is_flag, is_name, number_at, is_aligned, is_size, first_is_good, value_fault, or_else, values_fault, is_allowed, is_surplus, name_count, role_fault, items_fault, names_fault, needs_mode, is_met, is_complete, lesser, verb_fault, mode_of}
-use Rattle.tool_words.specs.Commands.{value_of, number_of, number_told, bank_at, banks_in, image_of, placement_of, container_of, names_in, link_words, library_command, verb_command, IsBank, IsAddress, IsPlaced, IsBased, ComeTogether, AreBanks, IsLinked, IsGood}
+use Rattle.tool_words.specs.Rules.{code, has, is_flag, is_name, number_at, is_aligned, is_size, is_plain, must_count, decimal_at, is_count, name_is_good, is_below, most_names, least_names, first_is_good, value_fault, or_else, values_fault, is_allowed, is_surplus, name_count, role_fault, items_fault, names_fault, needs_mode, is_met, is_complete, lesser, verb_fault, mode_of, choice_of}
+use Rattle.tool_words.specs.Commands.{value_of, number_of, number_told, bank_at, banks_in, image_of, placement_of, container_of, count_of, names_in, link_words, report_words, library_command, verb_command, IsBank, IsAddress, IsPlaced, IsBased, ComeTogether, AreBanks, IsLinked, IsReported, IsGood}
 use Rattle.base_lemmas.proofs.BaseLemmas.{first_of_both, second_of_both}
 
 -- ---- no fault at all
@@ -79,7 +80,8 @@ flag_at n =
     if n == 6 then flag.At else (if n == 7 then flag.Memory else (if n == 8 then flag.Rom else (
     if n == 9 then flag.Steps else (if n == 10 then flag.Scatter else (if n == 11 then flag.Aif else (
     if n == 12 then flag.Reloc else (if n == 13 then flag.Base else (if n == 14 then flag.Ram else (
-    if n == 15 then flag.Elf else flag.Acknowledge)))))))))))))))
+    if n == 15 then flag.Elf else (if n == 16 then flag.Acknowledge else (if n == 17 then flag.IntelHex else (
+    if n == 18 then flag.SRecords else (if n == 19 then flag.Burned else flag.Symbols)))))))))))))))))))
 
 back : (f : Flag) → flag_at (code f) ≡ f
 unfolding flag_at
@@ -100,6 +102,10 @@ back flag.Base = refl
 back flag.Ram = refl
 back flag.Elf = refl
 back flag.Acknowledge = refl
+back flag.IntelHex = refl
+back flag.SRecords = refl
+back flag.Burned = refl
+back flag.Symbols = refl
 
 same_flag : (f g : Flag) → (code f == code g) ≡ true → f ≡ g
 same_flag f g h = let e : code f ≡ code g = grind (arith, nat_tests) in sym (back f) ∙ (ap flag_at e ∙ back g)
@@ -114,16 +120,16 @@ role_of_flag f (Known g) h = ap Known (sym (same_flag f g h))
 abbrev HasValues : Verb → List (List ℕ) → Item → Type 0
 HasValues verb words i = (f : Flag) → i.role ≡ Known f → values_fault verb f words i.at ≡ None
 
-values_fine : (verb : Verb) (words : List (List ℕ)) (mode : Option Flag) (moves : Bool) (before : List Item) (at : ℕ) (role : Role) (f : Flag) → role ≡ Known f → role_fault verb words mode moves before at role ≡ None → values_fault verb f words at ≡ None
-values_fine verb words mode moves before at role f e h =
-    let k : role_fault verb words mode moves before at (Known f) ≡ None = ap (role_fault verb words mode moves before at) (sym e) ∙ h in
-    (chosen (is_allowed verb mode moves f && not (is_surplus verb before f)) (values_fault verb f words at) at k).1
+values_fine : (verb : Verb) (words : List (List ℕ)) (choice : Choice) (before : List Item) (at : ℕ) (role : Role) (f : Flag) → role ≡ Known f → role_fault verb words choice before at role ≡ None → values_fault verb f words at ≡ None
+values_fine verb words choice before at role f e h =
+    let k : role_fault verb words choice before at (Known f) ≡ None = ap (role_fault verb words choice before at) (sym e) ∙ h in
+    (chosen (is_allowed verb choice f && not (is_surplus verb before f)) (values_fault verb f words at) at k).1
 
-all_fine : (verb : Verb) (words : List (List ℕ)) (mode : Option Flag) (moves : Bool) (before items : List Item) → items_fault verb words mode moves before items ≡ None → AllByRecursion (HasValues verb words) items
-all_fine verb words mode moves before [] h = tt
-all_fine verb words mode moves before (i ∷ is) h = (
-  λ f e. values_fine verb words mode moves before i.at i.role f e (first_none (role_fault verb words mode moves before i.at i.role) _ h),
-  all_fine verb words mode moves (before ++ i ∷ []) is (later_none (role_fault verb words mode moves before i.at i.role) _ h),
+all_fine : (verb : Verb) (words : List (List ℕ)) (choice : Choice) (before items : List Item) → items_fault verb words choice before items ≡ None → AllByRecursion (HasValues verb words) items
+all_fine verb words choice before [] h = tt
+all_fine verb words choice before (i ∷ is) h = (
+  λ f e. values_fine verb words choice before i.at i.role f e (first_none (role_fault verb words choice before i.at i.role) _ h),
+  all_fine verb words choice (before ++ i ∷ []) is (later_none (role_fault verb words choice before i.at i.role) _ h),
 )
 
 bank_more : (verb : Verb) (f : Flag) → Banks f → (words : List (List ℕ)) (i : Item) (is : List Item) (b : Bool) → is_flag f i.role ≡ b → HasValues verb words i → AllByRecursion IsBank (banks_in words is f)
@@ -177,6 +183,7 @@ told_fine verb f k words (i ∷ is) all = told_more verb f k words i is _ refl a
 
 image_fine : (verb : Verb) (mode : Option Flag) (words : List (List ℕ)) (items : List Item) → AllByRecursion (HasValues verb words) items → IsPlaced (image_of mode words items)
 image_fine verb (Some flag.Map) words items all = tt
+image_fine verb (Some flag.Burned) words items all = tt
 image_fine verb (Some flag.Elf) words items all = tt
 image_fine verb (Some flag.Aif) words items all = told_fine verb flag.At entry words items all
 image_fine verb mode words items all = address_fine verb flag.At entry words items 0 refl all
@@ -186,12 +193,12 @@ based verb (Some flag.Scatter) words items all = tt
 based verb mode words items all = address_fine verb flag.Base base words items 0x8000 refl all
 
 -- what is written of a scatter image, with -elf or without
-scattered : (b : Bool) (file : List ℕ) → ComeTogether (placement.Scatter file) (cond b container.Elf container.LoadFiles)
-scattered true file = tt
-scattered false file = tt
+scattered : (b symbols : Bool) (file : List ℕ) → ComeTogether (placement.Scatter file) (cond b (container.Elf symbols) container.LoadFiles)
+scattered true symbols file = tt
+scattered false symbols file = tt
 
 written : (mode : Option Flag) (words : List (List ℕ)) (items : List Item) → ComeTogether (placement_of mode words items) (container_of mode items)
-written (Some flag.Scatter) words items = scattered (has flag.Elf items) (value_of words items flag.Scatter)
+written (Some flag.Scatter) words items = scattered (has flag.Elf items) (has flag.Symbols items) (value_of words items flag.Scatter)
 written mode words items = tt
 
 -- ---- what is linked
@@ -203,13 +210,70 @@ ram_fine verb words items false all = tt
 names_counted : (words : List (List ℕ)) (items : List Item) → length (names_in words items) ≡ name_count items
 names_counted words items = length-map (filter (λ i. is_name i.role) items) (λ i. word_at words i.at) ∙ length-filter (λ i. is_name i.role) items
 
-linked : (verb : Verb) (mode : Option Flag) (words : List (List ℕ)) (items : List Item) → AllByRecursion (HasValues verb words) items → nat_lt 0 (name_count items) ≡ true → IsLinked (link_words mode words items)
-linked verb mode words items all some = record {
+reported : (verb : Verb) (mode : Option Flag) (words : List (List ℕ)) (items : List Item) → AllByRecursion (HasValues verb words) items → nat_le 1 (name_count items) ≡ true → IsReported (report_words mode words items)
+reported verb mode words items all some = record {
   based = based verb mode words items all;
-  written = written mode words items;
   named = rw (names_counted words items) (grind (arith, nat_tests));
   ram = ram_fine verb words items (has flag.Ram items) all;
 }
+
+linked : (mode : Option Flag) (words : List (List ℕ)) (items : List Item) → IsReported (report_words mode words items) → IsLinked (link_words mode words items)
+linked mode words items r = record {
+  based = r.based;
+  written = written mode words items;
+  named = r.named;
+  ram = r.ram;
+}
+
+-- ---- the count of a source that is made
+
+abbrev IsCount : ℕ → Type 0
+IsCount n = (1 ≤ n) × (n ≤ 50000)
+
+counts : (o : Option ℕ) → is_count o ≡ true → IsCount (unwrap_or o 0)
+counts None h = absurd (let bad : false ≡ true = h in cc)
+counts (Some n) h = (grind (arith, nat_tests), grind (arith, nat_tests))
+
+met : (needed there : Bool) → needed ≡ true → is_met needed there ≡ true → there ≡ true
+met true there e h = h
+met false there e h = absurd (let bad : false ≡ true = e in cc)
+
+name_good : (words : List (List ℕ)) (choice : Choice) (before : List Item) (at : ℕ) (role : Role) → is_name role ≡ true → role_fault MakeBig words choice before at role ≡ None → name_is_good MakeBig words before at ≡ true
+name_good words choice before at Name e h =
+    first_of_both (name_is_good MakeBig words before at) _ (chosen (name_is_good MakeBig words before at && is_below (name_count before) (most_names MakeBig choice.mode)) None at h).0
+name_good words choice before at Unknown e h = absurd (let bad : false ≡ true = e in cc)
+name_good words choice before at (Known f) e h = absurd (let bad : false ≡ true = e in cc)
+
+name_counts : (words : List (List ℕ)) (before : List Item) (at : ℕ) → name_count before ≡ 0 → name_is_good MakeBig words before at ≡ true → is_count (decimal_at words at) ≡ true
+name_counts words before at zero h =
+    let must : must_count MakeBig before ≡ true = grind (arith, nat_tests) in
+    met (must_count MakeBig before) (is_count (decimal_at words at)) must (second_of_both (is_plain (word_at words at)) _ h)
+
+abbrev one_if : Bool → ℕ
+one_if b = cond b 1 0
+
+count_found : (words : List (List ℕ)) (o : Option Item) → ℕ
+count_found words o = option_map_or (λ at. unwrap_or (decimal_at words at) 0) (option_map (λ i. i.at) o) 0
+
+count_more : (words : List (List ℕ)) (choice : Choice) (before : List Item) (i : Item) (is : List Item) (b : Bool) → is_name i.role ≡ b
+    → name_count before ≡ 0 → role_fault MakeBig words choice before i.at i.role ≡ None → 0 < name_count (i ∷ is)
+    → (name_count (before ++ i ∷ []) ≡ 0 → 0 < name_count is → IsCount (count_found words (find (λ j. is_name j.role) is)))
+    → IsCount (count_found words (cond b (Some i) (find (λ j. is_name j.role) is)))
+unfolding count_found
+count_more words choice before i is true e zero h some rest = counts (decimal_at words i.at) (name_counts words before i.at zero (name_good words choice before i.at i.role e h))
+count_more words choice before i is false e zero h some rest =
+    let none : one_if (is_name i.role) ≡ 0 = ap one_if e in
+    let pushed : name_count (before ++ i ∷ []) ≡ name_count before + one_if (is_name i.role) = sum_by_push (λ (j : Item). one_if (is_name j.role)) before i in
+    let headed : name_count (i ∷ is) ≡ one_if (is_name i.role) + name_count is = sum_by-cons (λ (j : Item). one_if (is_name j.role)) i is in
+    rest (omega (arith, pushed, zero, none)) (omega (arith, headed, none, some))
+
+-- the first name counts, where no name stands before
+first_counts : (words : List (List ℕ)) (choice : Choice) (before items : List Item) → name_count before ≡ 0 → items_fault MakeBig words choice before items ≡ None → 0 < name_count items → IsCount (count_of words items)
+unfolding count_found
+first_counts words choice before [] zero h some = absurd (let none : 0 < 0 = some in omega arith)
+first_counts words choice before (i ∷ is) zero h some =
+    count_more words choice before i is (is_name i.role) refl zero (first_none (role_fault MakeBig words choice before i.at i.role) _ h) some
+    (λ z s. first_counts words choice (before ++ i ∷ []) is z (later_none (role_fault MakeBig words choice before i.at i.role) _ h) s)
 
 -- ---- the command
 
@@ -223,22 +287,35 @@ library_good (Some flag.Create) words items = tt
 library_good (Some flag.Extract) words items = tt
 library_good mode words items = tt
 
--- who links has a name
+no_item_fault : (verb : Verb) (words : List (List ℕ)) (items : List Item) → verb_fault verb words items ≡ None → items_fault verb words (choice_of verb items) [] items ≡ None
+no_item_fault verb words items h = lesser_none _ (names_fault verb (mode_of verb items) words items) (first_none _ _ h)
+
+all_good : (verb : Verb) (words : List (List ℕ)) (items : List Item) → verb_fault verb words items ≡ None → AllByRecursion (HasValues verb words) items
+all_good verb words items h = all_fine verb words (choice_of verb items) [] items (no_item_fault verb words items h)
+
+names_enough : (verb : Verb) (words : List (List ℕ)) (items : List Item) → verb_fault verb words items ≡ None → nat_le (least_names verb (mode_of verb items)) (name_count items) ≡ true
+names_enough verb words items h =
+    let complete : is_complete verb (mode_of verb items) items ≡ true = (chosen (is_complete verb (mode_of verb items) items) None (length words) (later_none (lesser (items_fault verb words (choice_of verb items) [] items) (names_fault verb (mode_of verb items) words items)) _ h)).0 in
+    first_of_both (nat_le (least_names verb (mode_of verb items)) (name_count items)) _ (second_of_both (is_met (needs_mode verb) (is_some (mode_of verb items))) _ complete)
+
+-- who links or reports has a name
 pub data Links : Verb → Type 0 where
   link : Links Link
   build : Links Build
+  report : Links Report
 
-named : (verb : Verb) → Links verb → (mode : Option Flag) (items : List Item) → is_complete verb mode items ≡ true → nat_lt 0 (name_count items) ≡ true
-named verb link mode items h = first_of_both (nat_lt 0 (name_count items)) _ (second_of_both (is_met (needs_mode verb) (is_some mode)) _ h)
-named verb build mode items h = first_of_both (nat_lt 0 (name_count items)) _ (second_of_both (is_met (needs_mode verb) (is_some mode)) _ h)
+one_name : (verb : Verb) → Links verb → (mode : Option Flag) → least_names verb mode ≡ 1
+one_name verb link mode = refl
+one_name verb build mode = refl
+one_name verb report mode = refl
 
-all_good : (verb : Verb) (words : List (List ℕ)) (items : List Item) → verb_fault verb words items ≡ None → AllByRecursion (HasValues verb words) items
-all_good verb words items h = all_fine verb words (mode_of verb items) (has flag.Reloc items) [] items (lesser_none _ (names_fault verb (mode_of verb items) words items) (first_none _ _ h))
+reports : (verb : Verb) → Links verb → (words : List (List ℕ)) (items : List Item) → verb_fault verb words items ≡ None → IsReported (report_words (mode_of verb items) words items)
+reports verb k words items h =
+    let some : nat_le 1 (name_count items) ≡ true = subst (λ n. nat_le n (name_count items) ≡ true) (one_name verb k (mode_of verb items)) (names_enough verb words items h) in
+    reported verb (mode_of verb items) words items (all_good verb words items h) some
 
-links : (verb : Verb) → Links verb → (words : List (List ℕ)) (items : List Item) → verb_fault verb words items ≡ None → IsLinked (link_words (mode_of verb items) words items)
-links verb k words items h =
-    let complete : is_complete verb (mode_of verb items) items ≡ true = (chosen (is_complete verb (mode_of verb items) items) None (length words) (later_none (lesser (items_fault verb words (mode_of verb items) (has flag.Reloc items) [] items) (names_fault verb (mode_of verb items) words items)) _ h)).0 in
-    linked verb (mode_of verb items) words items (all_good verb words items h) (named verb k (mode_of verb items) items complete)
+some_name : (n : ℕ) → nat_le 2 n ≡ true → 0 < n
+some_name n h = grind (arith, nat_tests)
 
 pub good_words : (verb : Verb) (words : List (List ℕ)) (items : List Item) → verb_fault verb words items ≡ None → IsGood (verb_command verb (mode_of verb items) words items)
 good_words Assemble words items h = tt
@@ -247,6 +324,9 @@ good_words Listing words items h = tt
 good_words Run words items h =
     let all = all_good Run words items h in
     (image_fine Run (mode_of Run items) words items all, banks_fine Run flag.Memory memory words items all, banks_fine Run flag.Rom rom words items all)
-good_words Link words items h = links Link link words items h
-good_words Build words items h = links Build build words items h
+good_words Link words items h = linked (mode_of Link items) words items (reports Link link words items h)
+good_words Build words items h = linked (mode_of Build items) words items (reports Build build words items h)
 good_words InterruptKit words items h = address_fine InterruptKit flag.Acknowledge acknowledgement words items 0xF000000C refl (all_good InterruptKit words items h)
+good_words Burn words items h = tt
+good_words Report words items h = reports Report report words items h
+good_words MakeBig words items h = first_counts words (choice_of MakeBig items) [] items refl (no_item_fault MakeBig words items h) (some_name (name_count items) (names_enough MakeBig words items h))

@@ -1,5 +1,5 @@
 -- The place that is told is the first at which a word breaks a rule.
-use Rattle.std.proofs.Common.{◌≡◌, ℕ, ◌+◌, ◌-◌, ◌<◌, ◌≤◌, ◌==◌, ◌⊎◌, inl, inr, min, nat_lt, Bool, true, false, cond, not, ◌&&◌, ◌||◌, List, [], ◌∷◌, ◌++◌, length, Option, Some, None, Result, Ok, Err, is_some, refl, sym, ap, ◌∙◌, subst, arith}
+use Rattle.std.proofs.Common.{◌≡◌, ℕ, ◌+◌, ◌-◌, ◌<◌, ◌≤◌, ◌==◌, ◌⊎◌, inl, inr, min, nat_lt, nat_le, Bool, true, false, cond, not, ◌&&◌, ◌||◌, List, [], ◌∷◌, ◌++◌, length, Option, Some, None, Result, Ok, Err, is_some, refl, sym, ap, ◌∙◌, subst, arith}
 use Rattle.std.proofs.lemmas.Bool.Decides.{nat_tests}
 use Rattle.tool_words.specs.declared.items.Verb.{Verb}
 use Rattle.tool_words.specs.declared.items.Verb.TheVariants.{Run}
@@ -8,9 +8,10 @@ use Rattle.tool_words.specs.declared.items.Flag.TheVariants as flag
 use Rattle.tool_words.specs.declared.items.Role.{Role}
 use Rattle.tool_words.specs.declared.items.Role.TheVariants.{Name, Known, Unknown}
 use Rattle.tool_words.specs.declared.items.Item.{Item}
+use Rattle.tool_words.specs.declared.rules.Choice.{Choice}
 use Rattle.tool_words.specs.declared.command.Command.{Command}
 use Rattle.tool_words.specs.Items.{word_at, verb_named, form_count, value_count, count_of, items_of}
-use Rattle.tool_words.specs.Rules.{has, is_name, is_bank, bank_count, name_count, is_mode, mode_of, is_plain, first_is_good, second_is_good, value_fault, values_fault, or_else, is_allowed, is_surplus, most_names, is_below, role_fault, items_fault, stands, repeated, must_differ, names_fault, needs_mode, needs_name, needs_output, needs_address, is_met, is_complete, lesser, verb_fault}
+use Rattle.tool_words.specs.Rules.{has, is_name, is_bank, bank_count, name_count, is_mode, mode_of, choice_of, is_plain, must_count, decimal_at, is_count, name_is_good, first_is_good, second_is_good, value_fault, values_fault, or_else, is_allowed, is_surplus, most_names, is_below, role_fault, items_fault, stands, repeated, must_differ, names_fault, needs_mode, least_names, needs_output, needs_map, needs_address, is_met, is_complete, lesser, verb_fault}
 use Rattle.tool_words.specs.Commands.{told, unless, verb_command, verb_words}
 use Rattle.tool_words.specs.Laws as laws
 use Rattle.tool_words.specs.Laws.{OptionBreaks, NameBreaks, RoleBreaks, BreaksRule, IsMissing, BreaksAt, MissesOf, IsLeast, IsEnd, PlaceLaw, FineLaw, WithinLaw}
@@ -19,6 +20,28 @@ use Rattle.tool_words.proofs.TellLemmas.{Tells, either, tells_same, joined, less
 opposite : (b : Bool) → b ≡ true → b ≡ false → ⊥
 opposite true p q = let bad : true ≡ false = q in cc
 opposite false p q = let bad : false ≡ true = p in cc
+
+-- ---- what is needed, and what fails of two
+
+unmet : (needed there : Bool) → needed ≡ true → there ≡ false → is_met needed there ≡ false
+unmet true there p q = q
+unmet false there p q = absurd (opposite false p refl)
+
+not_met : (needed there : Bool) → is_met needed there ≡ false → (needed ≡ true) × (there ≡ false)
+not_met true there h = (refl, h)
+not_met false there h = absurd (opposite true refl h)
+
+first_fails : (a b : Bool) → a ≡ false → (a && b) ≡ false
+first_fails true b h = absurd (opposite true refl h)
+first_fails false b h = refl
+
+second_fails : (a b : Bool) → b ≡ false → (a && b) ≡ false
+second_fails true b h = h
+second_fails false b h = refl
+
+which_fails : (a b : Bool) → (a && b) ≡ false → (a ≡ false) ⊎ (b ≡ false)
+which_fails true b h = inr h
+which_fails false b h = inl refl
 
 -- ---- the values of an option
 
@@ -134,8 +157,8 @@ no_surplus false less false false some h (inr (inr x)) = opposite false x.1 refl
 not_less : (n : ℕ) → nat_lt n 16 ≡ false → 16 ≤ n
 not_less n e = grind (arith, nat_tests)
 
-module _ (verb : Verb) (words : List (List ℕ)) (mode : Option Flag) (moves : Bool) (before : List Item) (at : ℕ) (f : Flag) where
-  from_word : (q : ℕ) → OptionBreaks verb words mode moves before at f q → at ≤ q
+module _ (verb : Verb) (words : List (List ℕ)) (choice : Choice) (before : List Item) (at : ℕ) (f : Flag) where
+  from_word : (q : ℕ) → OptionBreaks verb words choice before at f q → at ≤ q
   from_word q (laws.excluded e) = omega arith
   from_word q (laws.twice b e) = omega arith
   from_word q (laws.second_mode m e) = omega arith
@@ -143,12 +166,12 @@ module _ (verb : Verb) (words : List (List ℕ)) (mode : Option Flag) (moves : B
   from_word q (laws.bad_value c lt e) = omega arith
   from_word q (laws.bad_size c lt e) = omega arith
 
-  of_value : (q : ℕ) → BadValue verb words at f q → OptionBreaks verb words mode moves before at f q
-  of_value q (inl x) = subst (OptionBreaks verb words mode moves before at f) (sym x.1.0) (laws.bad_value x.0 x.1.1 x.1.2)
-  of_value q (inr x) = subst (OptionBreaks verb words mode moves before at f) (sym x.1.0) (laws.bad_size x.0 x.1.1 x.1.2)
+  of_value : (q : ℕ) → BadValue verb words at f q → OptionBreaks verb words choice before at f q
+  of_value q (inl x) = subst (OptionBreaks verb words choice before at f) (sym x.1.0) (laws.bad_value x.0 x.1.1 x.1.2)
+  of_value q (inr x) = subst (OptionBreaks verb words choice before at f) (sym x.1.0) (laws.bad_size x.0 x.1.1 x.1.2)
 
-  value_only : (q : ℕ) → is_allowed verb mode moves f ≡ true → is_surplus verb before f ≡ false → OptionBreaks verb words mode moves before at f q → BadValue verb words at f q
-  value_only q a s (laws.excluded e) = absurd (opposite (is_allowed verb mode moves f) a e)
+  value_only : (q : ℕ) → is_allowed verb choice f ≡ true → is_surplus verb before f ≡ false → OptionBreaks verb words choice before at f q → BadValue verb words at f q
+  value_only q a s (laws.excluded e) = absurd (opposite (is_allowed verb choice f) a e)
   value_only q a s (laws.twice b e) = absurd (no_surplus (is_bank f) (nat_lt (bank_count before) 16) (has f before) (is_mode verb f) (is_some (mode_of verb before)) s (inr (inl (b, e))))
   value_only q a s (laws.second_mode m e) = absurd (no_surplus (is_bank f) (nat_lt (bank_count before) 16) (has f before) (is_mode verb f) (is_some (mode_of verb before)) s (inr (inr (mode_no_bank verb f m, m, e))))
   value_only q a s (laws.too_many_banks b e) =
@@ -157,18 +180,18 @@ module _ (verb : Verb) (words : List (List ℕ)) (mode : Option Flag) (moves : B
   value_only q a s (laws.bad_value c lt e) = inl (c, (refl, lt, e))
   value_only q a s (laws.bad_size c lt e) = inr (c, (refl, lt, e))
 
-  too_many : is_surplus verb before f ≡ true → OptionBreaks verb words mode moves before at f at
+  too_many : is_surplus verb before f ≡ true → OptionBreaks verb words choice before at f at
   too_many s =
       either (λ x. let full : 16 ≤ bank_count before = not_less (bank_count before) x.1 in laws.too_many_banks x.0 full)
       (either (λ x. laws.twice x.0 x.1) (λ x. laws.second_mode x.0 x.1))
       (surplus (is_bank f) (nat_lt (bank_count before) 16) (has f before) (is_mode verb f) (is_some (mode_of verb before)) s)
 
-  option_tells : (allowed many : Bool) → is_allowed verb mode moves f ≡ allowed → is_surplus verb before f ≡ many → at < length words
-      → Tells (OptionBreaks verb words mode moves before at f) (length words ≤ at + value_count verb f) (length words) (cond (allowed && not many) (values_fault verb f words at) (Some at))
+  option_tells : (allowed many : Bool) → is_allowed verb choice f ≡ allowed → is_surplus verb before f ≡ many → at < length words
+      → Tells (OptionBreaks verb words choice before at f) (length words ≤ at + value_count verb f) (length words) (cond (allowed && not many) (values_fault verb f words at) (Some at))
   option_tells false many a s lt = inl (record { holds = laws.excluded a; least = λ q l x. absurd (omega (arith, from_word q x, l)) })
   option_tells true true a s lt = inl (record { holds = too_many s; least = λ q l x. absurd (omega (arith, from_word q x, l)) })
   option_tells true false a s lt =
-      tells_same (BadValue verb words at f) (OptionBreaks verb words mode moves before at f) (length words ≤ at + value_count verb f) (length words ≤ at + value_count verb f) (length words) (values_fault verb f words at)
+      tells_same (BadValue verb words at f) (OptionBreaks verb words choice before at f) (length words ≤ at + value_count verb f) (length words ≤ at + value_count verb f) (length words) (values_fault verb f words at)
       of_value (λ q x. value_only q a s x) (λ x. x) (λ x. x) (values_tell verb words at f lt)
 
 -- ---- a name
@@ -179,8 +202,19 @@ pub record TooMany (verb : Verb) (mode : Option Flag) (before : List Item) : Typ
   pub limit : most_names verb mode ≡ Some most
   pub over : most ≤ name_count before
 
+abbrev IsBadName : Verb → List (List ℕ) → List Item → ℕ → Type 0
+IsBadName verb words before at = (is_plain (word_at words at) ≡ false) ⊎ ((must_count verb before ≡ true) × (is_count (decimal_at words at) ≡ false))
+
 abbrev NameAlone : Verb → List (List ℕ) → Option Flag → List Item → ℕ → ℕ → Type 0
-NameAlone verb words mode before at q = (q ≡ at) × ((is_plain (word_at words at) ≡ false) ⊎ TooMany verb mode before)
+NameAlone verb words mode before at q = (q ≡ at) × (IsBadName verb words before at ⊎ TooMany verb mode before)
+
+bad_name : (plain must count : Bool) → (plain && is_met must count) ≡ false → (plain ≡ false) ⊎ ((must ≡ true) × (count ≡ false))
+bad_name true must count h = inr (not_met must count h)
+bad_name false must count h = inl refl
+
+no_bad_name : (plain must count : Bool) → (plain && is_met must count) ≡ true → (plain ≡ false) ⊎ ((must ≡ true) × (count ≡ false)) → ⊥
+no_bad_name plain must count h (inl p) = opposite (plain && is_met must count) h (first_fails plain (is_met must count) p)
+no_bad_name plain must count h (inr x) = opposite (plain && is_met must count) h (second_fails plain (is_met must count) (unmet must count x.0 x.1))
 
 few : (verb : Verb) (mode : Option Flag) (before : List Item) (most : ℕ) → most_names verb mode ≡ Some most → nat_lt (name_count before) most ≡ true → TooMany verb mode before → ⊥
 few verb mode before most e lt t =
@@ -193,78 +227,83 @@ no_limit : (verb : Verb) (mode : Option Flag) (before : List Item) → most_name
 no_limit verb mode before e t = let bad : Some t.most ≡ None = sym t.limit ∙ e in cc
 
 module _ (verb : Verb) (words : List (List ℕ)) (mode : Option Flag) (before : List Item) (at : ℕ) where
-  name_limit : (most : ℕ) (less : Bool) → is_plain (word_at words at) ≡ true → most_names verb mode ≡ Some most → nat_lt (name_count before) most ≡ less
+  fine_name : name_is_good verb words before at ≡ true → IsBadName verb words before at → ⊥
+  fine_name g x = no_bad_name (is_plain (word_at words at)) (must_count verb before) (is_count (decimal_at words at)) g x
+
+  name_limit : (most : ℕ) (less : Bool) → name_is_good verb words before at ≡ true → most_names verb mode ≡ Some most → nat_lt (name_count before) most ≡ less
       → Tells (NameAlone verb words mode before at) ⊥ (length words) (cond less None (Some at))
-  name_limit most true p e lt = (λ q x. either (opposite (is_plain (word_at words at)) p) (few verb mode before most e lt) x.1, λ x. x)
-  name_limit most false p e lt =
+  name_limit most true g e lt = (λ q x. either (fine_name g) (few verb mode before most e lt) x.1, λ x. x)
+  name_limit most false g e lt =
       let over : most ≤ name_count before = grind (arith, nat_tests) in
       inl (record { holds = (refl, inr (record { most = most; limit = e; over = over })); least = λ q l x. absurd (omega (arith, x.0, l)) })
 
-  name_tells : (plain : Bool) (limit : Option ℕ) → is_plain (word_at words at) ≡ plain → most_names verb mode ≡ limit
-      → Tells (NameAlone verb words mode before at) ⊥ (length words) (cond (plain && is_below (name_count before) limit) None (Some at))
-  name_tells false limit p e = inl (record { holds = (refl, inl p); least = λ q l x. absurd (omega (arith, x.0, l)) })
-  name_tells true None p e = (λ q x. either (opposite (is_plain (word_at words at)) p) (no_limit verb mode before e) x.1, λ x. x)
-  name_tells true (Some most) p e = name_limit most (nat_lt (name_count before) most) p e refl
+  name_tells : (good : Bool) (limit : Option ℕ) → name_is_good verb words before at ≡ good → most_names verb mode ≡ limit
+      → Tells (NameAlone verb words mode before at) ⊥ (length words) (cond (good && is_below (name_count before) limit) None (Some at))
+  name_tells false limit g e =
+      let bad : IsBadName verb words before at = bad_name (is_plain (word_at words at)) (must_count verb before) (is_count (decimal_at words at)) g in
+      inl (record { holds = (refl, inl bad); least = λ q l x. absurd (omega (arith, x.0, l)) })
+  name_tells true None g e = (λ q x. either (fine_name g) (no_limit verb mode before e) x.1, λ x. x)
+  name_tells true (Some most) g e = name_limit most (nat_lt (name_count before) most) g e refl
 
 -- ---- an item, but for names that must differ
 
-abbrev Alone : Verb → List (List ℕ) → Option Flag → Bool → List Item → ℕ → Role → ℕ → Type 0
-Alone verb words mode moves before at Name q = NameAlone verb words mode before at q
-Alone verb words mode moves before at Unknown q = q ≡ at
-Alone verb words mode moves before at (Known f) q = OptionBreaks verb words mode moves before at f q
+abbrev Alone : Verb → List (List ℕ) → Choice → List Item → ℕ → Role → ℕ → Type 0
+Alone verb words choice before at Name q = NameAlone verb words choice.mode before at q
+Alone verb words choice before at Unknown q = q ≡ at
+Alone verb words choice before at (Known f) q = OptionBreaks verb words choice before at f q
 
 abbrev Wants : Verb → List (List ℕ) → ℕ → Role → Type 0
 Wants verb words at Name = ⊥
 Wants verb words at Unknown = ⊥
 Wants verb words at (Known f) = length words ≤ at + value_count verb f
 
-role_tells : (verb : Verb) (words : List (List ℕ)) (mode : Option Flag) (moves : Bool) (before : List Item) (at : ℕ) (role : Role) → at < length words
-    → Tells (Alone verb words mode moves before at role) (Wants verb words at role) (length words) (role_fault verb words mode moves before at role)
-role_tells verb words mode moves before at Name lt = name_tells verb words mode before at (is_plain (word_at words at)) (most_names verb mode) refl refl
-role_tells verb words mode moves before at Unknown lt = inl (record { holds = refl; least = λ q l x. absurd (omega (arith, x, l)) })
-role_tells verb words mode moves before at (Known f) lt = option_tells verb words mode moves before at f (is_allowed verb mode moves f) (is_surplus verb before f) refl refl lt
+role_tells : (verb : Verb) (words : List (List ℕ)) (choice : Choice) (before : List Item) (at : ℕ) (role : Role) → at < length words
+    → Tells (Alone verb words choice before at role) (Wants verb words at role) (length words) (role_fault verb words choice before at role)
+role_tells verb words choice before at Name lt = name_tells verb words choice.mode before at (name_is_good verb words before at) (most_names verb choice.mode) refl refl
+role_tells verb words choice before at Unknown lt = inl (record { holds = refl; least = λ q l x. absurd (omega (arith, x, l)) })
+role_tells verb words choice before at (Known f) lt = option_tells verb words choice before at f (is_allowed verb choice f) (is_surplus verb before f) refl refl lt
 
-near_option : (verb : Verb) (words : List (List ℕ)) (mode : Option Flag) (moves : Bool) (before : List Item) (at : ℕ) (f : Flag) (count q : ℕ) → at < length words → count ≡ min (value_count verb f) (length words - (at + 1))
-    → OptionBreaks verb words mode moves before at f q → q < at + 1 + count
-near_option verb words mode moves before at f count q lt c (laws.excluded e) = omega arith
-near_option verb words mode moves before at f count q lt c (laws.twice b e) = omega arith
-near_option verb words mode moves before at f count q lt c (laws.second_mode m e) = omega arith
-near_option verb words mode moves before at f count q lt c (laws.too_many_banks b e) = omega arith
-near_option verb words mode moves before at f count q lt c (laws.bad_value n l e) = omega arith
-near_option verb words mode moves before at f count q lt c (laws.bad_size n l e) = omega arith
+near_option : (verb : Verb) (words : List (List ℕ)) (choice : Choice) (before : List Item) (at : ℕ) (f : Flag) (count q : ℕ) → at < length words → count ≡ min (value_count verb f) (length words - (at + 1))
+    → OptionBreaks verb words choice before at f q → q < at + 1 + count
+near_option verb words choice before at f count q lt c (laws.excluded e) = omega arith
+near_option verb words choice before at f count q lt c (laws.twice b e) = omega arith
+near_option verb words choice before at f count q lt c (laws.second_mode m e) = omega arith
+near_option verb words choice before at f count q lt c (laws.too_many_banks b e) = omega arith
+near_option verb words choice before at f count q lt c (laws.bad_value n l e) = omega arith
+near_option verb words choice before at f count q lt c (laws.bad_size n l e) = omega arith
 
-near_role : (verb : Verb) (words : List (List ℕ)) (mode : Option Flag) (moves : Bool) (before : List Item) (at : ℕ) (role : Role) (count q : ℕ) → at < length words → count ≡ min (count_of verb role) (length words - (at + 1))
-    → Alone verb words mode moves before at role q → (at ≤ q) × (q < at + 1 + count)
-near_role verb words mode moves before at Name count q lt c x = (omega (arith, x.0), omega (arith, x.0))
-near_role verb words mode moves before at Unknown count q lt c x = (omega (arith, x), omega (arith, x))
-near_role verb words mode moves before at (Known f) count q lt c x = (from_word verb words mode moves before at f q x, near_option verb words mode moves before at f count q lt c x)
+near_role : (verb : Verb) (words : List (List ℕ)) (choice : Choice) (before : List Item) (at : ℕ) (role : Role) (count q : ℕ) → at < length words → count ≡ min (count_of verb role) (length words - (at + 1))
+    → Alone verb words choice before at role q → (at ≤ q) × (q < at + 1 + count)
+near_role verb words choice before at Name count q lt c x = (omega (arith, x.0), omega (arith, x.0))
+near_role verb words choice before at Unknown count q lt c x = (omega (arith, x), omega (arith, x))
+near_role verb words choice before at (Known f) count q lt c x = (from_word verb words choice before at f q x, near_option verb words choice before at f count q lt c x)
 
-abbrev ItemAlone : Verb → List (List ℕ) → Option Flag → Bool → List Item → Item → ℕ → Type 0
-ItemAlone verb words mode moves before i q = Alone verb words mode moves before i.at i.role q
+abbrev ItemAlone : Verb → List (List ℕ) → Choice → List Item → Item → ℕ → Type 0
+ItemAlone verb words choice before i q = Alone verb words choice before i.at i.role q
 
 abbrev ItemWants : Verb → List (List ℕ) → Item → Type 0
 ItemWants verb words i = Wants verb words i.at i.role
 
-near_item : (verb : Verb) (words : List (List ℕ)) (mode : Option Flag) (moves : Bool) → IsNear verb words (ItemAlone verb words mode moves)
-near_item verb words mode moves before i from q n x = near_role verb words mode moves before i.at i.role i.count q n.within n.values x
+near_item : (verb : Verb) (words : List (List ℕ)) (choice : Choice) → IsNear verb words (ItemAlone verb words choice)
+near_item verb words choice before i from q n x = near_role verb words choice before i.at i.role i.count q n.within n.values x
 
 role_ends : (verb : Verb) (words : List (List ℕ)) (at : ℕ) (role : Role) (count : ℕ) → at < length words → count ≡ min (count_of verb role) (length words - (at + 1)) → Wants verb words at role → length words ≤ at + 1 + count
 role_ends verb words at Name count lt c x = absurd x
 role_ends verb words at Unknown count lt c x = absurd x
 role_ends verb words at (Known f) count lt c x = omega (arith, x)
 
-items_walk : (verb : Verb) (words : List (List ℕ)) (mode : Option Flag) (moves : Bool) (before items : List Item) → walk (λ b i. role_fault verb words mode moves b i.at i.role) before items ≡ items_fault verb words mode moves before items
-items_walk verb words mode moves before [] = refl
-items_walk verb words mode moves before (i ∷ is) = ap (or_else (role_fault verb words mode moves before i.at i.role)) (items_walk verb words mode moves (before ++ i ∷ []) is)
+items_walk : (verb : Verb) (words : List (List ℕ)) (choice : Choice) (before items : List Item) → walk (λ b i. role_fault verb words choice b i.at i.role) before items ≡ items_fault verb words choice before items
+items_walk verb words choice before [] = refl
+items_walk verb words choice before (i ∷ is) = ap (or_else (role_fault verb words choice before i.at i.role)) (items_walk verb words choice (before ++ i ∷ []) is)
 
-items_tell : (verb : Verb) (words : List (List ℕ)) (mode : Option Flag) (moves : Bool) (items : List Item) → Chain verb words 1 items
-    → Tells (From (ItemAlone verb words mode moves) [] items) (Lacks (ItemWants verb words) [] items) (length words) (items_fault verb words mode moves [] items)
-items_tell verb words mode moves items c =
-    subst (Tells (From (ItemAlone verb words mode moves) [] items) (Lacks (ItemWants verb words) [] items) (length words)) (items_walk verb words mode moves [] items)
-    (walk_tells verb words (ItemAlone verb words mode moves) (ItemWants verb words) (λ b i. role_fault verb words mode moves b i.at i.role)
-    (near_item verb words mode moves)
+items_tell : (verb : Verb) (words : List (List ℕ)) (choice : Choice) (items : List Item) → Chain verb words 1 items
+    → Tells (From (ItemAlone verb words choice) [] items) (Lacks (ItemWants verb words) [] items) (length words) (items_fault verb words choice [] items)
+items_tell verb words choice items c =
+    subst (Tells (From (ItemAlone verb words choice) [] items) (Lacks (ItemWants verb words) [] items) (length words)) (items_walk verb words choice [] items)
+    (walk_tells verb words (ItemAlone verb words choice) (ItemWants verb words) (λ b i. role_fault verb words choice b i.at i.role)
+    (near_item verb words choice)
     (λ i from n x. role_ends verb words i.at i.role i.count n.within n.values x)
-    (λ before i lt. role_tells verb words mode moves before i.at i.role lt)
+    (λ before i lt. role_tells verb words choice before i.at i.role lt)
     [] items 1 c)
 
 -- ---- names that must differ
@@ -317,26 +356,27 @@ names_tell verb words mode items true e c =
 
 whole_name : (verb : Verb) (words : List (List ℕ)) (mode : Option Flag) (before : List Item) (at q : ℕ) → q ≡ at → NameBreaks verb words mode before at
     → NameAlone verb words mode before at q ⊎ ((must_differ verb mode ≡ true) × (q ≡ at) × (stands words before (word_at words at) ≡ true))
-whole_name verb words mode before at q e (laws.zero_byte z) = inl (e, inl z)
+whole_name verb words mode before at q e (laws.zero_byte z) = inl (e, inl (inl z))
+whole_name verb words mode before at q e (laws.no_count m c) = inl (e, inl (inr (m, c)))
 whole_name verb words mode before at q e (laws.too_many_names most limit over) = inl (e, inr (record { most = most; limit = limit; over = over }))
 whole_name verb words mode before at q e (laws.repeated d s) = inr (d, e, s)
 
-whole_role : (verb : Verb) (words : List (List ℕ)) (mode : Option Flag) (moves : Bool) (before : List Item) (at : ℕ) (role : Role) (q : ℕ)
-    → RoleBreaks verb words mode moves before at role q → Alone verb words mode moves before at role q ⊎ ((must_differ verb mode ≡ true) × (q ≡ at) × ((is_name role && stands words before (word_at words at)) ≡ true))
-whole_role verb words mode moves before at Name q x = whole_name verb words mode before at q x.0 x.1
-whole_role verb words mode moves before at Unknown q x = inl x
-whole_role verb words mode moves before at (Known f) q x = inl x
+whole_role : (verb : Verb) (words : List (List ℕ)) (choice : Choice) (before : List Item) (at : ℕ) (role : Role) (q : ℕ)
+    → RoleBreaks verb words choice before at role q → Alone verb words choice before at role q ⊎ ((must_differ verb choice.mode ≡ true) × (q ≡ at) × ((is_name role && stands words before (word_at words at)) ≡ true))
+whole_role verb words choice before at Name q x = whole_name verb words choice.mode before at q x.0 x.1
+whole_role verb words choice before at Unknown q x = inl x
+whole_role verb words choice before at (Known f) q x = inl x
 
-alone_role : (verb : Verb) (words : List (List ℕ)) (mode : Option Flag) (moves : Bool) (before : List Item) (at : ℕ) (role : Role) (q : ℕ) → Alone verb words mode moves before at role q → RoleBreaks verb words mode moves before at role q
-alone_role verb words mode moves before at Name q x = (x.0, either (λ z. laws.zero_byte z) (λ t. laws.too_many_names t.most t.limit t.over) x.1)
-alone_role verb words mode moves before at Unknown q x = x
-alone_role verb words mode moves before at (Known f) q x = x
+alone_role : (verb : Verb) (words : List (List ℕ)) (choice : Choice) (before : List Item) (at : ℕ) (role : Role) (q : ℕ) → Alone verb words choice before at role q → RoleBreaks verb words choice before at role q
+alone_role verb words choice before at Name q x = (x.0, either (either (λ z. laws.zero_byte z) (λ n. laws.no_count n.0 n.1)) (λ t. laws.too_many_names t.most t.limit t.over) x.1)
+alone_role verb words choice before at Unknown q x = x
+alone_role verb words choice before at (Known f) q x = x
 
-again_role : (verb : Verb) (words : List (List ℕ)) (mode : Option Flag) (moves : Bool) (before : List Item) (at : ℕ) (role : Role) (q : ℕ)
-    → must_differ verb mode ≡ true → q ≡ at → (is_name role && stands words before (word_at words at)) ≡ true → RoleBreaks verb words mode moves before at role q
-again_role verb words mode moves before at Name q d e s = (e, laws.repeated d s)
-again_role verb words mode moves before at Unknown q d e s = absurd (let bad : false ≡ true = s in cc)
-again_role verb words mode moves before at (Known f) q d e s = absurd (let bad : false ≡ true = s in cc)
+again_role : (verb : Verb) (words : List (List ℕ)) (choice : Choice) (before : List Item) (at : ℕ) (role : Role) (q : ℕ)
+    → must_differ verb choice.mode ≡ true → q ≡ at → (is_name role && stands words before (word_at words at)) ≡ true → RoleBreaks verb words choice before at role q
+again_role verb words choice before at Name q d e s = (e, laws.repeated d s)
+again_role verb words choice before at Unknown q d e s = absurd (let bad : false ≡ true = s in cc)
+again_role verb words choice before at (Known f) q d e s = absurd (let bad : false ≡ true = s in cc)
 
 wants_option : (verb : Verb) (words : List (List ℕ)) (at : ℕ) (role : Role) → Wants verb words at role → (f : Flag) × (role ≡ Known f) × (length words ≤ at + value_count verb f)
 wants_option verb words at Name x = absurd x
@@ -344,14 +384,14 @@ wants_option verb words at Unknown x = absurd x
 wants_option verb words at (Known f) x = (f, refl, x)
 
 module _ (verb : Verb) (words : List (List ℕ)) (items : List Item) where
-  to_rule : (q : ℕ) → From (ItemAlone verb words (mode_of verb items) (has flag.Reloc items)) [] items q ⊎ Same verb words (mode_of verb items) items q → BreaksRule verb words items q
+  to_rule : (q : ℕ) → From (ItemAlone verb words (choice_of verb items)) [] items q ⊎ Same verb words (mode_of verb items) items q → BreaksRule verb words items q
   to_rule q (inl x) =
-      let f : Found (ItemAlone verb words (mode_of verb items) (has flag.Reloc items)) [] items q = found (ItemAlone verb words (mode_of verb items) (has flag.Reloc items)) [] items q x in record {
+      let f : Found (ItemAlone verb words (choice_of verb items)) [] items q = found (ItemAlone verb words (choice_of verb items)) [] items q x in record {
         before = f.before;
         item = f.item;
         after = f.after;
         all = f.all;
-        breaks = alone_role verb words (mode_of verb items) (has flag.Reloc items) f.before f.item.at f.item.role q f.holds;
+        breaks = alone_role verb words (choice_of verb items) f.before f.item.at f.item.role q f.holds;
       }
   to_rule q (inr x) =
       let f : Found (Repeats words) [] items q = found (Repeats words) [] items q x.1 in record {
@@ -359,14 +399,14 @@ module _ (verb : Verb) (words : List (List ℕ)) (items : List Item) where
         item = f.item;
         after = f.after;
         all = f.all;
-        breaks = again_role verb words (mode_of verb items) (has flag.Reloc items) f.before f.item.at f.item.role q x.0 f.holds.0 f.holds.1;
+        breaks = again_role verb words (choice_of verb items) f.before f.item.at f.item.role q x.0 f.holds.0 f.holds.1;
       }
 
-  of_rule : (q : ℕ) → BreaksRule verb words items q → From (ItemAlone verb words (mode_of verb items) (has flag.Reloc items)) [] items q ⊎ Same verb words (mode_of verb items) items q
+  of_rule : (q : ℕ) → BreaksRule verb words items q → From (ItemAlone verb words (choice_of verb items)) [] items q ⊎ Same verb words (mode_of verb items) items q
   of_rule q r =
-      either (λ a. inl (subst (λ l. From (ItemAlone verb words (mode_of verb items) (has flag.Reloc items)) [] l q) r.all (placed (ItemAlone verb words (mode_of verb items) (has flag.Reloc items)) [] r.before r.item r.after q a)))
+      either (λ a. inl (subst (λ l. From (ItemAlone verb words (choice_of verb items)) [] l q) r.all (placed (ItemAlone verb words (choice_of verb items)) [] r.before r.item r.after q a)))
       (λ x. inr (x.0, subst (λ l. From (Repeats words) [] l q) r.all (placed (Repeats words) [] r.before r.item r.after q (x.1, x.2))))
-      (whole_role verb words (mode_of verb items) (has flag.Reloc items) r.before r.item.at r.item.role q r.breaks)
+      (whole_role verb words (choice_of verb items) r.before r.item.at r.item.role q r.breaks)
 
   of_value_missing : Lacks (ItemWants verb words) [] items → IsMissing verb words items
   of_value_missing x =
@@ -376,72 +416,67 @@ module _ (verb : Verb) (words : List (List ℕ)) (items : List Item) where
 
 -- ---- what is missing beside
 
-unmet : (needed there : Bool) → needed ≡ true → there ≡ false → is_met needed there ≡ false
-unmet true there p q = q
-unmet false there p q = absurd (opposite false p refl)
-
-not_met : (needed there : Bool) → is_met needed there ≡ false → (needed ≡ true) × (there ≡ false)
-not_met true there h = (refl, h)
-not_met false there h = absurd (opposite true refl h)
-
-first_fails : (a b : Bool) → a ≡ false → (a && b) ≡ false
-first_fails true b h = absurd (opposite true refl h)
-first_fails false b h = refl
-
-second_fails : (a b : Bool) → b ≡ false → (a && b) ≡ false
-second_fails true b h = h
-second_fails false b h = refl
-
-which_fails : (a b : Bool) → (a && b) ≡ false → (a ≡ false) ⊎ (b ≡ false)
-which_fails true b h = inr h
-which_fails false b h = inl refl
-
 none_of : (o : Option Flag) → is_some o ≡ false → o ≡ None
 none_of None h = refl
 none_of (Some f) h = absurd (opposite true refl h)
 
-no_name : (n : ℕ) → nat_lt 0 n ≡ false → n ≡ 0
-no_name n h = grind (arith, nat_tests)
+too_few : (least n : ℕ) → n < least → nat_le least n ≡ false
+too_few least n h = grind (arith, nat_tests)
+
+fewer : (least n : ℕ) → nat_le least n ≡ false → n < least
+fewer least n h = grind (arith, nat_tests)
 
 module _ (verb : Verb) (words : List (List ℕ)) (items : List Item) where
   abbrev mode_met : Bool
   mode_met = is_met (needs_mode verb) (is_some (mode_of verb items))
 
   abbrev name_met : Bool
-  name_met = is_met (needs_name verb (mode_of verb items)) (nat_lt 0 (name_count items))
+  name_met = nat_le (least_names verb (mode_of verb items)) (name_count items)
 
   abbrev output_met : Bool
   output_met = is_met (needs_output verb (mode_of verb items)) (has flag.Output items)
 
+  abbrev map_met : Bool
+  map_met = is_met (needs_map verb) (has flag.Map items)
+
   abbrev address_met : Bool
   address_met = is_met (needs_address verb (mode_of verb items)) (has flag.At items)
 
-  of_option_missing : (output_met && address_met) ≡ false → IsMissing verb words items
+  abbrev options_met : Bool
+  options_met = output_met && (map_met && address_met)
+
+  of_option_missing : options_met ≡ false → IsMissing verb words items
   of_option_missing h =
       either (λ e. let k = not_met (needs_output verb (mode_of verb items)) (has flag.Output items) e in laws.output k.0 k.1)
+      (λ r. either (λ e. let k = not_met (needs_map verb) (has flag.Map items) e in laws.map k.0 k.1)
       (λ e. let k = not_met (needs_address verb (mode_of verb items)) (has flag.At items) e in laws.address k.0 k.1)
-      (which_fails output_met address_met h)
+      (which_fails map_met address_met r))
+      (which_fails output_met (map_met && address_met) h)
 
   of_incomplete : is_complete verb (mode_of verb items) items ≡ false → IsMissing verb words items
   of_incomplete h =
       either (λ e. let k = not_met (needs_mode verb) (is_some (mode_of verb items)) e in laws.mode k.0 (none_of (mode_of verb items) k.1))
-      (λ r. either (λ e. let k = not_met (needs_name verb (mode_of verb items)) (nat_lt 0 (name_count items)) e in laws.name k.0 (no_name (name_count items) k.1)) of_option_missing
-      (which_fails name_met (output_met && address_met) r))
-      (which_fails mode_met (name_met && (output_met && address_met)) h)
+      (λ r. either (λ e. laws.name (fewer (least_names verb (mode_of verb items)) (name_count items) e)) of_option_missing (which_fails name_met options_met r))
+      (which_fails mode_met (name_met && options_met) h)
+
+  option_lacks : options_met ≡ false → is_complete verb (mode_of verb items) items ≡ false
+  option_lacks h = second_fails mode_met (name_met && options_met) (second_fails name_met options_met h)
 
   to_missing : IsMissing verb words items → Lacks (ItemWants verb words) [] items ⊎ (is_complete verb (mode_of verb items) items ≡ false)
   to_missing (laws.value before item after f all role le) =
       inl (subst (λ l. Lacks (ItemWants verb words) [] l) all (placed (λ b i q. ItemWants verb words i) [] before item after 0 (subst (Wants verb words item.at) (sym role) le)))
   to_missing (laws.mode n e) =
       let none : is_some (mode_of verb items) ≡ false = rw e refl in
-      inr (first_fails mode_met (name_met && (output_met && address_met)) (unmet (needs_mode verb) (is_some (mode_of verb items)) n none))
-  to_missing (laws.name n e) =
-      let none : nat_lt 0 (name_count items) ≡ false = rw e refl in
-      inr (second_fails mode_met (name_met && (output_met && address_met)) (first_fails name_met (output_met && address_met) (unmet (needs_name verb (mode_of verb items)) (nat_lt 0 (name_count items)) n none)))
+      inr (first_fails mode_met (name_met && options_met) (unmet (needs_mode verb) (is_some (mode_of verb items)) n none))
+  to_missing (laws.name lt) =
+      let short : name_met ≡ false = too_few (least_names verb (mode_of verb items)) (name_count items) lt in
+      inr (second_fails mode_met (name_met && options_met) (first_fails name_met options_met short))
   to_missing (laws.output n e) =
-      inr (second_fails mode_met (name_met && (output_met && address_met)) (second_fails name_met (output_met && address_met) (first_fails output_met address_met (unmet (needs_output verb (mode_of verb items)) (has flag.Output items) n e))))
+      inr (option_lacks (first_fails output_met (map_met && address_met) (unmet (needs_output verb (mode_of verb items)) (has flag.Output items) n e)))
+  to_missing (laws.map n e) =
+      inr (option_lacks (second_fails output_met (map_met && address_met) (first_fails map_met address_met (unmet (needs_map verb) (has flag.Map items) n e))))
   to_missing (laws.address n e) =
-      inr (second_fails mode_met (name_met && (output_met && address_met)) (second_fails name_met (output_met && address_met) (second_fails output_met address_met (unmet (needs_address verb (mode_of verb items)) (has flag.At items) n e))))
+      inr (option_lacks (second_fails output_met (map_met && address_met) (second_fails map_met address_met (unmet (needs_address verb (mode_of verb items)) (has flag.At items) n e))))
 
 -- ---- the fault of a command
 
@@ -450,15 +485,15 @@ repeats_within verb words items q c x = (far verb words (Repeats words) (near_re
 
 fault_tells : (verb : Verb) (words : List (List ℕ)) (items : List Item) → Chain verb words 1 items → Tells (BreaksRule verb words items) (IsMissing verb words items) (length words) (verb_fault verb words items)
 fault_tells verb words items c =
-    tells_same (λ q. From (ItemAlone verb words (mode_of verb items) (has flag.Reloc items)) [] items q ⊎ Same verb words (mode_of verb items) items q) (BreaksRule verb words items)
+    tells_same (λ q. From (ItemAlone verb words (choice_of verb items)) [] items q ⊎ Same verb words (mode_of verb items) items q) (BreaksRule verb words items)
     (Lacks (ItemWants verb words) [] items ⊎ (is_complete verb (mode_of verb items) items ≡ false)) (IsMissing verb words items) (length words) (verb_fault verb words items)
     (to_rule verb words items) (of_rule verb words items) (either (of_value_missing verb words items) (of_incomplete verb words items)) (to_missing verb words items)
-    (complete_tells (λ q. From (ItemAlone verb words (mode_of verb items) (has flag.Reloc items)) [] items q ⊎ Same verb words (mode_of verb items) items q) (Lacks (ItemWants verb words) [] items) (length words)
-    (lesser (items_fault verb words (mode_of verb items) (has flag.Reloc items) [] items) (names_fault verb (mode_of verb items) words items)) (is_complete verb (mode_of verb items) items)
-    (lesser_tells (From (ItemAlone verb words (mode_of verb items) (has flag.Reloc items)) [] items) (Same verb words (mode_of verb items) items) (Lacks (ItemWants verb words) [] items) (length words)
-    (items_fault verb words (mode_of verb items) (has flag.Reloc items) [] items) (names_fault verb (mode_of verb items) words items)
+    (complete_tells (λ q. From (ItemAlone verb words (choice_of verb items)) [] items q ⊎ Same verb words (mode_of verb items) items q) (Lacks (ItemWants verb words) [] items) (length words)
+    (lesser (items_fault verb words (choice_of verb items) [] items) (names_fault verb (mode_of verb items) words items)) (is_complete verb (mode_of verb items) items)
+    (lesser_tells (From (ItemAlone verb words (choice_of verb items)) [] items) (Same verb words (mode_of verb items) items) (Lacks (ItemWants verb words) [] items) (length words)
+    (items_fault verb words (choice_of verb items) [] items) (names_fault verb (mode_of verb items) words items)
     (λ q x. repeats_within verb words items q c x)
-    (items_tell verb words (mode_of verb items) (has flag.Reloc items) items c)
+    (items_tell verb words (choice_of verb items) items c)
     (names_tell verb words (mode_of verb items) items (must_differ verb (mode_of verb items)) refl c)))
 
 -- ---- the laws
@@ -499,7 +534,7 @@ fine_law words c h = fine_verb (verb_named (word_at words 0)) words c h
 
 rule_within : (verb : Verb) (words : List (List ℕ)) (items : List Item) (q : ℕ) → Chain verb words 1 items → BreaksRule verb words items q → q < length words
 rule_within verb words items q c r =
-    either (λ x. (far verb words (ItemAlone verb words (mode_of verb items) (has flag.Reloc items)) (near_item verb words (mode_of verb items) (has flag.Reloc items)) [] items 1 q c x).1)
+    either (λ x. (far verb words (ItemAlone verb words (choice_of verb items)) (near_item verb words (choice_of verb items)) [] items 1 q c x).1)
     (repeats_within verb words items q c)
     (of_rule verb words items q r)
 

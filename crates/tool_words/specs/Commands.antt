@@ -1,9 +1,9 @@
 -- What good words ask for. This project's.
-use Rattle.std.specs.Prelude.{◌≡◌, ℕ, ◌+◌, ◌%◌, ◌^◌, ◌<◌, ◌≤◌, List, [], map, filter, find, min, length, Option, Some, None, Result, Ok, Err, unwrap_or, option_map, if◌then◌else◌}
+use Rattle.std.specs.Prelude.{◌≡◌, ℕ, ◌+◌, ◌%◌, ◌^◌, ◌<◌, ◌≤◌, List, [], map, filter, find, min, length, Option, Some, None, Result, Ok, Err, unwrap_or, option_map, slice_get, if◌then◌else◌}
 use Rattle.std.specs.List.{AllByRecursion}
 use Rattle.std.specs.Option.{option_map_or}
 use Rattle.tool_words.specs.declared.items.Verb.{Verb}
-use Rattle.tool_words.specs.declared.items.Verb.TheVariants.{Assemble, Library, List as Listing, Run, Link, Build, InterruptKit}
+use Rattle.tool_words.specs.declared.items.Verb.TheVariants.{Assemble, Library, List as Listing, Run, Link, Build, InterruptKit, Burn, Report, MakeBig}
 use Rattle.tool_words.specs.declared.items.Flag.{Flag}
 use Rattle.tool_words.specs.declared.items.Flag.TheVariants.{Create, Table, Extract, Output, Bin, At, Memory, Rom, Steps, Reloc, Base, Ram, Acknowledge}
 use Rattle.tool_words.specs.declared.items.Flag.TheVariants as flag
@@ -18,10 +18,13 @@ use Rattle.tool_words.specs.declared.command.LinkPlacement.TheVariants as placem
 use Rattle.tool_words.specs.declared.command.Container.{Container}
 use Rattle.tool_words.specs.declared.command.Container.TheVariants as container
 use Rattle.tool_words.specs.declared.command.LinkWords.{LinkWords}
+use Rattle.tool_words.specs.declared.command.ReportWords.{ReportWords}
+use Rattle.tool_words.specs.declared.command.BurnForm.{BurnForm}
+use Rattle.tool_words.specs.declared.command.BurnForm.TheVariants as form
 use Rattle.tool_words.specs.declared.command.WordsFault.{WordsFault}
 use Rattle.tool_words.specs.declared.command.WordsFault.TheVariants as fault
 use Rattle.tool_words.specs.Items.{word_at, verb_named, items_of}
-use Rattle.tool_words.specs.Rules.{has, is_flag, is_name, mode_of, number_at, verb_fault}
+use Rattle.tool_words.specs.Rules.{has, is_flag, is_name, mode_of, number_at, decimal_at, verb_fault}
 
 -- the place of an option
 abbrev pub place_of : Flag → List Item → Option ℕ
@@ -46,6 +49,13 @@ name_place items = option_map (λ i. i.at) (find (λ i. is_name i.role) items)
 abbrev pub first_name : List (List ℕ) → List Item → List ℕ
 first_name words items = option_map_or (λ at. word_at words at) (name_place items) []
 
+-- the number that the first name counts, and the second name
+abbrev pub count_of : List (List ℕ) → List Item → ℕ
+count_of words items = option_map_or (λ at. unwrap_or (decimal_at words at) 0) (name_place items) 0
+
+abbrev pub second_name : List (List ℕ) → List Item → List ℕ
+second_name words items = unwrap_or (slice_get (names_in words items) 1) []
+
 -- the banks of an option
 abbrev pub bank_at : List (List ℕ) → ℕ → Bank
 bank_at words at = record { base = unwrap_or (number_at words (at + 1)) 0; size = unwrap_or (number_at words (at + 2)) 0 }
@@ -55,6 +65,7 @@ banks_in words items f = map (λ i. bank_at words i.at) (filter (λ i. is_flag f
 
 abbrev pub image_of : Option Flag → List (List ℕ) → List Item → RunImage
 image_of (Some flag.Map) words items = image.Map (value_of words items flag.Map)
+image_of (Some flag.Burned) words items = image.Burned (value_of words items flag.Burned)
 image_of (Some flag.Elf) words items = image.Elf (value_of words items flag.Elf)
 image_of (Some flag.Aif) words items = image.Aif (value_of words items flag.Aif) (number_told words items At)
 image_of mode words items = image.Binary (value_of words items Bin) (number_of words items At 0)
@@ -66,7 +77,7 @@ placement_of (Some flag.Aif) words items = placement.Aif (number_of words items 
 placement_of mode words items = placement.Plain (number_of words items Base 0x8000)
 
 abbrev pub container_of : Option Flag → List Item → Container
-container_of (Some flag.Scatter) items = if has flag.Elf items then container.Elf else container.LoadFiles
+container_of (Some flag.Scatter) items = if has flag.Elf items then container.Elf (has flag.Symbols items) else container.LoadFiles
 container_of (Some flag.Aif) items = container.ImageFile
 container_of mode items = container.Binary
 
@@ -81,6 +92,18 @@ link_words mode words items = record {
   names = names_in words items;
   ram = ram_of words items;
 }
+
+abbrev pub report_words : Option Flag → List (List ℕ) → List Item → ReportWords
+report_words mode words items = record {
+  placement = placement_of mode words items;
+  names = names_in words items;
+  ram = ram_of words items;
+}
+
+-- as which text an image is burned
+abbrev pub form_of : Option Flag → BurnForm
+form_of (Some flag.IntelHex) = form.IntelHex
+form_of mode = form.SRecords
 
 abbrev pub library_command : Option Flag → List (List ℕ) → List Item → Command
 library_command (Some Create) words items = command.CreateLibrary (value_of words items Create) (names_in words items)
@@ -100,6 +123,9 @@ verb_command Run mode words items = command.Run (record {
 verb_command Link mode words items = command.Link (link_words mode words items)
 verb_command Build mode words items = command.Build (link_words mode words items)
 verb_command InterruptKit mode words items = command.InterruptKit (value_of words items Output) (number_of words items Acknowledge 0xF000000C)
+verb_command Burn mode words items = command.Burn (form_of mode) (value_of words items flag.Map) (value_of words items Output)
+verb_command Report mode words items = command.Report (report_words mode words items)
+verb_command MakeBig mode words items = command.MakeBig (count_of words items) (second_name words items)
 
 -- a place as it is told: counted from 1, and at most 2^32 - 1
 abbrev pub told : ℕ → ℕ
@@ -149,6 +175,7 @@ IsAddress (Some at) = at % 4 ≡ 0
 
 abbrev pub IsPlaced : RunImage → Type 0
 IsPlaced (image.Map file) = Unit {0}
+IsPlaced (image.Burned file) = Unit {0}
 IsPlaced (image.Elf file) = Unit {0}
 IsPlaced (image.Aif file at) = IsAddress at
 IsPlaced (image.Binary file at) = at % 4 ≡ 0
@@ -161,7 +188,7 @@ IsBased (placement.Aif base relocatable) = base % 4 ≡ 0
 -- what is written of an image that is placed so
 abbrev pub ComeTogether : LinkPlacement → Container → Type 0
 ComeTogether (placement.Scatter file) container.LoadFiles = Unit {0}
-ComeTogether (placement.Scatter file) container.Elf = Unit {0}
+ComeTogether (placement.Scatter file) (container.Elf symbols) = Unit {0}
 ComeTogether (placement.Plain base) container.Binary = Unit {0}
 ComeTogether (placement.Aif base relocatable) container.ImageFile = Unit {0}
 ComeTogether placed written = ⊥
@@ -176,9 +203,16 @@ pub record IsLinked (l : LinkWords) : Type 0 where
   pub named : 0 < length l.names
   pub ram : AreBanks l.ram
 
+pub record IsReported (r : ReportWords) : Type 0 where
+  pub based : IsBased r.placement
+  pub named : 0 < length r.names
+  pub ram : AreBanks r.ram
+
 abbrev pub IsGood : Command → Type 0
 IsGood (command.Run run) = IsPlaced run.image × AllByRecursion IsBank run.memory × AllByRecursion IsBank run.rom
 IsGood (command.Link link) = IsLinked link
 IsGood (command.Build link) = IsLinked link
 IsGood (command.InterruptKit output acknowledge) = acknowledge % 4 ≡ 0
+IsGood (command.Report report) = IsReported report
+IsGood (command.MakeBig count output) = (1 ≤ count) × (count ≤ 50000)
 IsGood other = Unit {0}

@@ -1,9 +1,9 @@
 -- The words behind a command, as items: names, and options with their values. This project's.
 use Rattle.std.specs.Prelude.{ℕ, zero, suc, ◌+◌, ◌-◌, ◌==◌, nat_lt, Bool, true, false, if◌then◌else◌, List, [], ◌∷◌, length, slice_get, unwrap_or, min, Option, Some, None, codes, bytes_eq}
 use Rattle.tool_words.specs.declared.items.Verb.{Verb}
-use Rattle.tool_words.specs.declared.items.Verb.TheVariants.{Assemble, Library, List as Listing, Run, Link, Build, InterruptKit}
+use Rattle.tool_words.specs.declared.items.Verb.TheVariants.{Assemble, Library, List as Listing, Run, Link, Build, InterruptKit, Burn, Report, MakeBig}
 use Rattle.tool_words.specs.declared.items.Flag.{Flag}
-use Rattle.tool_words.specs.declared.items.Flag.TheVariants.{Create, Table, Extract, Output, Map, Bin, At, Memory, Rom, Steps, Scatter, Aif, Reloc, Base, Ram, Elf, Acknowledge}
+use Rattle.tool_words.specs.declared.items.Flag.TheVariants.{Create, Table, Extract, Output, Map, Bin, At, Memory, Rom, Steps, Scatter, Aif, Reloc, Base, Ram, Elf, Acknowledge, IntelHex, SRecords, Burned, Symbols}
 use Rattle.tool_words.specs.declared.items.Role.{Role}
 use Rattle.tool_words.specs.declared.items.Role.TheVariants.{Name, Known, Unknown}
 use Rattle.tool_words.specs.declared.items.Item.{Item}
@@ -21,7 +21,10 @@ verb_named word =
     if bytes_eq word (codes "run") then Some Run else (
     if bytes_eq word (codes "link") then Some Link else (
     if bytes_eq word (codes "build") then Some Build else (
-    if bytes_eq word (codes "irqkit") then Some InterruptKit else None))))))
+    if bytes_eq word (codes "irqkit") then Some InterruptKit else (
+    if bytes_eq word (codes "burn") then Some Burn else (
+    if bytes_eq word (codes "report") then Some Report else (
+    if bytes_eq word (codes "make-big") then Some MakeBig else None)))))))))
 
 -- an option of the place and files of an image
 abbrev pub image_flag_named : List ℕ → Option Flag
@@ -31,7 +34,11 @@ image_flag_named word =
     if bytes_eq word (codes "-reloc") then Some Reloc else (
     if bytes_eq word (codes "-base") then Some Base else (
     if bytes_eq word (codes "-ram") then Some Ram else (
-    if bytes_eq word (codes "-elf") then Some Elf else None)))))
+    if bytes_eq word (codes "-elf") then Some Elf else (
+    if bytes_eq word (codes "-symbols") then Some Symbols else (
+    if bytes_eq word (codes "-ihex") then Some IntelHex else (
+    if bytes_eq word (codes "-srec") then Some SRecords else (
+    if bytes_eq word (codes "-burned") then Some Burned else None)))))))))
 
 -- the option of a spelling
 abbrev pub flag_named : List ℕ → Option Flag
@@ -48,17 +55,22 @@ flag_named word =
     if bytes_eq word (codes "-steps") then Some Steps else (
     if bytes_eq word (codes "-ack") then Some Acknowledge else image_flag_named word))))))))))
 
--- the options of making an image
+-- the options of where an image that is made stands, and of its memory
+abbrev pub is_placing_flag : Flag → Bool
+is_placing_flag Scatter = true
+is_placing_flag Aif = true
+is_placing_flag Bin = true
+is_placing_flag Reloc = true
+is_placing_flag Base = true
+is_placing_flag Ram = true
+is_placing_flag other = false
+
+-- and those of what is written of it
 abbrev pub is_image_flag : Flag → Bool
-is_image_flag Scatter = true
-is_image_flag Aif = true
-is_image_flag Bin = true
-is_image_flag Reloc = true
-is_image_flag Base = true
 is_image_flag Output = true
-is_image_flag Ram = true
 is_image_flag Elf = true
-is_image_flag other = false
+is_image_flag Symbols = true
+is_image_flag other = is_placing_flag other
 
 -- the options of a command
 abbrev pub has_flag : Verb → Flag → Bool
@@ -71,6 +83,7 @@ has_flag Library Output = true
 has_flag Library other = false
 has_flag Listing flag = false
 has_flag Run Map = true
+has_flag Run Burned = true
 has_flag Run Aif = true
 has_flag Run Elf = true
 has_flag Run Bin = true
@@ -84,6 +97,13 @@ has_flag Build flag = is_image_flag flag
 has_flag InterruptKit Output = true
 has_flag InterruptKit Acknowledge = true
 has_flag InterruptKit other = false
+has_flag Burn IntelHex = true
+has_flag Burn SRecords = true
+has_flag Burn Map = true
+has_flag Burn Output = true
+has_flag Burn other = false
+has_flag Report flag = is_placing_flag flag
+has_flag MakeBig flag = false
 
 -- an option of the command, or one that it hasn't
 abbrev pub flag_role : Verb → Option Flag → Role
@@ -112,6 +132,9 @@ value_count verb Aif = form_count verb
 value_count verb Bin = form_count verb
 value_count verb Elf = form_count verb
 value_count verb Reloc = 0
+value_count verb Symbols = 0
+value_count verb IntelHex = 0
+value_count verb SRecords = 0
 value_count verb other = 1
 
 -- how many values follow; none follow an option that the command hasn't

@@ -1,42 +1,43 @@
 -- What the place means that is told of words: rule by rule which word breaks it, and what may be missing. Places are
 -- counted from 0. This project's.
-use Rattle.std.specs.Prelude.{◌≡◌, ◌⊎◌, ℕ, ◌+◌, ◌<◌, ◌≤◌, Bool, true, false, List, ◌∷◌, ◌++◌, length, Option, Some, None, is_some, Ok, Err}
+use Rattle.std.specs.Prelude.{◌≡◌, ◌⊎◌, ℕ, ◌+◌, ◌<◌, ◌≤◌, true, false, List, ◌∷◌, ◌++◌, length, Option, Some, None, is_some, Ok, Err}
 use Rattle.tool_words.specs.declared.items.Verb.{Verb}
 use Rattle.tool_words.specs.declared.items.Flag.{Flag}
-use Rattle.tool_words.specs.declared.items.Flag.TheVariants.{Output, At, Reloc}
+use Rattle.tool_words.specs.declared.items.Flag.TheVariants.{Output, Map, At}
 use Rattle.tool_words.specs.declared.items.Role.{Role}
 use Rattle.tool_words.specs.declared.items.Role.TheVariants.{Name, Known, Unknown}
 use Rattle.tool_words.specs.declared.items.Item.{Item}
+use Rattle.tool_words.specs.declared.rules.Choice.{Choice}
 use Rattle.tool_words.specs.declared.command.Command.{Command}
 use Rattle.tool_words.specs.Items.{word_at, verb_named, value_count, items_of}
-use Rattle.tool_words.specs.Rules.{has, is_bank, bank_count, name_count, is_mode, mode_of, is_plain, first_is_good, second_is_good, is_allowed, most_names, stands, must_differ, needs_mode, needs_name, needs_output, needs_address}
+use Rattle.tool_words.specs.Rules.{has, is_bank, bank_count, name_count, is_mode, mode_of, choice_of, is_plain, must_count, decimal_at, is_count, first_is_good, second_is_good, is_allowed, most_names, stands, must_differ, needs_mode, least_names, needs_output, needs_map, needs_address}
 use Rattle.tool_words.specs.Commands.{told, command_of}
 
 -- ---- words that break a rule
 
--- why an option breaks one, at its word or at a value: with the command's mode, whether its image is to move, and the
--- items before it
-pub data OptionBreaks (verb : Verb) (words : List (List ℕ)) (mode : Option Flag) (moves : Bool) (before : List Item) (at : ℕ) (f : Flag) : ℕ → Type 0 where
-  excluded : is_allowed verb mode moves f ≡ false → OptionBreaks verb words mode moves before at f at
-  twice : is_bank f ≡ false → has f before ≡ true → OptionBreaks verb words mode moves before at f at
-  second_mode : is_mode verb f ≡ true → is_some (mode_of verb before) ≡ true → OptionBreaks verb words mode moves before at f at
-  too_many_banks : is_bank f ≡ true → 16 ≤ bank_count before → OptionBreaks verb words mode moves before at f at
+-- why an option breaks one, at its word or at a value: with what all items choose, and those before it
+pub data OptionBreaks (verb : Verb) (words : List (List ℕ)) (choice : Choice) (before : List Item) (at : ℕ) (f : Flag) : ℕ → Type 0 where
+  excluded : is_allowed verb choice f ≡ false → OptionBreaks verb words choice before at f at
+  twice : is_bank f ≡ false → has f before ≡ true → OptionBreaks verb words choice before at f at
+  second_mode : is_mode verb f ≡ true → is_some (mode_of verb before) ≡ true → OptionBreaks verb words choice before at f at
+  too_many_banks : is_bank f ≡ true → 16 ≤ bank_count before → OptionBreaks verb words choice before at f at
   bad_value : 1 ≤ value_count verb f → at + 1 < length words → first_is_good f words at ≡ false
-      → OptionBreaks verb words mode moves before at f (at + 1)
+      → OptionBreaks verb words choice before at f (at + 1)
   bad_size : 2 ≤ value_count verb f → at + 2 < length words → second_is_good words at ≡ false
-      → OptionBreaks verb words mode moves before at f (at + 2)
+      → OptionBreaks verb words choice before at f (at + 2)
 
 -- why a name does
 pub data NameBreaks (verb : Verb) (words : List (List ℕ)) (mode : Option Flag) (before : List Item) (at : ℕ) : Type 0 where
   zero_byte : is_plain (word_at words at) ≡ false → NameBreaks verb words mode before at
+  no_count : must_count verb before ≡ true → is_count (decimal_at words at) ≡ false → NameBreaks verb words mode before at
   too_many_names : (most : ℕ) → most_names verb mode ≡ Some most → most ≤ name_count before → NameBreaks verb words mode before at
   repeated : must_differ verb mode ≡ true → stands words before (word_at words at) ≡ true → NameBreaks verb words mode before at
 
 -- an option that the command hasn't always does
-abbrev pub RoleBreaks : Verb → List (List ℕ) → Option Flag → Bool → List Item → ℕ → Role → ℕ → Type 0
-RoleBreaks verb words mode moves before at Name place = (place ≡ at) × NameBreaks verb words mode before at
-RoleBreaks verb words mode moves before at (Known f) place = OptionBreaks verb words mode moves before at f place
-RoleBreaks verb words mode moves before at Unknown place = place ≡ at
+abbrev pub RoleBreaks : Verb → List (List ℕ) → Choice → List Item → ℕ → Role → ℕ → Type 0
+RoleBreaks verb words choice before at Name place = (place ≡ at) × NameBreaks verb words choice.mode before at
+RoleBreaks verb words choice before at (Known f) place = OptionBreaks verb words choice before at f place
+RoleBreaks verb words choice before at Unknown place = place ≡ at
 
 -- the word at a place breaks a rule: it is the word or a value of some item
 pub record BreaksRule (verb : Verb) (words : List (List ℕ)) (items : List Item) (place : ℕ) : Type 0 where
@@ -44,7 +45,7 @@ pub record BreaksRule (verb : Verb) (words : List (List ℕ)) (items : List Item
   pub item : Item
   pub after : List Item
   pub all : before ++ item ∷ after ≡ items
-  pub breaks : RoleBreaks verb words (mode_of verb items) (has Reloc items) before item.at item.role place
+  pub breaks : RoleBreaks verb words (choice_of verb items) before item.at item.role place
 
 -- ---- what is missing
 
@@ -52,8 +53,9 @@ pub data IsMissing (verb : Verb) (words : List (List ℕ)) (items : List Item) :
   value : (before : List Item) (item : Item) (after : List Item) (f : Flag) → before ++ item ∷ after ≡ items
       → item.role ≡ Known f → length words ≤ item.at + value_count verb f → IsMissing verb words items
   mode : needs_mode verb ≡ true → mode_of verb items ≡ None → IsMissing verb words items
-  name : needs_name verb (mode_of verb items) ≡ true → name_count items ≡ 0 → IsMissing verb words items
+  name : name_count items < least_names verb (mode_of verb items) → IsMissing verb words items
   output : needs_output verb (mode_of verb items) ≡ true → has Output items ≡ false → IsMissing verb words items
+  map : needs_map verb ≡ true → has Map items ≡ false → IsMissing verb words items
   address : needs_address verb (mode_of verb items) ≡ true → has At items ≡ false → IsMissing verb words items
 
 -- ---- the command's name too

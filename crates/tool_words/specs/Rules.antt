@@ -3,13 +3,14 @@
 use Rattle.std.specs.Prelude.{ℕ, ◌+◌, ◌%◌, ◌^◌, ◌==◌, nat_lt, nat_le, Bool, true, false, not, ◌&&◌, ◌||◌, if◌then◌else◌, List, [], ◌∷◌, ◌++◌, length, min, Option, Some, None, is_some, bytes_eq, count_by}
 use Rattle.std.specs.List.{list_any, list_all}
 use Rattle.tool_words.specs.declared.items.Verb.{Verb}
-use Rattle.tool_words.specs.declared.items.Verb.TheVariants.{Assemble, Library, List as Listing, Run, Link, Build, InterruptKit}
+use Rattle.tool_words.specs.declared.items.Verb.TheVariants.{Assemble, Library, List as Listing, Run, Link, Build, InterruptKit, Burn, Report, MakeBig}
 use Rattle.tool_words.specs.declared.items.Flag.{Flag}
-use Rattle.tool_words.specs.declared.items.Flag.TheVariants.{Create, Table, Extract, Output, Map, Bin, At, Memory, Rom, Steps, Scatter, Aif, Reloc, Base, Ram, Elf, Acknowledge}
+use Rattle.tool_words.specs.declared.items.Flag.TheVariants.{Create, Table, Extract, Output, Map, Bin, At, Memory, Rom, Steps, Scatter, Aif, Reloc, Base, Ram, Elf, Acknowledge, IntelHex, SRecords, Burned, Symbols}
 use Rattle.tool_words.specs.declared.items.Role.{Role}
 use Rattle.tool_words.specs.declared.items.Role.TheVariants.{Name, Known, Unknown}
 use Rattle.tool_words.specs.declared.items.Item.{Item}
-use Rattle.tool_words.specs.Numerals.{number}
+use Rattle.tool_words.specs.declared.rules.Choice.{Choice}
+use Rattle.tool_words.specs.Numerals.{numeral, number}
 use Rattle.tool_words.specs.Items.{word_at, value_count}
 
 -- ---- items of a kind
@@ -33,6 +34,10 @@ code Base = 13
 code Ram = 14
 code Elf = 15
 code Acknowledge = 16
+code IntelHex = 17
+code SRecords = 18
+code Burned = 19
+code Symbols = 20
 
 abbrev pub is_flag : Flag → Role → Bool
 is_flag flag Name = false
@@ -69,16 +74,19 @@ abbrev pub is_run : Verb → Bool
 is_run Run = true
 is_run other = false
 
--- options of which a command has one: what a library is wanted for, what is run, or where an image is placed, beside
--- which -elf of an image that is made says what is written
+-- options of which a command has one: what a library is wanted for, what is run, where an image is placed, beside
+-- which -elf of an image that is made says what is written, or as which text it is burned, beside which -map says what
 abbrev pub is_mode : Verb → Flag → Bool
 is_mode verb Create = true
 is_mode verb Table = true
 is_mode verb Extract = true
-is_mode verb Map = true
 is_mode verb Bin = true
 is_mode verb Scatter = true
 is_mode verb Aif = true
+is_mode verb IntelHex = true
+is_mode verb SRecords = true
+is_mode verb Burned = true
+is_mode verb Map = is_run verb
 is_mode verb Elf = is_run verb
 is_mode verb other = false
 
@@ -95,6 +103,11 @@ flag_or (Some flag) later = Some flag
 abbrev pub mode_of : Verb → List Item → Option Flag
 mode_of verb [] = None
 mode_of verb (i ∷ is) = flag_or (role_mode verb i.role) (mode_of verb is)
+
+-- what items choose together, on which it depends which options may stand: the mode, whether the image that is made is
+-- to move itself, and whether it is an ELF executable
+abbrev pub choice_of : Verb → List Item → Choice
+choice_of verb items = record { mode = mode_of verb items; moves = has Reloc items; executable = has Elf items }
 
 abbrev pub is_the_mode : Flag → Option Flag → Bool
 is_the_mode flag None = false
@@ -153,20 +166,24 @@ values_fault verb flag words at =
 
 -- ---- rules
 
--- an option that depends on another: -o of a library on -e, -at on -aif or -bin; of an image that is made, -reloc on
--- -aif, -elf on -scatter, none beside -scatter takes -base, and none beside -bin or -reloc takes -ram
-abbrev pub is_allowed : Verb → Option Flag → Bool → Flag → Bool
-is_allowed Library mode moves Output = is_the_mode Extract mode
-is_allowed Run mode moves At = is_the_mode Aif mode || is_the_mode Bin mode
-is_allowed Link mode moves Base = not (is_the_mode Scatter mode)
-is_allowed Build mode moves Base = not (is_the_mode Scatter mode)
-is_allowed Link mode moves Reloc = is_the_mode Aif mode
-is_allowed Build mode moves Reloc = is_the_mode Aif mode
-is_allowed Link mode moves Elf = is_the_mode Scatter mode
-is_allowed Build mode moves Elf = is_the_mode Scatter mode
-is_allowed Link mode moves Ram = not (is_the_mode Bin mode || moves)
-is_allowed Build mode moves Ram = not (is_the_mode Bin mode || moves)
-is_allowed verb mode moves flag = true
+-- an option of an image that is made and depends on another: -reloc on -aif, -elf on -scatter, -symbols on -elf; none
+-- beside -scatter takes -base, and none beside -bin or -reloc takes -ram
+abbrev pub is_image_allowed : Choice → Flag → Bool
+is_image_allowed choice Base = not (is_the_mode Scatter choice.mode)
+is_image_allowed choice Reloc = is_the_mode Aif choice.mode
+is_image_allowed choice Elf = is_the_mode Scatter choice.mode
+is_image_allowed choice Symbols = choice.executable
+is_image_allowed choice Ram = not (is_the_mode Bin choice.mode || choice.moves)
+is_image_allowed choice flag = true
+
+-- and beside these -o of a library on -e, and -at on -aif or -bin
+abbrev pub is_allowed : Verb → Choice → Flag → Bool
+is_allowed Library choice Output = is_the_mode Extract choice.mode
+is_allowed Run choice At = is_the_mode Aif choice.mode || is_the_mode Bin choice.mode
+is_allowed Link choice flag = is_image_allowed choice flag
+is_allowed Build choice flag = is_image_allowed choice flag
+is_allowed Report choice flag = is_image_allowed choice flag
+is_allowed verb choice flag = true
 
 -- an option stands once, or sixteen times if it is of banks, and beside no other of which there is one
 abbrev pub is_surplus : Verb → List Item → Flag → Bool
@@ -186,23 +203,44 @@ most_names Run mode = Some 0
 most_names Link mode = None
 most_names Build mode = None
 most_names InterruptKit mode = Some 0
+most_names Burn mode = Some 0
+most_names Report mode = None
+most_names MakeBig mode = Some 2
 
 abbrev pub is_below : ℕ → Option ℕ → Bool
 is_below n None = true
 is_below n (Some most) = nat_lt n most
 
--- an item, with all items and those before it
-abbrev pub role_fault : Verb → List (List ℕ) → Option Flag → Bool → List Item → ℕ → Role → Option ℕ
-role_fault verb words mode moves before at Name =
-    if is_plain (word_at words at) && is_below (name_count before) (most_names verb mode) then None else Some at
-role_fault verb words mode moves before at Unknown = Some at
-role_fault verb words mode moves before at (Known flag) =
-    if is_allowed verb mode moves flag && not (is_surplus verb before flag) then values_fault verb flag words at else Some at
+-- the first name of make-big counts: decimal digits alone, and a number from 1 to 50,000
+abbrev pub must_count : Verb → List Item → Bool
+must_count MakeBig before = name_count before == 0
+must_count other before = false
 
-abbrev pub items_fault : Verb → List (List ℕ) → Option Flag → Bool → List Item → List Item → Option ℕ
-items_fault verb words mode moves before [] = None
-items_fault verb words mode moves before (i ∷ is) =
-    or_else (role_fault verb words mode moves before i.at i.role) (items_fault verb words mode moves (before ++ i ∷ []) is)
+abbrev pub decimal_at : List (List ℕ) → ℕ → Option ℕ
+decimal_at words at = numeral 10 (word_at words at)
+
+abbrev pub is_count : Option ℕ → Bool
+is_count None = false
+is_count (Some n) = nat_le 1 n && nat_le n 50000
+
+abbrev pub is_met : Bool → Bool → Bool
+is_met needed there = not needed || there
+
+abbrev pub name_is_good : Verb → List (List ℕ) → List Item → ℕ → Bool
+name_is_good verb words before at = is_plain (word_at words at) && is_met (must_count verb before) (is_count (decimal_at words at))
+
+-- an item, with what all items choose and those before it
+abbrev pub role_fault : Verb → List (List ℕ) → Choice → List Item → ℕ → Role → Option ℕ
+role_fault verb words choice before at Name =
+    if name_is_good verb words before at && is_below (name_count before) (most_names verb choice.mode) then None else Some at
+role_fault verb words choice before at Unknown = Some at
+role_fault verb words choice before at (Known flag) =
+    if is_allowed verb choice flag && not (is_surplus verb before flag) then values_fault verb flag words at else Some at
+
+abbrev pub items_fault : Verb → List (List ℕ) → Choice → List Item → List Item → Option ℕ
+items_fault verb words choice before [] = None
+items_fault verb words choice before (i ∷ is) =
+    or_else (role_fault verb words choice before i.at i.role) (items_fault verb words choice (before ++ i ∷ []) is)
 
 -- ---- names that differ
 
@@ -231,13 +269,17 @@ abbrev pub needs_mode : Verb → Bool
 needs_mode Assemble = false
 needs_mode Listing = false
 needs_mode InterruptKit = false
+needs_mode MakeBig = false
 needs_mode other = true
 
-abbrev pub needs_name : Verb → Option Flag → Bool
-needs_name Library (Some Table) = false
-needs_name Run mode = false
-needs_name InterruptKit mode = false
-needs_name verb mode = true
+-- the least number of names
+abbrev pub least_names : Verb → Option Flag → ℕ
+least_names Library (Some Table) = 0
+least_names Run mode = 0
+least_names InterruptKit mode = 0
+least_names Burn mode = 0
+least_names MakeBig mode = 2
+least_names verb mode = 1
 
 -- -o
 abbrev pub needs_output : Verb → Option Flag → Bool
@@ -248,21 +290,27 @@ needs_output Run mode = false
 needs_output Link mode = true
 needs_output Build mode = true
 needs_output InterruptKit mode = true
+needs_output Burn mode = true
+needs_output Report mode = false
+needs_output MakeBig mode = false
+
+-- -map
+abbrev pub needs_map : Verb → Bool
+needs_map Burn = true
+needs_map other = false
 
 -- -at
 abbrev pub needs_address : Verb → Option Flag → Bool
 needs_address Run mode = is_the_mode Bin mode
 needs_address other mode = false
 
-abbrev pub is_met : Bool → Bool → Bool
-is_met needed there = not needed || there
-
 abbrev pub is_complete : Verb → Option Flag → List Item → Bool
 is_complete verb mode items =
     is_met (needs_mode verb) (is_some mode)
-    && (is_met (needs_name verb mode) (nat_lt 0 (name_count items))
+    && (nat_le (least_names verb mode) (name_count items)
     && (is_met (needs_output verb mode) (has Output items)
-    && is_met (needs_address verb mode) (has At items)))
+    && (is_met (needs_map verb) (has Map items)
+    && is_met (needs_address verb mode) (has At items))))
 
 abbrev pub lesser : Option ℕ → Option ℕ → Option ℕ
 lesser None o = o
@@ -272,6 +320,6 @@ lesser (Some a) (Some b) = Some (min a b)
 -- the first word that breaks a rule behind a command, or the place of what is missing
 abbrev pub verb_fault : Verb → List (List ℕ) → List Item → Option ℕ
 verb_fault verb words items =
-    let mode = mode_of verb items in
-    or_else (lesser (items_fault verb words mode (has Reloc items) [] items) (names_fault verb mode words items))
-    (if is_complete verb mode items then None else Some (length words))
+    let choice = choice_of verb items in
+    or_else (lesser (items_fault verb words choice [] items) (names_fault verb choice.mode words items))
+    (if is_complete verb choice.mode items then None else Some (length words))

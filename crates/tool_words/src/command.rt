@@ -7,7 +7,9 @@ ghost use Rattle.tool_words.specs.Commands as commands;
 
 use crate::items::{Flag, Item, Verb, items_of, verb_named};
 use crate::names::names_fault;
-use crate::rules::{has, is_complete, is_flag, is_name, items_fault, mode_of, number_at};
+use crate::rules::{
+    choice_of, decimal_at, has, is_complete, is_flag, is_name, items_fault, mode_of, number_at,
+};
 use sdt_fault::{List, NoMemory, Text};
 use std::alloc::{AllocError, AllocFailed, Global};
 
@@ -23,6 +25,8 @@ pub struct Bank {
 pub enum RunImage {
     /// In the load files of this map.
     Map { file: Text },
+    /// In this text of Intel HEX or S-records, which tells its addresses and where it is entered.
+    Burned { file: Text },
     /// In this ELF executable, which is loaded and entered at its own addresses.
     Elf { file: Text },
     /// In this ARM image file, which is loaded at an address or, with none, at its own, and entered there.
@@ -58,8 +62,8 @@ pub enum LinkPlacement {
 pub enum Container {
     /// A file for each load region, and a map.
     LoadFiles,
-    /// One ELF executable.
-    Elf,
+    /// One ELF executable, with its symbols or without.
+    Elf { symbols: bool },
     /// The bytes alone.
     Binary,
     /// An ARM image file.
@@ -76,6 +80,24 @@ pub struct LinkWords {
     pub output: Text,
     pub names: List<Text>,
     pub ram: Option<List<Bank>>,
+}
+
+/// What to report of: where the image is placed, one name or more of objects, libraries or sources, and the banks of
+/// memory that the image may use, where any is told (16 at most).
+#[derive(Debug, Drop)]
+pub struct ReportWords {
+    pub placement: LinkPlacement,
+    pub names: List<Text>,
+    pub ram: Option<List<Bank>>,
+}
+
+/// As which text an image is burned.
+#[derive(Clone, Copy, PartialEq, Eq, Debug)]
+pub enum BurnForm {
+    /// Intel HEX.
+    IntelHex,
+    /// Motorola S-records.
+    SRecords,
 }
 
 #[derive(Debug, Drop)]
@@ -115,6 +137,19 @@ pub enum Command {
         output: Text,
         acknowledge: u32,
     },
+    /// Writes the load files of a map as one text, from which an image is burned into memory.
+    Burn {
+        form: BurnForm,
+        map: Text,
+        output: Text,
+    },
+    /// Links, or builds where names are of sources, and prints what the image is made of.
+    Report(ReportWords),
+    /// Writes a source of so many instructions and so many words of data (1 to 50,000), and runs what is built of it.
+    MakeBig {
+        count: u32,
+        output: Text,
+    },
 }
 
 /// Why words ask for nothing.
@@ -140,8 +175,8 @@ impl From<NoMemory> for WordsFault {
 pub fn read_words(alloc: Global, words: &[String]) -> Result<Command, WordsFault>
     ensures exact { commands.Reads result (commands.command_of (map string_bytes words.now)) }
     // Banks are whole words that end at 2^32 or below, the addresses of images and of the acknowledgement are
-    // multiples of 4, who links has names, and a placement comes with its containers alone: a scatter file's with load
-    // files or an ELF executable, each other one with its own.
+    // multiples of 4, who links or reports has names, a placement comes with its containers alone (a scatter file's with
+    // load files or an ELF executable, each other one with its own), and the count of a source that is made is 1 to 50,000.
     ensures good { IfOk result (λ command. commands.IsGood command) }
 {
     match verb_named(first_word(words)) {
@@ -187,14 +222,13 @@ fn verb_fault(
     requires { All (λ i. i.at < length words.now) items.now }
     ensures { IfOk result (λ place. place ≡ rules.verb_fault verb (map string_bytes words.now) items.now) }
 {
-    let mode = mode_of(verb, items);
-    let moves = has(Flag::Reloc, items);
-    let repeated = names_fault(alloc, verb, mode, words, items)?;
-    let place = lesser(items_fault(verb, words, mode, moves, items), repeated);
+    let choice = choice_of(verb, items);
+    let repeated = names_fault(alloc, verb, choice.mode, words, items)?;
+    let place = lesser(items_fault(verb, words, choice, items), repeated);
     if place.is_some() {
         return Ok(place);
     }
-    if is_complete(verb, mode, items) {
+    if is_complete(verb, choice.mode, items) {
         return Ok(None);
     }
     Ok(Some(words.len()))
@@ -342,6 +376,10 @@ fn image_of(
         let file = value_of(alloc, words, items, Flag::Map)?;
         return Ok(RunImage::Map { file });
     }
+    if let Some(Flag::Burned) = mode {
+        let file = value_of(alloc, words, items, Flag::Burned)?;
+        return Ok(RunImage::Burned { file });
+    }
     if let Some(Flag::Elf) = mode {
         let file = value_of(alloc, words, items, Flag::Elf)?;
         return Ok(RunImage::Elf { file });
@@ -383,7 +421,8 @@ fn container_of(mode: Option<Flag>, items: &[Item]) -> Container
     match mode {
         Some(Flag::Scatter) => {
             if has(Flag::Elf, items) {
-                return Container::Elf;
+                let symbols = has(Flag::Symbols, items);
+                return Container::Elf { symbols };
             }
             Container::LoadFiles
         }
@@ -403,6 +442,25 @@ fn ram_of(alloc: Global, words: &[String], items: &[Item]) -> Result<Option<List
     Ok(Some(banks))
 }
 
+fn report_words(
+    alloc: Global,
+    mode: Option<Flag>,
+    words: &[String],
+    items: &[Item],
+) -> Result<ReportWords, NoMemory>
+    requires { All (λ i. i.at < length words.now) items.now }
+    ensures { IfOk result (λ report. report ≡ commands.report_words mode (map string_bytes words.now) items.now) }
+{
+    let placement = placement_of(alloc, mode, words, items)?;
+    let names = names_in(alloc, words, items)?;
+    let ram = ram_of(alloc, words, items)?;
+    Ok(ReportWords {
+        placement,
+        names,
+        ram,
+    })
+}
+
 fn link_words(
     alloc: Global,
     mode: Option<Flag>,
@@ -412,11 +470,13 @@ fn link_words(
     requires { All (λ i. i.at < length words.now) items.now }
     ensures { IfOk result (λ link. link ≡ commands.link_words mode (map string_bytes words.now) items.now) }
 {
-    let placement = placement_of(alloc, mode, words, items)?;
+    let ReportWords {
+        placement,
+        names,
+        ram,
+    } = report_words(alloc, mode, words, items)?;
     let container = container_of(mode, items);
     let output = value_of(alloc, words, items, Flag::Output)?;
-    let names = names_in(alloc, words, items)?;
-    let ram = ram_of(alloc, words, items)?;
     Ok(LinkWords {
         placement,
         container,
@@ -479,7 +539,73 @@ fn run_words(
     }))
 }
 
-ghost use Rattle.tool_words.specs.declared.items.Verb.TheVariants.{Run};
+ghost use Rattle.tool_words.specs.declared.items.Verb.TheVariants.{Run, InterruptKit, Burn, MakeBig};
+
+fn kit_command(alloc: Global, words: &[String], items: &[Item]) -> Result<Command, NoMemory>
+    requires { All (λ i. i.at < length words.now) items.now }
+    ensures { IfOk result (λ command. command ≡ commands.verb_command InterruptKit None (map string_bytes words.now) items.now) }
+{
+    let output = value_of(alloc, words, items, Flag::Output)?;
+    let acknowledge = number_of(words, items, Flag::Acknowledge, 0xF000_000C);
+    Ok(Command::InterruptKit {
+        output,
+        acknowledge,
+    })
+}
+
+ghost use Rattle.std.specs.Prelude.{None};
+
+fn form_of(mode: Option<Flag>) -> BurnForm
+    ensures { result ≡ commands.form_of mode }
+{
+    match mode {
+        Some(Flag::IntelHex) => BurnForm::IntelHex,
+        _ => BurnForm::SRecords,
+    }
+}
+
+fn burn_command(
+    alloc: Global,
+    mode: Option<Flag>,
+    words: &[String],
+    items: &[Item],
+) -> Result<Command, NoMemory>
+    requires { All (λ i. i.at < length words.now) items.now }
+    ensures { IfOk result (λ command. command ≡ commands.verb_command Burn mode (map string_bytes words.now) items.now) }
+{
+    let form = form_of(mode);
+    let map = value_of(alloc, words, items, Flag::Map)?;
+    let output = value_of(alloc, words, items, Flag::Output)?;
+    Ok(Command::Burn { form, map, output })
+}
+
+/// The number that the first name writes; 0 where it writes none.
+fn count_of(words: &[String], items: &[Item]) -> u32
+    ensures { result ≡ commands.count_of (map string_bytes words.now) items.now }
+{
+    match name_place(items) {
+        None => 0,
+        Some(at) => decimal_at(words, at).unwrap_or(0),
+    }
+}
+
+fn second_name(alloc: Global, words: &[String], items: &[Item]) -> Result<Text, NoMemory>
+    ensures { IfOk result (λ text. text ≡ commands.second_name (map string_bytes words.now) items.now) }
+{
+    let names = names_in(alloc, words, items)?;
+    match names.as_slice().get(1) {
+        None => Text::from_slice(alloc, b""),
+        Some(name) => Text::from_slice(alloc, name.as_slice()),
+    }
+}
+
+fn big_command(alloc: Global, words: &[String], items: &[Item]) -> Result<Command, NoMemory>
+    ensures { IfOk result (λ command. command ≡ commands.verb_command MakeBig None (map string_bytes words.now) items.now) }
+{
+    let count = count_of(words, items);
+    let output = second_name(alloc, words, items)?;
+    Ok(Command::MakeBig { count, output })
+}
 
 fn verb_command(
     alloc: Global,
@@ -511,13 +637,12 @@ fn verb_command(
             let link = link_words(alloc, mode, words, items)?;
             Ok(Command::Build(link))
         }
-        Verb::InterruptKit => {
-            let output = value_of(alloc, words, items, Flag::Output)?;
-            let acknowledge = number_of(words, items, Flag::Acknowledge, 0xF000_000C);
-            Ok(Command::InterruptKit {
-                output,
-                acknowledge,
-            })
+        Verb::InterruptKit => kit_command(alloc, words, items),
+        Verb::Burn => burn_command(alloc, mode, words, items),
+        Verb::Report => {
+            let report = report_words(alloc, mode, words, items)?;
+            Ok(Command::Report(report))
         }
+        Verb::MakeBig => big_command(alloc, words, items),
     }
 }

@@ -23,6 +23,12 @@ pub enum Verb {
     Build,
     /// `irqkit`
     InterruptKit,
+    /// `burn`
+    Burn,
+    /// `report`
+    Report,
+    /// `make-big`
+    MakeBig,
 }
 
 /// An option of some command.
@@ -62,6 +68,14 @@ pub enum Flag {
     Elf,
     /// `-ack`
     Acknowledge,
+    /// `-ihex`
+    IntelHex,
+    /// `-srec`
+    SRecords,
+    /// `-burned`
+    Burned,
+    /// `-symbols`
+    Symbols,
 }
 
 /// What a word is to a command.
@@ -114,6 +128,15 @@ pub fn verb_named(word: &[u8]) -> Option<Verb>
     }
     if is(word, b"irqkit") {
         return Some(Verb::InterruptKit);
+    }
+    if is(word, b"burn") {
+        return Some(Verb::Burn);
+    }
+    if is(word, b"report") {
+        return Some(Verb::Report);
+    }
+    if is(word, b"make-big") {
+        return Some(Verb::MakeBig);
     }
     None
 }
@@ -179,6 +202,18 @@ fn image_flag_named(word: &[u8]) -> Option<Flag>
     if is(word, b"-elf") {
         return Some(Flag::Elf);
     }
+    if is(word, b"-symbols") {
+        return Some(Flag::Symbols);
+    }
+    if is(word, b"-ihex") {
+        return Some(Flag::IntelHex);
+    }
+    if is(word, b"-srec") {
+        return Some(Flag::SRecords);
+    }
+    if is(word, b"-burned") {
+        return Some(Flag::Burned);
+    }
     None
 }
 
@@ -195,6 +230,7 @@ fn has_flag(verb: Verb, flag: Flag) -> bool
         Verb::Run => matches!(
             flag,
             Flag::Map
+                | Flag::Burned
                 | Flag::Elf
                 | Flag::Aif
                 | Flag::Bin
@@ -206,23 +242,29 @@ fn has_flag(verb: Verb, flag: Flag) -> bool
         Verb::Link => is_image_flag(flag),
         Verb::Build => is_image_flag(flag),
         Verb::InterruptKit => matches!(flag, Flag::Output | Flag::Acknowledge),
+        Verb::Burn => matches!(
+            flag,
+            Flag::IntelHex | Flag::SRecords | Flag::Map | Flag::Output
+        ),
+        Verb::Report => is_placing_flag(flag),
+        Verb::MakeBig => false,
     }
+}
+
+/// An option of where an image that is made stands, and of its memory.
+fn is_placing_flag(flag: Flag) -> bool
+    ensures { result ≡ items.is_placing_flag flag }
+{
+    matches!(
+        flag,
+        Flag::Scatter | Flag::Aif | Flag::Bin | Flag::Reloc | Flag::Base | Flag::Ram
+    )
 }
 
 fn is_image_flag(flag: Flag) -> bool
     ensures { result ≡ items.is_image_flag flag }
 {
-    matches!(
-        flag,
-        Flag::Scatter
-            | Flag::Aif
-            | Flag::Bin
-            | Flag::Reloc
-            | Flag::Base
-            | Flag::Output
-            | Flag::Ram
-            | Flag::Elf
-    )
+    is_placing_flag(flag) || matches!(flag, Flag::Output | Flag::Elf | Flag::Symbols)
 }
 
 fn role_of(verb: Verb, word: &[u8]) -> Role
@@ -269,6 +311,9 @@ pub fn value_count(verb: Verb, flag: Flag) -> usize
         Flag::Bin => form_count(verb),
         Flag::Elf => form_count(verb),
         Flag::Reloc => 0,
+        Flag::Symbols => 0,
+        Flag::IntelHex => 0,
+        Flag::SRecords => 0,
         _ => 1,
     }
 }

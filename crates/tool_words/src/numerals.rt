@@ -29,12 +29,19 @@ fn numeral(base: u32, digits: &str) -> Option<u32>
     }
 }
 
+/// The number that a word writes in decimal digits alone.
+pub fn decimal(word: &str) -> Option<u32>
+    ensures { result ≡ numerals.numeral 10 word.now }
+{
+    numeral(10, word)
+}
+
 /// The number that a word writes: decimal digits, or `0x` and hexadecimal digits in either case.
 pub fn number(word: &str) -> Option<u32>
     ensures { result ≡ numerals.number word.now }
 {
     match word.strip_prefix("0x") {
         Some(digits) => numeral(16, digits),
-        None => numeral(10, word),
+        None => decimal(word),
     }
 }

@@ -6,7 +6,7 @@ ghost use Rattle.tool_words.specs.Items as items;
 ghost use Rattle.tool_words.specs.Rules as rules;
 
 use crate::items::{Flag, Item, Role, Verb, value_count};
-use crate::numerals::number;
+use crate::numerals::{decimal, number};
 
 fn code(flag: Flag) -> u8
     ensures { result ≡ rules.code flag }
@@ -69,20 +69,29 @@ fn bank_count(items: &[Item]) -> usize
     items.iter().filter(|item| is_bank_role(item.role)).count()
 }
 
+fn is_run(verb: Verb) -> bool
+    ensures { result ≡ rules.is_run verb }
+{
+    matches!(verb, Verb::Run)
+}
+
 fn is_mode(verb: Verb, flag: Flag) -> bool
     ensures { result ≡ rules.is_mode verb flag }
 {
-    match (verb, flag) {
-        (Verb::Run, Flag::Elf) => true,
-        (_, flag) => matches!(
+    match flag {
+        Flag::Map => is_run(verb),
+        Flag::Elf => is_run(verb),
+        _ => matches!(
             flag,
             Flag::Create
                 | Flag::Table
                 | Flag::Extract
-                | Flag::Map
                 | Flag::Bin
                 | Flag::Scatter
                 | Flag::Aif
+                | Flag::IntelHex
+                | Flag::SRecords
+                | Flag::Burned
         ),
     }
 }
@@ -102,7 +111,8 @@ fn role_mode(verb: Verb, role: Role) -> Option<Flag>
     }
 }
 
-/// What a library is wanted for, what is run, or where an image is placed: the first option of which there is one.
+/// What a library is wanted for, what is run, where an image is placed, or in which form it is burned: the first option
+/// of which there is one.
 pub fn mode_of(verb: Verb, items: &[Item]) -> Option<Flag>
     ensures { result ≡ rules.mode_of verb items.now }
 {
@@ -113,6 +123,27 @@ pub fn mode_of(verb: Verb, items: &[Item]) -> Option<Flag>
         }
     }
     None
+}
+
+/// What a command's options choose together, on which it depends which options may stand beside them.
+#[derive(Clone, Copy, PartialEq, Eq, Debug)]
+pub struct Choice {
+    pub mode: Option<Flag>,
+    /// Whether the image that is made is to move itself (`-reloc`).
+    pub moves: bool,
+    /// Whether the image that is made is an ELF executable (`-elf`).
+    pub executable: bool,
+}
+
+/// What the items choose.
+pub fn choice_of(verb: Verb, items: &[Item]) -> Choice
+    ensures { result ≡ rules.choice_of verb items.now }
+{
+    Choice {
+        mode: mode_of(verb, items),
+        moves: has(Flag::Reloc, items),
+        executable: has(Flag::Elf, items),
+    }
 }
 
 fn is_the_mode(flag: Flag, mode: Option<Flag>) -> bool
@@ -238,20 +269,31 @@ fn values_fault(verb: Verb, flag: Flag, words: &[String], at: usize) -> Option<u
 
 ghost use Rattle.std.specs.Prelude.{if◌then◌else◌, None};
 
-fn is_allowed(verb: Verb, mode: Option<Flag>, moves: bool, flag: Flag) -> bool
-    ensures { result ≡ rules.is_allowed verb mode moves flag }
+/// Of the options of making an image.
+fn is_image_allowed(choice: Choice, flag: Flag) -> bool
+    ensures { result ≡ rules.is_image_allowed choice flag }
+{
+    match flag {
+        Flag::Base => !is_the_mode(Flag::Scatter, choice.mode),
+        Flag::Reloc => is_the_mode(Flag::Aif, choice.mode),
+        Flag::Elf => is_the_mode(Flag::Scatter, choice.mode),
+        Flag::Symbols => choice.executable,
+        Flag::Ram => !(is_the_mode(Flag::Bin, choice.mode) || choice.moves),
+        _ => true,
+    }
+}
+
+fn is_allowed(verb: Verb, choice: Choice, flag: Flag) -> bool
+    ensures { result ≡ rules.is_allowed verb choice flag }
 {
     match (verb, flag) {
-        (Verb::Library, Flag::Output) => is_the_mode(Flag::Extract, mode),
-        (Verb::Run, Flag::At) => is_the_mode(Flag::Aif, mode) || is_the_mode(Flag::Bin, mode),
-        (Verb::Link, Flag::Base) => !is_the_mode(Flag::Scatter, mode),
-        (Verb::Build, Flag::Base) => !is_the_mode(Flag::Scatter, mode),
-        (Verb::Link, Flag::Reloc) => is_the_mode(Flag::Aif, mode),
-        (Verb::Build, Flag::Reloc) => is_the_mode(Flag::Aif, mode),
-        (Verb::Link, Flag::Elf) => is_the_mode(Flag::Scatter, mode),
-        (Verb::Build, Flag::Elf) => is_the_mode(Flag::Scatter, mode),
-        (Verb::Link, Flag::Ram) => !(is_the_mode(Flag::Bin, mode) || moves),
-        (Verb::Build, Flag::Ram) => !(is_the_mode(Flag::Bin, mode) || moves),
+        (Verb::Library, Flag::Output) => is_the_mode(Flag::Extract, choice.mode),
+        (Verb::Run, Flag::At) => {
+            is_the_mode(Flag::Aif, choice.mode) || is_the_mode(Flag::Bin, choice.mode)
+        }
+        (Verb::Link, flag) => is_image_allowed(choice, flag),
+        (Verb::Build, flag) => is_image_allowed(choice, flag),
+        (Verb::Report, flag) => is_image_allowed(choice, flag),
         (_, _) => true,
     }
 }
@@ -278,6 +320,9 @@ fn most_names(verb: Verb, mode: Option<Flag>) -> Option<usize>
         (Verb::Link, _) => None,
         (Verb::Build, _) => None,
         (Verb::InterruptKit, _) => Some(0),
+        (Verb::Burn, _) => Some(0),
+        (Verb::Report, _) => None,
+        (Verb::MakeBig, _) => Some(2),
     }
 }
 
@@ -290,27 +335,61 @@ fn may_follow(before: &[Item], most: Option<usize>) -> bool
     }
 }
 
+/// The number that the word at a place writes in decimal digits alone.
+pub fn decimal_at(words: &[String], at: usize) -> Option<u32>
+    ensures { result ≡ rules.decimal_at (map string_bytes words.now) at }
+{
+    match words.get(at) {
+        None => None,
+        Some(word) => decimal(word.as_str()),
+    }
+}
+
+fn is_count(number: Option<u32>) -> bool
+    ensures { result ≡ rules.is_count number }
+{
+    match number {
+        None => false,
+        Some(n) => 1 <= n && n <= 50_000,
+    }
+}
+
+fn must_count(verb: Verb, before: &[Item]) -> bool
+    ensures { result ≡ rules.must_count verb before.now }
+{
+    match verb {
+        Verb::MakeBig => name_count(before) == 0,
+        _ => false,
+    }
+}
+
+fn name_is_good(verb: Verb, words: &[String], before: &[Item], at: usize) -> bool
+    ensures { result ≡ rules.name_is_good verb (map string_bytes words.now) before.now at }
+{
+    plain_at(words, at) && is_met(must_count(verb, before), is_count(decimal_at(words, at)))
+}
+
 fn item_fault(
     verb: Verb,
     words: &[String],
-    mode: Option<Flag>,
-    moves: bool,
+    choice: Choice,
     before: &[Item],
     item: Item,
 ) -> Option<usize>
     requires { item.at < length words.now }
-    ensures { result ≡ rules.role_fault verb (map string_bytes words.now) mode moves before.now item.at item.role }
+    ensures { result ≡ rules.role_fault verb (map string_bytes words.now) choice before.now item.at item.role }
 {
     match item.role {
         Role::Name => {
-            if plain_at(words, item.at) && may_follow(before, most_names(verb, mode)) {
+            let may_stand = may_follow(before, most_names(verb, choice.mode));
+            if name_is_good(verb, words, before, item.at) && may_stand {
                 return None;
             }
             Some(item.at)
         }
         Role::Unknown => Some(item.at),
         Role::Known(flag) => {
-            if is_allowed(verb, mode, moves, flag) && !is_surplus(verb, before, flag) {
+            if is_allowed(verb, choice, flag) && !is_surplus(verb, before, flag) {
                 return values_fault(verb, flag, words, item.at);
             }
             Some(item.at)
@@ -318,19 +397,13 @@ fn item_fault(
     }
 }
 
-/// The first word of the items that breaks a rule, with the command's mode and whether its image is to move.
-pub fn items_fault(
-    verb: Verb,
-    words: &[String],
-    mode: Option<Flag>,
-    moves: bool,
-    items: &[Item],
-) -> Option<usize>
+/// The first word of the items that breaks a rule, with what they choose together.
+pub fn items_fault(verb: Verb, words: &[String], choice: Choice, items: &[Item]) -> Option<usize>
     requires { All (λ i. i.at < length words.now) items.now }
-    ensures { result ≡ rules.items_fault verb (map string_bytes words.now) mode moves [] items.now }
+    ensures { result ≡ rules.items_fault verb (map string_bytes words.now) choice [] items.now }
 {
     for (k, item) in items.iter().enumerate() {
-        let fault = item_fault(verb, words, mode, moves, &items[..k], *item);
+        let fault = item_fault(verb, words, choice, &items[..k], *item);
         if fault.is_some() {
             return fault;
         }
@@ -340,28 +413,33 @@ pub fn items_fault(
 
 ghost use Rattle.std.specs.Prelude.{[]};
 
-fn has_name(items: &[Item]) -> bool
-    ensures { result ≡ nat_lt 0 (rules.name_count items.now) }
+fn has_names(least: usize, items: &[Item]) -> bool
+    ensures { result ≡ nat_le least (rules.name_count items.now) }
 {
-    name_count(items) > 0
+    least <= name_count(items)
 }
 
-ghost use Rattle.std.specs.Prelude.{nat_lt};
+ghost use Rattle.std.specs.Prelude.{nat_le};
 
 fn needs_mode(verb: Verb) -> bool
     ensures { result ≡ rules.needs_mode verb }
 {
-    !matches!(verb, Verb::Assemble | Verb::List | Verb::InterruptKit)
+    !matches!(
+        verb,
+        Verb::Assemble | Verb::List | Verb::InterruptKit | Verb::MakeBig
+    )
 }
 
-fn needs_name(verb: Verb, mode: Option<Flag>) -> bool
-    ensures { result ≡ rules.needs_name verb mode }
+fn least_names(verb: Verb, mode: Option<Flag>) -> usize
+    ensures { result ≡ rules.least_names verb mode }
 {
     match (verb, mode) {
-        (Verb::Library, Some(Flag::Table)) => false,
-        (Verb::Run, _) => false,
-        (Verb::InterruptKit, _) => false,
-        (_, _) => true,
+        (Verb::Library, Some(Flag::Table)) => 0,
+        (Verb::Run, _) => 0,
+        (Verb::InterruptKit, _) => 0,
+        (Verb::Burn, _) => 0,
+        (Verb::MakeBig, _) => 2,
+        (_, _) => 1,
     }
 }
 
@@ -376,7 +454,16 @@ fn needs_output(verb: Verb, mode: Option<Flag>) -> bool
         Verb::Link => true,
         Verb::Build => true,
         Verb::InterruptKit => true,
+        Verb::Burn => true,
+        Verb::Report => false,
+        Verb::MakeBig => false,
     }
+}
+
+fn needs_map(verb: Verb) -> bool
+    ensures { result ≡ rules.needs_map verb }
+{
+    matches!(verb, Verb::Burn)
 }
 
 fn needs_address(verb: Verb, mode: Option<Flag>) -> bool
@@ -399,7 +486,8 @@ pub fn is_complete(verb: Verb, mode: Option<Flag>, items: &[Item]) -> bool
     ensures { result ≡ rules.is_complete verb mode items.now }
 {
     is_met(needs_mode(verb), mode.is_some())
-        && is_met(needs_name(verb, mode), has_name(items))
+        && has_names(least_names(verb, mode), items)
         && is_met(needs_output(verb, mode), has(Flag::Output, items))
+        && is_met(needs_map(verb), has(Flag::Map, items))
         && is_met(needs_address(verb, mode), has(Flag::At, items))
 }
