@@ -37,6 +37,7 @@ unasked (command.List file) o seats left = (answers.no_memory (listing_of file) 
 unasked (command.Link words) o seats left = (inl left, refl)
 unasked (command.Build words) o seats left = (inl left, refl)
 unasked (command.InterruptKit output acknowledge) o seats left = ((left.files, left.sink), refl)
+unasked (command.MakeBig count output) o seats left = inl (record { outside = left; devices = refl })
 unasked (command.Run run) o seats left = no_memory run o seats seats (record { outside = left; devices = refl })
 
 pub refused : (e : WordsFault) (x : Result Command ℕ) (o : Outside) (seats : List Seat) (a : Answer) → Reads (Err e) x → RefusedBy e a → IsLeft o → Commanded x o seats seats a

@@ -21,6 +21,7 @@ use Rattle.sdt_toolkit.specs.Kits.{KitAnswers}
 use Rattle.sdt_toolkit.specs.Links.{LinkAnswers, WordsAsk}
 use Rattle.sdt_toolkit.specs.Reads.{reads_of}
 use Rattle.sdt_toolkit.specs.Sources.{AssemblyAnswers, SourceAsks}
+use Rattle.sdt_toolkit.proofs.BigClauses.{big_ends}
 
 module _ (x : Result Command ℕ) (o : Outside) (seats : List Seat) where
   says_ends : (asked : Result Outcome Refusal) (inputs : List (List ℕ)) → ((r : Refusal) → asked ≡ Err r → IsFirst x (reads_of o) seats r)
@@ -115,6 +116,7 @@ command_ends (Ok (command.Build words)) o seats left a h =
     let x = Ok (command.Build words) in still x o seats left a h.1 (link_ends x true words o seats (λ r k. k) a h.0)
 command_ends (Ok (command.InterruptKit output acknowledge)) o seats left a h =
     still (Ok (command.InterruptKit output acknowledge)) o seats left a h.1 (kit_ends output acknowledge o seats a h.0)
+command_ends (Ok (command.MakeBig count output)) o seats left a h = big_ends count output o seats left a h
 
 pub ends_of : (words : List (List ℕ)) (o : Outside) (seats left : List Seat) (a : Answer) → Commanded (command_of words) o seats left a
     → Ends (command_of words) o seats left a

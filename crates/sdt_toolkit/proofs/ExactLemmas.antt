@@ -24,6 +24,7 @@ use Rattle.sdt_toolkit.specs.Exact.{Exact, IsAccepted, IsCalm, IsRefusedBy}
 use Rattle.sdt_toolkit.specs.Links.{LinkAnswers, OneLinkAsked, WordsAsk, files_read}
 use Rattle.sdt_toolkit.specs.Reads.{reads_of}
 use Rattle.sdt_toolkit.specs.Sources.{AssemblyAnswers, OneAsked, SourceAsks}
+use Rattle.sdt_toolkit.proofs.BigClauses.{big_refused}
 use Rattle.sdt_toolkit.proofs.EndsLemmas.{ends_of}
 use Rattle.sdt_toolkit.proofs.RunOnce.{no_refusal, refusal_once}
 
@@ -132,6 +133,7 @@ module _ (o : Outside) (files : Files) (told : o.before ≡ Some files) (calm : 
   refused one link (Ok (command.Link words)) seats left a h first = link_refused link false words a h.0 first
   refused one link (Ok (command.Build words)) seats left a h first = link_refused link true words a h.0 first
   refused one link (Ok (command.InterruptKit output acknowledge)) seats left a h first = absurd first
+  refused one link (Ok (command.MakeBig count output)) seats left a h first = big_refused count output o seats left r calm first a h
 
 -- ---- the clause of the top call
 

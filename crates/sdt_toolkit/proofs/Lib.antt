@@ -6,6 +6,7 @@ mod AskLemmas
 mod BigAccept
 mod BigAnswer
 mod BigBuild
+mod BigClauses
 mod BigEnd
 mod BigMade
 mod BigRuns

@@ -36,6 +36,8 @@ use Rattle.big_model.specs.Sources.{big_sum, big_text}
 use Rattle.big_place.specs.Big.{big_description}
 use Rattle.tool_answers.specs.Outcomes.{Outside}
 use Rattle.tool_run.specs.Runs.{IsUntouched}
+use Rattle.tool_words.specs.declared.command.Command.{Command}
+use Rattle.tool_words.specs.declared.command.Command.TheVariants as command
 use Rattle.tool_words.specs.declared.command.LinkPlacement.TheVariants as placement
 use Rattle.tool_words.specs.declared.command.LinkWords.{LinkWords}
 use Rattle.sdt_toolkit.specs.BigMade.{big_image, big_named}
@@ -123,6 +125,21 @@ BigAnswers n output o seats left answer.SinkFault =
 BigAnswers n output o seats left (answer.Stopped why) = ⊥
 BigAnswers n output o seats left answer.NoMemory =
     IsUntouched o seats left ⊎ (HasRunBig n output o seats left × (o.prints ≡ o.printed))
+
+-- ---- clause of the top call
+
+-- done; memory may be refused besides
+abbrev pub IsBigDone : ℕ → List ℕ → Outside → List Seat → List Seat → Answer → Type 0
+IsBigDone n output o seats left answer.Done = BigAnswers n output o seats left answer.Done
+IsBigDone n output o seats left answer.NoMemory = BigAnswers n output o seats left answer.NoMemory
+IsBigDone n output o seats left other = ⊥
+
+-- where devices meet neither the default bank nor each other, and neither the store counted a fault of a write nor the sink one,
+-- each count that is asked for is done
+abbrev pub MakesBig : Result Command ℕ → Outside → List Seat → List Seat → Answer → Type 0
+MakesBig asked o seats left a =
+    (n : ℕ) (output : List ℕ) → asked ≡ Ok (command.MakeBig n output) → IsNowhere (two_have default_banks seats)
+    → (Rose o.writes o.writes_now → ⊥) → (Rose o.faults o.faults_now → ⊥) → (1 ≤ n) × (n ≤ 50000) × IsBigDone n output o seats left a
 
 -- ---- inside
 

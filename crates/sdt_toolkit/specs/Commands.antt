@@ -11,6 +11,7 @@ use Rattle.tool_words.specs.declared.command.WordsFault.{WordsFault}
 use Rattle.tool_words.specs.declared.command.WordsFault.TheVariants as fault
 use Rattle.run_opening.specs.declared.image.Image.{Image}
 use Rattle.tool_answers.specs.Outcomes.{Outside, IsAsked, IsLeft, Answers, OfAll, OfOne}
+use Rattle.sdt_toolkit.specs.Big.{BigAnswers, IsMeeting}
 use Rattle.sdt_toolkit.specs.Kits.{KitAnswers}
 use Rattle.sdt_toolkit.specs.Links.{LinkAnswers, WordsAsk}
 use Rattle.sdt_toolkit.specs.Reads.{Reads, HasFailed, reads_of}
@@ -32,7 +33,7 @@ RefusesWords place o answer.SinkFault = ⊥
 RefusesWords place o (answer.Stopped stop) = ⊥
 RefusesWords place o answer.NoMemory = IsLeft o
 
--- the answer to a command, or to words that break a rule, over devices, which are left so; `run` alone touches them
+-- the answer to a command, or to words that break a rule, over devices, which are left so; `run` and `make-big` alone touch them
 unfoldable pub Commanded : Result Command ℕ → Outside → List Seat → List Seat → Answer → Type 0
 Commanded (Err place) o seats left a = RefusesWords place o a × (left ≡ seats)
 Commanded (Ok (command.Assemble source output)) o seats left a = AssemblyAnswers source output o a × (left ≡ seats)
@@ -44,8 +45,9 @@ Commanded (Ok (command.Run run)) o seats left a = RunAnswers run o seats left a
 Commanded (Ok (command.Link words)) o seats left a = LinkAnswers false words o a × (left ≡ seats)
 Commanded (Ok (command.Build words)) o seats left a = LinkAnswers true words o a × (left ≡ seats)
 Commanded (Ok (command.InterruptKit output acknowledge)) o seats left a = KitAnswers output acknowledge o a × (left ≡ seats)
+Commanded (Ok (command.MakeBig count output)) o seats left a = BigAnswers count output o seats left a
 
--- ---- refusals: the first defect of the words, then of the files and, for a run, of the banks and devices
+-- ---- refusals: the first defect of the words, then of the files and, for a run and `make-big`, of the banks and devices
 
 -- what a command refuses over what the store tells of its files, and over these devices
 abbrev pub FirstOf : Command → Reads → List Seat → Refusal → Type 0
@@ -60,21 +62,24 @@ FirstOf (command.Run run) s seats r = (read : Result Image Refusal) × IsRead s.
 FirstOf (command.Link words) s seats r = WordsAsk s false words (Err r)
 FirstOf (command.Build words) s seats r = WordsAsk s true words (Err r)
 FirstOf (command.InterruptKit output acknowledge) s seats r = ⊥
+FirstOf (command.MakeBig count output) s seats r = IsMeeting seats r
 
 abbrev pub IsFirst : Result Command ℕ → Reads → List Seat → Refusal → Type 0
 IsFirst (Err place) s seats r = r ≡ BadWords place
 IsFirst (Ok c) s seats r = FirstOf c s seats r
 
--- the words ask for a run
+-- the words ask for a run, of an image or of what is made
 abbrev pub is_run : Result Command ℕ → Bool
 is_run (Ok (command.Run run)) = true
+is_run (Ok (command.MakeBig count output)) = true
 is_run other = false
 
--- the words ask for a text, or for a run, which may print
+-- the words ask for a text, or for a run, which may print or is told of in a line
 abbrev pub may_print : Result Command ℕ → Bool
 may_print (Ok (command.ListMembers library)) = true
 may_print (Ok (command.List file)) = true
 may_print (Ok (command.Run run)) = true
+may_print (Ok (command.MakeBig count output)) = true
 may_print other = false
 
 -- ---- what each answer says and leaves, whatever was asked for

@@ -7,6 +7,7 @@ ghost use Rattle.sdt_toolkit.specs.Reads.{outside_of};
 ghost use Rattle.tool_words.specs.Commands.{IsGood, command_of};
 
 use crate::assemble::assemble_file;
+use crate::big::make_big;
 use crate::kit::write_kit;
 use crate::links::link_files;
 use sdt_fault::answer::Answer;
@@ -63,6 +64,9 @@ fn carried_out<S: Store, K: Sink>(
             output,
             acknowledge,
         } => write_kit(alloc, store, output, acknowledge),
+        Command::MakeBig { count, output } => {
+            make_big(alloc, store, sink, devices, count, output)
+        }
     }
 }
 

@@ -3,6 +3,7 @@
 
 ghost use Rattle.std.specs.Prelude.{◌≡◌, map, string_bytes, false};
 ghost use Rattle.arm7_bus.specs.Seats.{seats_by};
+ghost use Rattle.sdt_toolkit.specs.Big.{MakesBig};
 ghost use Rattle.sdt_toolkit.specs.Builds.{BuildsAsLinked};
 ghost use Rattle.sdt_toolkit.specs.Commands.{Commanded, Ends, is_run, may_print};
 ghost use Rattle.sdt_toolkit.specs.Exact.{Exact};
@@ -34,7 +35,7 @@ mod names;
 mod sound;
 mod writing;
 
-/// Carries out a command: `asm`, `link`, `build`, one of the librarian's, `list`, `run` or `irqkit`.
+/// Carries out a command: `asm`, `link`, `build`, one of the librarian's, `list`, `run`, `irqkit` or `make-big`.
 ///
 /// A refusal names the first defect of the words, then of the files, in order. `ReadFault`, `WriteFault`
 /// and `SinkFault` come only where the store's or the sink's count of such faults rose. A run takes the devices
@@ -73,6 +74,11 @@ pub fn run_tool<S: Store, K: Sink>(
         (K.bytes sink.old) (K.bytes sink.new) (S.read_faults store.old) (S.read_faults store.new)
         (S.write_faults store.old) (S.write_faults store.new) (K.faults sink.old) (K.faults sink.new))
         (seats_by base size state touched devices.old.items) result }
+    // `make-big` is done for each count, where devices meet neither the default bank nor each other and no fault is counted.
+    ensures big { MakesBig (command_of (map string_bytes words.now)) (outside_of (S.files store.old) (S.files store.new)
+        (K.bytes sink.old) (K.bytes sink.new) (S.read_faults store.old) (S.read_faults store.new)
+        (S.write_faults store.old) (S.write_faults store.new) (K.faults sink.old) (K.faults sink.new))
+        (seats_by base size state touched devices.old.items) (seats_by base size state touched devices.new.items) result }
     // Over files that are told, where no fault is counted: a first defect is refused, and nothing else is.
     ensures exact { Exact (command_of (map string_bytes words.now)) (outside_of (S.files store.old) (S.files store.new)
         (K.bytes sink.old) (K.bytes sink.new) (S.read_faults store.old) (S.read_faults store.new)
@@ -88,7 +94,7 @@ pub fn run_tool<S: Store, K: Sink>(
         (K.bytes sink.old) (K.bytes sink.new) (S.read_faults store.old) (S.read_faults store.new)
         (S.write_faults store.old) (S.write_faults store.new) (K.faults sink.old) (K.faults sink.new))
         (seats_by base size state touched devices.old.items) (seats_by base size state touched devices.new.items) result }
-    // The devices are touched by `run` alone, and the sink by commands that print.
+    // The devices are touched by `run` and `make-big` alone, and the sink by commands that print.
     ensures devices { is_run (command_of (map string_bytes words.now)) ≡ false → devices.new ≡ devices.old }
     ensures sink { may_print (command_of (map string_bytes words.now)) ≡ false → sink.new ≡ sink.old }
 {

@@ -1,5 +1,6 @@
 use Rattle.std.proofs.Common.{map}
 use Rattle.std.specs.Prelude.{string_bytes}
+use Rattle.sdt_toolkit.proofs.BigClauses.{big_told}
 use Rattle.sdt_toolkit.proofs.BuildClauses.{builds_told}
 use Rattle.sdt_toolkit.proofs.EndsLemmas.{ends_of}
 use Rattle.sdt_toolkit.proofs.ExactLemmas.{exact_of}
@@ -45,3 +46,6 @@ returns-clause-steps g c = steps_told (map string_bytes c.args.words.now) _ _ _ 
 
 pub returns-clause-refusals : goal.returns-clause-refusals
 returns-clause-refusals g c = refusals_told c.refusals_law.ensures (command_of (map string_bytes c.args.words.now)) _ _ _ c.command.result c.command.ensures.commanded
+
+pub returns-clause-big : goal.returns-clause-big
+returns-clause-big g c = big_told (map string_bytes c.args.words.now) _ _ _ c.command.result c.command.ensures.commanded

@@ -47,3 +47,14 @@ pub returns-in-InterruptKit-clause-commanded : goal.returns-in-InterruptKit-clau
 unfolding Commanded
 returns-in-InterruptKit-clause-commanded g c =
     rw c.in-InterruptKit.is ((c.write_kit.ensures.says, refl), refl)
+
+pub make_big-requires-clause-some : goal.make_big-requires-clause-some
+make_big-requires-clause-some g c = (rw c.in-MakeBig.is at c.requires).0
+
+pub make_big-requires-clause-few : goal.make_big-requires-clause-few
+make_big-requires-clause-few g c = (rw c.in-MakeBig.is at c.requires).1
+
+pub returns-in-MakeBig-clause-commanded : goal.returns-in-MakeBig-clause-commanded
+unfolding Commanded
+returns-in-MakeBig-clause-commanded g c =
+    rw c.in-MakeBig.is c.make_big.ensures
