@@ -3,6 +3,8 @@ use Rattle.std.proofs.Common.{◌≡◌, ◌≢◌, ℕ, ◌+◌, ◌-◌, ◌*�
 use Rattle.std.specs.Prelude.{MatchBool, codes}
 use Rattle.std.specs.Fmt.{decimal}
 use Rattle.std.specs.List.{AllByRecursion}
+use Rattle.std.proofs.lemmas.Bool.Decides.{nat_tests}
+use Rattle.base_lemmas.proofs.BaseLemmas.{or_true, true_or}
 use Rattle.sdt_fault.specs.Digits.{hexadecimal}
 use Rattle.sdt_fault.specs.declared.answer.Answer.{Answer}
 use Rattle.sdt_fault.specs.declared.answer.Answer.TheVariants as answer
@@ -18,7 +20,7 @@ use Rattle.aof_object.specs.declared.records.Object.{Object}
 use Rattle.aof_object.specs.Validity.{IsValid}
 use Rattle.alf_archive.specs.declared.records.Archive.{Archive}
 use Rattle.arm7_bus.specs.Meets.{IsNowhere}
-use Rattle.arm7_bus.specs.Seats.{Seat}
+use Rattle.arm7_bus.specs.Seats.{Seat, has_access}
 use Rattle.arm7_bus.specs.States.{State}
 use Rattle.arm7_transfers.specs.Ready.{IsReady}
 use Rattle.run_opening.specs.declared.image.Image.{Image as RunImage}
@@ -118,6 +120,43 @@ behind_loads (l ∷ ls) rest h = behind_loads ls rest h.1
 
 pub regions_small : (i : Image) → AllByRecursion IsLow (needs_of i) → AllByRecursion (λ r. r.length + r.zero ≤ 2 ^ 26) i.regions
 regions_small i h = regions_low i.regions (behind_loads i.loads (map region_need i.regions) h)
+
+pub program_regions : ImageStarts → (name : List ℕ) (n : ℕ) → 1 ≤ n → n ≤ 50000 → IsValid (big_object n) → HasBytes (big_object n) → (i : Image) → i ≡ big_image name (module_of name) n
+    → AllByRecursion (λ r. r.length + r.zero ≤ 2 ^ 26) i.regions
+program_regions law name n some few valid bytes i is =
+    subst (λ (x : Image). AllByRecursion (λ r. r.length + r.zero ≤ 2 ^ 26) x.regions) (sym is)
+    (regions_small (big_image name (module_of name) n) (law name (module_of name) n some few valid bytes).low)
+
+pub short_source : BigIsShort → (n : ℕ) → n ≤ 50000 → (source : List ℕ) → source ≡ big_text n → length source < 2 ^ 32
+short_source law n few source is = let short = law n few in let same = ap (λ (t : List ℕ). length t) is in omega (arith, short, same)
+
+pub load_more : (ls : List LoadRegion) (l : LoadRegion) (out : List Load) → out ≡ map load_of ls → out ++ load_of l ∷ [] ≡ map load_of (ls ++ l ∷ [])
+load_more ls l out e = ap (λ (xs : List Load). xs ++ load_of l ∷ []) e ∙ sym (behind_all ls l)
+  where
+    behind_all : (front : List LoadRegion) (x : LoadRegion) → map load_of (front ++ x ∷ []) ≡ map load_of front ++ load_of x ∷ []
+    behind_all [] x = refl
+    behind_all (y ∷ front) x = ap (λ (xs : List Load). load_of y ∷ xs) (behind_all front x)
+
+-- each load region lies in what it needs
+itself : (a n : ℕ) → has_access a n a n ≡ true
+itself a n = grind (arith, nat_tests)
+
+one_more : (needs : List Need) (n : Need) (l : Load) → IsNeeded needs l → IsNeeded (n ∷ needs) l
+one_more needs n l h = record { within = λ some. or_true (has_access n.base n.size l.base (length l.bytes)) _ (h.within some) }
+
+all_more : (needs : List Need) (n : Need) (loads : List Load) → AllByRecursion (IsNeeded needs) loads → AllByRecursion (IsNeeded (n ∷ needs)) loads
+all_more needs n [] h = tt
+all_more needs n (l ∷ ls) h = (one_more needs n l h.0, all_more needs n ls h.1)
+
+loads_needed : (loads : List LoadRegion) (others : List Need) → AllByRecursion (IsNeeded (map load_need loads ++ others)) (map load_of loads)
+loads_needed [] others = tt
+loads_needed (l ∷ ls) others = (
+  record { within = λ some. true_or (has_access l.base (length l.bytes) l.base (length l.bytes)) _ (itself l.base (length l.bytes)) },
+  all_more (map load_need ls ++ others) (load_need l) (map load_of ls) (loads_needed ls others),
+)
+
+pub image_needed : (i : Image) (x : RunImage) → x ≡ run_image i → AreNeeded x
+image_needed i x e = subst AreNeeded (sym e) (loads_needed i.loads (map region_need i.regions))
 
 -- ---- the run
 

@@ -13,7 +13,7 @@ use Rattle.armlink_core.specs.Images.{image_of}
 use Rattle.armlink_core.specs.Sizes.{copies_in, zeros_in}
 use Rattle.big_faults.specs.Big.{words_bytes}
 use Rattle.big_model.specs.Words.{code_words, data_words, step_word}
-use Rattle.big_place.specs.Big.{PlanHasNoFault, TextIsRead, big_description, big_kind, big_scatter}
+use Rattle.big_place.specs.Big.{PlanHasNoFault, TextIsRead, big_contents, big_description, big_kind, big_scatter, code_item, data_item}
 use Rattle.big_place.proofs.PlaceLemmas.{code_size, data_size, table_is}
 use Rattle.boot_code.specs.declared.rows.CopyRow.{CopyRow}
 use Rattle.boot_code.specs.declared.rows.ZeroRow.{ZeroRow}
@@ -34,10 +34,11 @@ use Rattle.link_model.specs.declared.placing.Placement.{Placement}
 use Rattle.link_model.specs.Members.{link_of}
 use Rattle.link_values.specs.Placed.{values_in}
 use Rattle.patch_model.specs.Fields.{Values}
-use Rattle.place_model.specs.Plans.{Plan, copies_of, load_size, parts_of}
+use Rattle.place_model.specs.Plans.{Plan, copies_of, load_size, parts_of, table_words}
+use Rattle.place_model.specs.Things.{AnArea, Startup, extent}
 use Rattle.scatter_text.specs.Laws.{ReadingLaw}
 use Rattle.sdt_toolkit.specs.BigMade.{big_assigned, big_placement, big_plan}
-use Rattle.sdt_toolkit.specs.BigStarts.{ImageStarts, big_startup}
+use Rattle.sdt_toolkit.specs.BigStarts.{ImageStarts, big_row, big_startup}
 use Rattle.sdt_toolkit.specs.RunImages.{CanRun, needs_of, region_need}
 use Rattle.sdt_toolkit.specs.Starting.{segments_of}
 use Rattle.sdt_toolkit.proofs.BigMade.{linked, made, named, object}
@@ -79,8 +80,13 @@ module _ (name home : List ℕ) (n : ℕ) (code words : List ℕ) (some : 1 ≤ 
   bound : bound_of (copy_rows (big_placement home n)) (zero_rows (big_placement home n)) ≡ 48 + 4 * n
   bound = rw (rows.0) (omega arith)
 
+  abbrev row_from : ℕ → List CopyRow
+  row_from k = (record { source = k; target = 8388608; size = 4 * n }) ∷ []
+
   counted : startup_steps (copy_rows (big_placement home n)) (zero_rows (big_placement home n)) ≡ big_startup n
-  counted = let r = rows in rw (r.0, r.1) refl
+  counted =
+      let row : copy_rows (big_placement home n) ≡ big_row n ∷ [] = rows.0 ∙ ap row_from (omega arith) in
+      ap (λ (rs : List CopyRow). startup_steps rs (zero_rows (big_placement home n))) row ∙ ap (λ (rs : List ZeroRow). startup_steps (big_row n ∷ []) rs) rows.1
 
   -- ---- the link
 
@@ -161,8 +167,16 @@ module _ (name home : List ℕ) (n : ℕ) (code words : List ℕ) (some : 1 ≤ 
   abbrev Low : List Need → Type 0
   Low needs = AllByRecursion (λ r. r.base + r.size ≤ 0x01000000) needs
 
+  -- of a region at a base below 2^32
+  low_region : (base length zero : ℕ) → base ≤ 8388608 → length ≤ 8000000 → zero ≡ 0 → base % 2 ^ 32 + (length + zero) ≤ 0x01000000
+  low_region base length zero lo few_bytes none = omega (arith, lo, few_bytes, none)
+
   low_regions : Low (map region_need image.regions)
-  low_regions = rw (table_is home n some few, code_size home n 9, data_size home n) (omega arith, omega arith, tt)
+  low_regions =
+      let first : extent 0 0 (AnArea (code_item home n) ∷ Startup (table_words big_kind (big_contents home n)) ∷ []) ≤ 8000000 =
+      (let table = table_is home n some few in let size = code_size home n (table_words big_kind (big_contents home n)) in omega (arith, few, table, size)) in
+      let second : extent 0 8388608 (AnArea (data_item home n) ∷ []) ≤ 8000000 = (let size = data_size home n in omega (arith, few, size)) in
+      (low_region 0 _ _ (omega arith) first refl, low_region 8388608 _ _ (omega arith) second refl, tt)
 
   low_load : (k : ℕ) → k ≡ 4 * n + 216 + 4 * n → 0 + k ≤ 0x01000000
   low_load k e = omega (arith, e)
