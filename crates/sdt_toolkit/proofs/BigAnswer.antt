@@ -1,10 +1,11 @@
 -- What make-big answers, by how its parts end.
-use Rattle.std.proofs.Common.{◌≡◌, ◌≢◌, ℕ, ◌+◌, ◌-◌, ◌*◌, ◌/◌, ◌^◌, ◌<◌, ◌≤◌, Bool, true, false, List, [], ◌∷◌, ◌++◌, length, map, Option, None, Some, Result, Ok, Err, refl, sym, ap, ◌∙◌, subst, arith, inl, inr, ⊥, append_assoc}
-use Rattle.std.specs.Prelude.{MatchBool, codes}
+use Rattle.std.proofs.Common.{◌≡◌, ◌≢◌, ℕ, ◌+◌, ◌-◌, ◌*◌, ◌/◌, ◌^◌, ◌<◌, ◌≤◌, Bool, true, false, List, [], ◌∷◌, ◌++◌, length, map, Option, None, Some, Result, Ok, Err, refl, sym, ap, ◌∙◌, subst, arith, inl, inr, append_assoc}
+use Rattle.std.specs.Prelude.{codes}
 use Rattle.std.specs.Fmt.{decimal}
 use Rattle.std.specs.List.{AllByRecursion}
 use Rattle.std.proofs.lemmas.Bool.Decides.{nat_tests}
 use Rattle.base_lemmas.proofs.BaseLemmas.{or_true, true_or}
+use Rattle.sdt_word.specs.declared.ranges.Range32.{Range32}
 use Rattle.sdt_fault.specs.Digits.{hexadecimal}
 use Rattle.sdt_fault.specs.declared.answer.Answer.{Answer}
 use Rattle.sdt_fault.specs.declared.answer.Answer.TheVariants as answer
@@ -102,6 +103,21 @@ module _ (law : ImageIsMade) (name : List ℕ) (n : ℕ) (some : 1 ≤ n) (few :
   unlinked (fault.ReadFault file) h = absurd h
   unlinked fault.NoMemory h = refl
 
+  -- by what the call was given
+  module _ (os : List (Named Object)) (archives : List (Named Archive)) (text : List ℕ) (ram : Option (List Range32)) (e : os ≡ alone name n) (f : archives ≡ []) (g : text ≡ big_description)
+      (none : ram ≡ None) where
+    given : (x : Result Image Fault) → Links os archives (scatter_linking text ram) x → Links (alone name n) [] (scatter_linking big_description None) x
+    given x links =
+        subst (λ (xs : List (Named Object)). Links xs [] (scatter_linking big_description None) x) e
+        (subst (λ (others : List (Named Archive)). Links os others (scatter_linking big_description None) x) f
+        (subst (λ (t : List ℕ). Links os archives (scatter_linking t None) x) g (subst (λ (r : Option (List Range32)). Links os archives (scatter_linking text r) x) none links)))
+
+    pub image_by : (i : Image) → Links os archives (scatter_linking text ram) (Ok i) → i ≡ big_image name (module_of name) n
+    image_by i links = image_is i (given (Ok i) links)
+
+    pub unlinked_by : (x : Fault) → Links os archives (scatter_linking text ram) (Err x) → x ≡ fault.NoMemory
+    unlinked_by x links = unlinked x (given (Err x) links)
+
   pub is_built : BigIsAssembled → AssembledFrom (Some (files_of [])) name (big_text n) (Ok (big_object n)) → IsBigImage name n (big_image name (module_of name) n)
   is_built assembles told = record { assembled = told; only = λ files made h. assembles files name n made few h; linked = link_is; built = built assembles name n few (big_image name (module_of name) n) link_is }
 
@@ -157,12 +173,6 @@ loads_needed (l ∷ ls) others = (
 
 pub image_needed : (i : Image) (x : RunImage) → x ≡ run_image i → AreNeeded x
 image_needed i x e = subst AreNeeded (sym e) (loads_needed i.loads (map region_need i.regions))
-
--- ---- the run
-
-pub no_sink : {A B C D : Type 0} (b : Bool) → MatchBool b (Rose 0 0 × A × B) (C × D) → C
-no_sink true h = absurd (let rose = h.0 in omega (arith, rose))
-no_sink false h = h.0
 
 -- ---- the report
 

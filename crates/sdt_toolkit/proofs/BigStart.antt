@@ -1,5 +1,5 @@
 -- How the image of a generated source starts, and what it needs. The object's bytes are variables, so that its link computes.
-use Rattle.std.proofs.Common.{◌≡◌, ℕ, zero, suc, ◌+◌, ◌*◌, ◌^◌, ◌<◌, ◌≤◌, ◌==◌, true, false, List, [], ◌∷◌, ◌++◌, length, map, refl, sym, ap, ◌∙◌, subst, arith, None, Some, nat_lt}
+use Rattle.std.proofs.Common.{◌≡◌, ℕ, zero, suc, ◌+◌, ◌*◌, ◌%◌, ◌^◌, ◌<◌, ◌≤◌, ◌==◌, true, false, List, [], ◌∷◌, ◌++◌, length, map, refl, sym, ap, ◌∙◌, subst, arith, None, Some, nat_lt}
 use Rattle.std.specs.Prelude.{codes}
 use Rattle.std.specs.List.{AllByRecursion, range_with_len}
 use Rattle.std.proofs.lemmas.Bool.{lt-ltb, ne_eqb}
@@ -176,7 +176,7 @@ module _ (name home : List ℕ) (n : ℕ) (code words : List ℕ) (some : 1 ≤ 
       let first : extent 0 0 (AnArea (code_item home n) ∷ Startup (table_words big_kind (big_contents home n)) ∷ []) ≤ 8000000 =
       (let table = table_is home n some few in let size = code_size home n (table_words big_kind (big_contents home n)) in omega (arith, few, table, size)) in
       let second : extent 0 8388608 (AnArea (data_item home n) ∷ []) ≤ 8000000 = (let size = data_size home n in omega (arith, few, size)) in
-      (low_region 0 _ _ (omega arith) first refl, low_region 8388608 _ _ (omega arith) second refl, tt)
+      (low_region 0 _ _ (omega arith) first refl, (low_region 8388608 _ _ (omega arith) second refl, tt))
 
   low_load : (k : ℕ) → k ≡ 4 * n + 216 + 4 * n → 0 + k ≤ 0x01000000
   low_load k e = omega (arith, e)

@@ -153,8 +153,7 @@ fn loads_of(alloc: Global, loads: Vec<LoadRegion>) -> Result<Vec<Load>, NoMemory
 /// The image of a run: the load regions, and what is to be memory: they, and the execution ranges with their zero parts.
 fn run_image(alloc: Global, image: LinkedImage) -> Result<Image, NoMemory>
     requires { AllByRecursion (λ r. r.length + r.zero ≤ 2 ^ 26) image.regions }
-    ensures exact { IfOk result (λ i. i ≡ images.run_image image) }
-    ensures needed { IfOk result (λ i. AreNeeded i) }
+    ensures { IfOk result (λ i. i ≡ images.run_image image) }
 {
     let mut needs = Vec::new(alloc);
     push_load_needs(&mut needs, image.loads.as_slice())?;

@@ -8,7 +8,7 @@ use Rattle.sdt_toolkit.proofs.big_image.assembled.Goals as goal
 
 pub returns-in_err-object-clause-memory : goal.returns-in_err-object-clause-memory
 returns-in_err-object-clause-memory c =
-    let p = err_from_is_err_and c.from_residual.result c.from_residual.ensures.1 in
+    let p = err_from_is_err_and c.from_residual-in_err-object.result c.from_residual-in_err-object.ensures.1 in
     rw (p.1, p.2) (unassembled c.big_law.ensures.assembled c.args.name.now _ c.args.count c.requires (c.as_slice.ensures ∙ c.in_ok-source.ensures)
     c.in_err-object.field-0.0 c.in_err-object.ensures.assembled c.in_err-object.ensures.cause)
 

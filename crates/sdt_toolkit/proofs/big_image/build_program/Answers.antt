@@ -1,6 +1,4 @@
-use Rattle.std.proofs.Common.{sym, subst, ap, arith, ◌<◌, ◌^◌, length, List, ℕ}
-use Rattle.sdt_toolkit.specs.Inputs.{module_of}
-use Rattle.sdt_toolkit.proofs.BigAnswer.{is_built, program_regions, short_source}
+use Rattle.sdt_toolkit.proofs.BigAnswer.{image_needed, is_built, program_regions, short_source}
 use Rattle.sdt_toolkit.proofs.big_image.build_program.Goals as goal
 
 pub run_image-requires : goal.run_image-requires
@@ -12,3 +10,6 @@ returns-clause-short c = short_source c.big_law.ensures.short c.args.count c.req
 
 pub returns-clause-built : goal.returns-clause-built
 returns-clause-built c = is_built c.big_law.ensures.made c.args.name.now c.args.count c.requires.some c.requires.few c.big_law.ensures.assembled c.in_ok-parts.ensures.told
+
+pub returns-clause-needed : goal.returns-clause-needed
+returns-clause-needed c = image_needed c.in_ok-parts.parts.image c.in_ok-image.image c.in_ok-image.ensures
