@@ -109,13 +109,7 @@ fn line(alloc: Global, count: u32, words: u32, ended: &Ended) -> Result<Vec<u8>,
     Ok(out)
 }
 
-fn print_line<K: Sink>(
-    alloc: Global,
-    sink: &mut K,
-    count: u32,
-    words: u32,
-    ended: &Ended,
-) -> Answer
+fn print_line<K: Sink>(alloc: Global, sink: &mut K, count: u32, words: u32, ended: &Ended) -> Answer
     ensures says { PrintsLine (big_line count words ended.now.steps ended.now.sum) (K.bytes sink.old) (K.bytes sink.new)
         (Rose (K.faults sink.old) (K.faults sink.new)) result }
     ensures faults { K.faults sink.old ≤ K.faults sink.new }
@@ -127,13 +121,7 @@ fn print_line<K: Sink>(
 }
 
 /// Prints the line of a run that ended by SWI 0x11.
-fn report<K: Sink>(
-    alloc: Global,
-    sink: &mut K,
-    count: u32,
-    words: u32,
-    ended: &Ended,
-) -> Answer
+fn report<K: Sink>(alloc: Global, sink: &mut K, count: u32, words: u32, ended: &Ended) -> Answer
     ensures says { Reports ended.now.stop (big_line count words ended.now.steps ended.now.sum) (K.bytes sink.old) (K.bytes sink.new)
         (Rose (K.faults sink.old) (K.faults sink.new)) result }
     ensures faults { K.faults sink.old ≤ K.faults sink.new }
