@@ -168,8 +168,8 @@ module _ (name home : List ℕ) (n : ℕ) (code words : List ℕ) (some : 1 ≤ 
   Low needs = AllByRecursion (λ r. r.base + r.size ≤ 0x01000000) needs
 
   -- of a region at a base below 2^32
-  low_region : (base length zero : ℕ) → base ≤ 8388608 → length ≤ 8000000 → zero ≡ 0 → base % 2 ^ 32 + (length + zero) ≤ 0x01000000
-  low_region base length zero lo few_bytes none = omega (arith, lo, few_bytes, none)
+  low_region : (base size more : ℕ) → base ≤ 8388608 → size ≤ 8000000 → more ≡ 0 → base % 2 ^ 32 + (size + more) ≤ 0x01000000
+  low_region base size more lo few_bytes none = omega (arith, lo, few_bytes, none)
 
   low_regions : Low (map region_need image.regions)
   low_regions =
