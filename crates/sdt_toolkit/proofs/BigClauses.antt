@@ -1,5 +1,5 @@
 -- What the top call tells of make-big: what each answer leaves, that a meeting alone refuses it, and that it is done.
-use Rattle.std.proofs.Common.{◌≡◌, ℕ, ◌≤◌, List, Result, Ok, refl, subst, ⊥}
+use Rattle.std.proofs.Common.{◌≡◌, ℕ, ◌≤◌, List, Result, Ok, subst}
 use Rattle.sdt_fault.specs.declared.answer.Answer.{Answer}
 use Rattle.sdt_fault.specs.declared.answer.Answer.TheVariants as answer
 use Rattle.sdt_fault.specs.declared.refusal.Refusal.{Refusal}
