@@ -4,3 +4,8 @@ pub mod ScriptLemmas
 pub mod ReadLemmas
 mod Rows
 pub mod StepLemmas
+pub mod GoLemmas
+pub mod DeskLemmas
+pub mod SessionLemmas
+pub mod LawLemmas
+pub mod CutLemmas

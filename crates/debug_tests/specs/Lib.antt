@@ -1,0 +1,1 @@
+-- No clause of this crate cites a definition of its own.
