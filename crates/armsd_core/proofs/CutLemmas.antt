@@ -4,6 +4,7 @@ use Rattle.std.specs.List.{list_any}
 use Rattle.std.proofs.lemmas.Bool.{and_parts}
 use Rattle.std.proofs.lemmas.List.{append-nil}
 use Rattle.sdt_fault.specs.declared.answer.Stop.TheVariants as stop
+use Rattle.sdt_outside.specs.Counts.{Rose}
 use Rattle.sdt_outside.specs.Sinks.{Got, GotPart}
 use Rattle.sdt_word.specs.declared.ranges.Range32.{Range32}
 use Rattle.arm7_model.specs.declared.state.ArmState.{ArmState}
@@ -140,13 +141,13 @@ go-stopped points watch core0 s0 most made core s before after rose c = go (deci
     same : suc c.count ≡ made
     same = one-behind c.count ∙ sym c.made_is
 
-    as : (why : Reason) → Goes points watch core0 s0 made why made (c.text ++ c.chokes.piece) core s → IsStopped (Goes points watch core0 s0) made core s before after
-    as why leads = record { why = why; text = c.text ++ c.chokes.piece; leads = leads; part = all-of before c.middle after c.text c.chokes.piece c.got c.chokes.part }
+    stopped-as : (why : Reason) → Goes points watch core0 s0 made why made (c.text ++ c.chokes.piece) core s → IsStopped (Goes points watch core0 s0) made core s before after
+    stopped-as why leads = record { why = why; text = c.text ++ c.chokes.piece; leads = leads; part = all-of before c.middle after c.text c.chokes.piece c.got c.chokes.part }
 
     go : (o : Option Reason) × IsPause points watch (register core 15) s.contents.stores o → IsStopped (Goes points watch core0 s0) made core s before after
-    go (None, pause) = as reason.Count (counted (subst (λ (k : ℕ). Passes points watch core0 s0 k (c.text ++ c.chokes.piece) core s) same (passes c.chokes.piece passed one pause)))
+    go (None, pause) = stopped-as reason.Count (counted (subst (λ (k : ℕ). Passes points watch core0 s0 k (c.text ++ c.chokes.piece) core s) same (passes c.chokes.piece passed one pause)))
     go (Some why, pause) =
-        as why (subst (λ (k : ℕ). Goes points watch core0 s0 made why k (c.text ++ c.chokes.piece) core s) same
+        stopped-as why (subst (λ (k : ℕ). Goes points watch core0 s0 made why k (c.text ++ c.chokes.piece) core s) same
         (pauses c.chokes.piece why (less c.count made same) passed one pause))
       where
         less : (n m : ℕ) → suc n ≡ m → n < m
@@ -248,8 +249,8 @@ partly Quit d core s before after rose h = absurd h
 -- ---- the session
 
 pub cut_off_is_a_beginning : CutOffIsABeginning
-cut_off_is_a_beginning commands d core s before after rose h =
-    let x = partly h.last h.desk core s h.middle after rose h.fails in
+cut_off_is_a_beginning commands d core s before after was now h =
+    let x = partly h.last h.desk core s h.middle after (Rose was now) h.fails in
     (
       h.front ++ x.short ∷ [],
       record { front = h.front; last = h.last; shortened = x.short; rest = h.rest; whole = h.split; is = refl; less = x.less },

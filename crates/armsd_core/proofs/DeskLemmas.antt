@@ -1,17 +1,21 @@
 -- Steps that were made, as commands of a desk.
 use Rattle.std.proofs.Common.{◌≡◌, ◌∙◌, ℕ, ◌+◌, ◌<◌, ◌≤◌, List, [], ◌++◌, Option, Some, None, refl, sym, ap, subst, arith}
 use Rattle.sdt_outside.specs.Sinks.{Got, GotPart}
+use Rattle.sdt_outside.proofs.SharedLemmas.{got_none}
 use Rattle.arm7_model.specs.declared.state.ArmState.{ArmState}
 use Rattle.arm7_model.specs.Registers.{register}
 use Rattle.arm7_bus.specs.States.{State}
 use Rattle.arm7_run.proofs.StringLemmas.{got_more}
+use Rattle.armsd_core.specs.declared.command.Command.{Command}
+use Rattle.armsd_core.specs.declared.command.Command.TheVariants.{Break, Unbreak, Watch, Unwatch, Step, Go, Regs, Mem, Detach, Quit}
 use Rattle.armsd_core.specs.declared.desk.Notes.{Notes}
 use Rattle.armsd_core.specs.declared.reason.Reason.{Reason}
 use Rattle.armsd_core.specs.Carried.{Makes}
 use Rattle.armsd_core.specs.Desks.{desk_of}
+use Rattle.armsd_core.specs.Goes.{Goes, Steps}
 use Rattle.armsd_core.specs.Reasons.{lasting}
-use Rattle.armsd_core.specs.Sessions.{Desk, FailsOn, IsUnsaid, Lead, MovesOn, chokes, line_at, moved, untold}
-use Rattle.armsd_core.specs.Texts.{stop_line}
+use Rattle.armsd_core.specs.Sessions.{Desk, Fails, FailsIn, FailsOn, IsUnsaid, Lead, MovesOn, Says, Sets, chokes, line_at, moved, untold}
+use Rattle.armsd_core.specs.Texts.{memory_text, registers_text, stop_line}
 use Rattle.armsd_core.proofs.GoLemmas.{choked_up}
 
 -- a command that makes steps was carried out, and its text went out
@@ -98,3 +102,47 @@ on_choked lead most made d None None core s before after rose e none h = chokes 
 pub choked : (lead : Lead) (most : ℕ) (old : Notes) (core0 core : ArmState) (s0 s : State) (o : Option Reason) (made : ℕ) (before after : Option (List ℕ)) (rose : Type 0)
     → old.ended ≡ None → o ≡ None → Makes lead most o made core s before after rose → Failed lead most old core0 s0 core s before after rose
 choked lead most old core0 core s0 s o made before after rose on none h = on_choked lead most made (desk_of old core0 s0) old.ended o core s before after rose on none h
+
+-- ---- the count of faults
+
+unsaid_up : (text : List ℕ) (d : Desk) (core : ArmState) (s : State) (before after : Option (List ℕ)) (rose rose' : Type 0) → (rose → rose') → IsUnsaid text d core s before after rose → IsUnsaid text d core s before after rose'
+unsaid_up text d core s before after rose rose' up h = record { counted = up h.counted; same_core = h.same_core; same_bus = h.same_bus; part = h.part }
+
+in_up : (lead : Lead) (most : ℕ) (d : Desk) (core : ArmState) (s : State) (before after : Option (List ℕ)) (rose rose' : Type 0) → (rose → rose') → FailsIn lead most d core s before after rose → FailsIn lead most d core s before after rose'
+in_up lead most d core s before after rose rose' up (chokes made c) = chokes made (choked_up lead most made core s before after rose rose' up c)
+in_up lead most d core s before after rose rose' up (untold h) = untold (record {
+  why = h.why;
+  made = h.made;
+  text = h.text;
+  leads = h.leads;
+  middle = h.middle;
+  got = h.got;
+  line = unsaid_up (line_at (moved d h.why h.made core s) h.why) (moved d h.why h.made core s) core s h.middle after rose rose' up h.line;
+})
+
+on_up : (lead : Lead) (most : ℕ) (d : Desk) (o : Option Reason) (core : ArmState) (s : State) (before after : Option (List ℕ)) (rose rose' : Type 0) → (rose → rose') → FailsOn lead most o d core s before after rose → FailsOn lead most o d core s before after rose'
+on_up lead most d None core s before after rose rose' up h = in_up lead most d core s before after rose rose' up h
+on_up lead most d (Some why) core s before after rose rose' up h = unsaid_up (line_at d why) d core s before after rose rose' up h
+
+pub raised : (c : Command) (d : Desk) (core : ArmState) (s : State) (before after : Option (List ℕ)) (rose rose' : Type 0) → (rose → rose') → Fails c d core s before after rose → Fails c d core s before after rose'
+raised (Break a) d core s before after rose rose' up h = absurd h
+raised (Unbreak a) d core s before after rose rose' up h = absurd h
+raised (Watch r) d core s before after rose rose' up h = absurd h
+raised Unwatch d core s before after rose rose' up h = absurd h
+raised (Step n) d core s before after rose rose' up h = on_up (Steps d.core d.bus) n d d.ended core s before after rose rose' up h
+raised (Go n) d core s before after rose rose' up h = on_up (Goes d.points d.watch d.core d.bus) n d d.ended core s before after rose rose' up h
+raised Regs d core s before after rose rose' up h = unsaid_up (registers_text d.core) d core s before after rose rose' up h
+raised (Mem a n) d core s before after rose rose' up h = unsaid_up (memory_text d.bus.contents a n) d core s before after rose rose' up h
+raised (Detach i) d core s before after rose rose' up h = absurd h
+raised Quit d core s before after rose rose' up h = absurd h
+
+-- ---- other commands
+
+pub set_so : (new d' : Desk) (before : Option (List ℕ)) → d' ≡ new → (said : List ℕ) × Sets new said d' × Got before before said
+set_so new d' before e = ([], (refl, e), got_none before)
+
+pub said_so : (text : List ℕ) (d : Desk) (before after : Option (List ℕ)) → Got before after text → (said : List ℕ) × Says text d said d × Got before after said
+said_so text d before after got = (text, (refl, refl), got)
+
+pub unsaid_so : (text : List ℕ) (d : Desk) (before after : Option (List ℕ)) (rose : Type 0) → rose × GotPart before after text → IsUnsaid text d d.core d.bus before after rose
+unsaid_so text d before after rose (up, part) = record { counted = up; same_core = refl; same_bus = refl; part = part }

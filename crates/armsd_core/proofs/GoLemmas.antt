@@ -86,7 +86,7 @@ alone core s made core' s' before after rose c =
       alone_by c.count core s c.text c.core1 c.s1 core' s' before c.middle after rose none (counts c.count c.count core s c.text c.core1 c.s1 c.leads).1 c.got c.chokes,
     )
 
-no_break : (w : Stop) → reason_of w ≡ Some reason.Break → ⊥
+pub no_break : (w : Stop) → reason_of w ≡ Some reason.Break → ⊥
 no_break stop.Budget e = cc
 no_break stop.Exit e = cc
 no_break (stop.Unpredictable a x) e = cc
@@ -94,7 +94,7 @@ no_break (stop.BadString a) e = cc
 no_break (stop.NoFrame a) e = cc
 no_break stop.Sink e = cc
 
-no_watch : (w : Stop) (at : ℕ) → reason_of w ≡ Some (reason.Watch at) → ⊥
+pub no_watch : (w : Stop) (at : ℕ) → reason_of w ≡ Some (reason.Watch at) → ⊥
 no_watch stop.Budget at e = cc
 no_watch stop.Exit at e = cc
 no_watch (stop.Unpredictable a x) at e = cc

@@ -253,6 +253,7 @@ session-ran : (cs : List Command) (d : Desk) (text : List ℕ) (d' : Desk) → d
 session-ran [] d text d' e f h = ran-none d d' e (left-as d d d' h.1 refl refl refl refl)
 session-ran (c ∷ cs) d text d' e f (m, said, rest, does, more, t) = go m.ended refl
   where
+    both : (is_detach c ≡ false) × (list_any is_detach cs ≡ false)
     both = either-false (is_detach c) (list_any is_detach cs) f
 
     go : (o : Option Reason) → m.ended ≡ o → Ran d d'

@@ -9,3 +9,4 @@ pub mod DeskLemmas
 pub mod SessionLemmas
 pub mod LawLemmas
 pub mod CutLemmas
+pub mod CommandLemmas

@@ -1,5 +1,5 @@
 -- The commands of a session, one by one.
-use Rattle.std.proofs.Common.{◌≡◌, ◌∙◌, ℕ, zero, suc, ◌+◌, ◌-◌, ◌<◌, ◌≤◌, ◌==◌, cond, List, [], ◌∷◌, ◌++◌, length, Option, Some, None, refl, sym, ap, subst, append_assoc, arith}
+use Rattle.std.proofs.Common.{◌≡◌, ◌∙◌, ℕ, zero, suc, ◌+◌, ◌-◌, ◌<◌, ◌≤◌, ◌==◌, cond, List, [], ◌∷◌, ◌++◌, length, drop, get_or, drop-cons, Option, Some, None, refl, sym, ap, subst, append_assoc, drop_of_length-le, arith}
 use Rattle.std.proofs.lemmas.List.{append-nil}
 use Rattle.sdt_fault.specs.declared.kinds.CommandKind.{CommandKind}
 use Rattle.sdt_fault.specs.declared.kinds.CommandKind.TheVariants as kind
@@ -14,6 +14,7 @@ use Rattle.armsd_core.specs.declared.session.DebugEnd.{DebugEnd}
 use Rattle.armsd_core.specs.declared.session.DebugEnd.TheVariants as end
 use Rattle.armsd_core.specs.Desks.{HasRoom, IsDone, sets}
 use Rattle.armsd_core.specs.Scripts.{AreGood, IsInRange, devices_behind, flaw, points_behind}
+use Rattle.armsd_core.proofs.DeskLemmas.{raised}
 use Rattle.armsd_core.specs.Sessions.{CarriesOut, Desk, Fails, IsCutOff, IsDebugged, Does, before_quit, up_to}
 
 -- ---- room for breakpoints
@@ -133,3 +134,48 @@ pub comes_to_end : (commands : List Command) (d0 : Desk) (before : Option (List 
 comes_to_end commands d0 before rest d after rose none w =
     let all : w.front ≡ before_quit commands = sym (append-nil w.front) ∙ ap (λ (r : List Command). w.front ++ r) (sym none) ∙ sym w.split in
     (w.text, d, subst (λ (cs : List Command). CarriesOut cs d0 w.text d) all w.carried, refl, refl, w.got)
+
+-- ---- the commands of a list
+
+next : (commands : List Command) (i : ℕ) (x : Command) → i < length commands → drop i commands ≡ get_or commands i x ∷ drop (i + 1) commands
+next commands i x lt =
+    let more : suc i ≡ i + 1 = omega arith in
+    drop-cons commands i x lt ∙ ap (λ (k : ℕ). get_or commands i x ∷ drop k commands) more
+
+pub range_at : (commands : List Command) (i : ℕ) (x : Command) (points : List ℕ) → i < length commands → HasLeft points (drop i commands) → IsInRange (get_or commands i x)
+range_at commands i x points lt h = has_range points (get_or commands i x) (drop (i + 1) commands) (subst (HasLeft points) (next commands i x lt) h)
+
+pub room_at : (commands : List Command) (i : ℕ) (x : Command) (points : List ℕ) → i < length commands → HasLeft points (drop i commands) → HasRoom (get_or commands i x) points
+room_at commands i x points lt h = has_room points (get_or commands i x) (drop (i + 1) commands) (subst (HasLeft points) (next commands i x lt) h)
+
+pub left_after : (commands : List Command) (i : ℕ) (x : Command) (old new : List ℕ) → i < length commands → HasLeft old (drop i commands) → length new ≤ length old + sets (get_or commands i x)
+    → HasLeft new (drop (i + 1) commands)
+left_after commands i x old new lt h few = has_later old new (get_or commands i x) (drop (i + 1) commands) (subst (HasLeft old) (next commands i x lt) h) few
+
+pub goes_to : (commands : List Command) (d0 : Desk) (before : Option (List ℕ)) (i : ℕ) (x : Command) (d : Desk) (middle : Option (List ℕ)) (d' : Desk) (after : Option (List ℕ))
+    → i < length commands → (get_or commands i x ≡ Quit → ⊥) → IsUnderWay commands d0 before (drop i commands) d middle → IsDone (get_or commands i x) d d' middle after
+    → IsUnderWay commands d0 before (drop (i + 1) commands) d' after
+goes_to commands d0 before i x d middle d' after lt other w done =
+    goes_on commands d0 before (drop i commands) (get_or commands i x) (drop (i + 1) commands) d middle d' after (next commands i x lt) other w done
+
+pub cuts_at : (commands : List Command) (d0 : Desk) (before : Option (List ℕ)) (i : ℕ) (x : Command) (d : Desk) (middle : Option (List ℕ)) (core : ArmState) (s : State) (after : Option (List ℕ)) (rose : Type 0)
+    → i < length commands → (get_or commands i x ≡ Quit → ⊥) → IsUnderWay commands d0 before (drop i commands) d middle → Fails (get_or commands i x) d core s middle after rose
+    → IsDebugged commands d0 end.Sink core s before after rose
+cuts_at commands d0 before i x d middle core s after rose lt other w fails =
+    cuts_off commands d0 before (drop i commands) (get_or commands i x) (drop (i + 1) commands) d middle core s after rose (next commands i x lt) other w fails
+
+pub quits_at : (commands : List Command) (d0 : Desk) (before : Option (List ℕ)) (i : ℕ) (x : Command) (d : Desk) (after : Option (List ℕ)) (rose : Type 0)
+    → i < length commands → get_or commands i x ≡ Quit → IsUnderWay commands d0 before (drop i commands) d after → IsDebugged commands d0 end.Ended d.core d.bus before after rose
+quits_at commands d0 before i x d after rose lt is w =
+    comes_to_end commands d0 before (drop i commands) d after rose
+    (ap before_quit (next commands i x lt) ∙ ap (λ (c : Command). up_to c (before_quit (drop (i + 1) commands))) is) w
+
+pub ends_at : (commands : List Command) (d0 : Desk) (before : Option (List ℕ)) (i : ℕ) (d : Desk) (after : Option (List ℕ)) (rose : Type 0)
+    → length commands ≤ i → IsUnderWay commands d0 before (drop i commands) d after → IsDebugged commands d0 end.Ended d.core d.bus before after rose
+ends_at commands d0 before i d after rose le w = comes_to_end commands d0 before (drop i commands) d after rose (ap before_quit (drop_of_length-le commands le)) w
+
+pub cuts_up : (commands : List Command) (d0 : Desk) (before : Option (List ℕ)) (i : ℕ) (x : Command) (d : Desk) (middle : Option (List ℕ)) (core : ArmState) (s : State) (after : Option (List ℕ)) (rose rose' : Type 0)
+    → i < length commands → (get_or commands i x ≡ Quit → ⊥) → (rose → rose') → IsUnderWay commands d0 before (drop i commands) d middle → Fails (get_or commands i x) d core s middle after rose
+    → IsDebugged commands d0 end.Sink core s before after rose'
+cuts_up commands d0 before i x d middle core s after rose rose' lt other up w fails =
+    cuts_at commands d0 before i x d middle core s after rose' lt other w (raised (get_or commands i x) d core s middle after rose rose' up fails)

@@ -1,6 +1,7 @@
 -- Laws of a debugger's sessions.
 use Rattle.std.specs.Prelude.{◌≡◌, ℕ, ◌+◌, ◌≤◌, Bool, true, false, List, [], ◌∷◌, ◌++◌, Option, Some, None}
 use Rattle.std.specs.List.{list_any}
+use Rattle.sdt_outside.specs.Counts.{Rose}
 use Rattle.sdt_outside.specs.Sinks.{GotPart}
 use Rattle.arm7_model.specs.declared.state.ArmState.{ArmState}
 use Rattle.arm7_bus.specs.Buses.{after_detach}
@@ -67,7 +68,7 @@ pub record IsBeginning (short : List Command) (commands : List Command) : Type 0
 -- A session that the sink cut off leaves the machine where such a beginning leads, and the sink has a beginning of its text.
 abbrev pub CutOffIsABeginning : Type 0
 CutOffIsABeginning =
-    (commands : List Command) (d : Desk) (core : ArmState) (s : State) (before after : Option (List ℕ)) (rose : Type 0)
-    → IsCutOff commands d core s before after rose
-    → (short : List Command) × IsBeginning short commands × rose
+    (commands : List Command) (d : Desk) (core : ArmState) (s : State) (before after : Option (List ℕ)) (was now : ℕ)
+    → IsCutOff commands d core s before after (Rose was now)
+    → (short : List Command) × IsBeginning short commands × Rose was now
     × ((text : List ℕ) × (d' : Desk) × CarriesOut short d text d' × (core ≡ d'.core) × (s ≡ d'.bus) × GotPart before after text)

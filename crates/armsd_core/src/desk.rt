@@ -194,16 +194,30 @@ pub fn carry_out<K: Sink>(
     ensures ready { IsReady (state_of base size state touched bus.new) }
 {
     match command {
-        Command::Break(a) => notes.points.add(a),
-        Command::Unbreak(a) => notes.points.remove(a),
-        Command::Watch(range) => notes.watch = Some(range),
-        Command::Unwatch => notes.watch = None,
-        Command::Step(n) => return step(notes, m, bus, sink, n),
-        Command::Go(n) => return go(notes, m, bus, sink, n),
-        Command::Regs => return print_registers(m, sink),
-        Command::Mem(a, n) => return print_memory(bus, a, n, sink),
-        Command::Detach(i) => detach(bus, i),
-        Command::Quit => {}
+        Command::Break(a) => {
+            notes.points.add(a);
+            Ok(())
+        }
+        Command::Unbreak(a) => {
+            notes.points.remove(a);
+            Ok(())
+        }
+        Command::Watch(range) => {
+            notes.watch = Some(range);
+            Ok(())
+        }
+        Command::Unwatch => {
+            notes.watch = None;
+            Ok(())
+        }
+        Command::Step(n) => step(notes, m, bus, sink, n),
+        Command::Go(n) => go(notes, m, bus, sink, n),
+        Command::Regs => print_registers(m, sink),
+        Command::Mem(a, n) => print_memory(bus, a, n, sink),
+        Command::Detach(i) => {
+            detach(bus, i);
+            Ok(())
+        }
+        Command::Quit => Ok(()),
     }
-    Ok(())
 }

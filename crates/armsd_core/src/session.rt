@@ -44,9 +44,9 @@ pub fn debug_for<K: Sink>(
         if let Command::Quit = command {
             return DebugEnd::Ended;
         }
-        if carry_out(*command, &mut notes, m, bus, sink).is_err() {
+        let Ok(()) = carry_out(*command, &mut notes, m, bus, sink) else {
             return DebugEnd::Sink;
-        }
+        };
     }
     DebugEnd::Ended
 }
