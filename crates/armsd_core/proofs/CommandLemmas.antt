@@ -5,7 +5,7 @@ use Rattle.arm7_bus.specs.States.{State}
 use Rattle.armsd_core.specs.declared.command.Command.{Command}
 use Rattle.armsd_core.specs.declared.command.Command.TheVariants.{Break, Step, Go, Mem}
 use Rattle.armsd_core.specs.declared.desk.Notes.{Notes}
-use Rattle.armsd_core.specs.Desks.{Grows, HasRoom, IsDone}
+use Rattle.armsd_core.specs.Desks.{Grows, HasRoom, IsDone, desk_of}
 use Rattle.armsd_core.specs.Points.{without}
 use Rattle.armsd_core.specs.Scripts.{IsInRange}
 use Rattle.armsd_core.specs.Sessions.{Desk, Fails}
@@ -15,6 +15,10 @@ done_as c k d d' before after is h = subst (λ (x : Command). IsDone x d d' befo
 
 pub fails_as : (c k : Command) (d : Desk) (core : ArmState) (s : State) (before after : Option (List ℕ)) (rose : Type 0) → c ≡ k → Fails k d core s before after rose → Fails c d core s before after rose
 fails_as c k d core s before after rose is h = subst (λ (x : Command). Fails x d core s before after rose) (sym is) h
+
+-- the desk with other breakpoints
+pub points_set : (notes : Notes) (core : ArmState) (s : State) (p q : List ℕ) → p ≡ q → desk_of (record notes { points = p }) core s ≡ record (desk_of notes core s) { points = q }
+points_set notes core s p q e = ap (λ (x : List ℕ). desk_of (record notes { points = x }) core s) e
 
 -- ---- numbers in their ranges
 

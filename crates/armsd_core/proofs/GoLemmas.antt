@@ -155,9 +155,9 @@ passes_on points watch core s before n core1 s1 middle None core2 s2 after rose 
   got = got_more before middle after w.text piece w.got got;
 }
 
-pub passes_all : (points : List ℕ) (watch : Option Range32) (core : ArmState) (s : State) (before : Option (List ℕ)) (most n : ℕ) (core' : ArmState) (s' : State) (after : Option (List ℕ)) (rose : Type 0)
-    → n ≡ most → IsPassing points watch core s before n core' s' after → Makes (Goes points watch core s) most (Some reason.Count) most core' s' before after rose
-passes_all points watch core s before most n core' s' after rose all w =
+pub passes_all : (points : List ℕ) (watch : Option Range32) (core : ArmState) (s : State) (before : Option (List ℕ)) (most n : ℕ) (core' : ArmState) (s' : State) (after : Option (List ℕ))
+    → n ≡ most → IsPassing points watch core s before n core' s' after → (text : List ℕ) × Goes points watch core s most reason.Count most text core' s' × Got before after text
+passes_all points watch core s before most n core' s' after all w =
     (w.text, counted (subst (λ (k : ℕ). Passes points watch core s k w.text core' s') all w.passed), w.got)
 
 last_of : (points : List ℕ) (watch : Option Range32) (core : ArmState) (s : State) (most n : ℕ) (text : List ℕ) (core1 : ArmState) (s1 : State) (why : Reason) (made : ℕ) (piece : List ℕ) (core2 : ArmState) (s2 : State)
@@ -194,3 +194,9 @@ passes_last_of points watch core s before most n core1 s1 middle (Some m) end co
     let same : m ≡ end = cc in
     subst (λ (x : Made). Makes (Goes points watch core s) most x.reason (n + x.steps) core2 s2 before after rose') same
     (passes_last points watch core s before most n core1 s1 middle m.reason m.steps core2 s2 after rose rose' few up w h)
+
+-- no step was made whose reason is told, or it ends otherwise
+pub ends_none : (points : List ℕ) (watch : Option Range32) (o : Option Reason) (made : ℕ) (core : ArmState) (s : State) (core' : ArmState) (s' : State) (before after : Option (List ℕ)) (rose : Type 0)
+    → o ≡ None → Makes (Steps core s) 1 o made core' s' before after rose → EndsGo points watch o made core s core' s' before after rose
+ends_none points watch o made core s core' s' before after rose none h =
+    ends points watch o made core s core' s' before after rose (λ e. let bad : None ≡ Some reason.Count = sym none ∙ e in cc) h

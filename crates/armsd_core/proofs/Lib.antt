@@ -10,3 +10,5 @@ pub mod SessionLemmas
 pub mod LawLemmas
 pub mod CutLemmas
 pub mod CommandLemmas
+pub mod DetachLemmas
+pub mod TextLemmas

@@ -1,10 +1,33 @@
 //! Breakpoints.
 
-ghost use Rattle.std.specs.Prelude.{◌≡◌, ℕ, ◌≤◌, ◌<◌, List, [], ◌∷◌, ◌++◌, length};
+ghost use Rattle.std.specs.Prelude.{◌≡◌, ℕ, ◌+◌, ◌≤◌, ◌<◌, List, [], ◌∷◌, ◌++◌, length};
 ghost use Rattle.armsd_core.specs.Points.{is_point, without};
 
 use arrayvec::ArrayVec;
 use std::marker::Model;
+
+/// Keeps a breakpoint but for one.
+fn keep(left: &mut ArrayVec<u32, 64>, point: u32, a: u32)
+    requires { length left.old.items < 64 }
+    ensures items { left.new.items ≡ left.old.items ++ without (point ∷ []) a }
+    ensures few { length left.new.items ≤ length left.old.items + 1 }
+{
+    if point != a {
+        left.push(point);
+    }
+}
+
+/// The breakpoints of a list but for one.
+fn others(points: &[u32], a: u32) -> ArrayVec<u32, 64>
+    requires { length points.now ≤ 64 }
+    ensures { result.items ≡ without points.now a }
+{
+    let mut left = ArrayVec::new();
+    for point in points {
+        keep(&mut left, *point, a);
+    }
+    left
+}
 
 /// At most 64 breakpoints, in the order in which they were set.
 #[derive(Debug, Drop)]
@@ -45,6 +68,6 @@ impl Points {
     pub fn remove(&mut self, a: u32)
         ensures { self.new ≡ without self.old a }
     {
-        self.list.retain(|point| *point != a);
+        self.list = others(self.list.as_slice(), a);
     }
 }

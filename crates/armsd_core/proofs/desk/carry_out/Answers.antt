@@ -1,8 +1,8 @@
-use Rattle.std.proofs.Common.{arith, ap, List, ℕ, refl}
+use Rattle.std.proofs.Common.{arith, ap, refl}
 use Rattle.std.proofs.lemmas.Result.{on_ok_weaker, on_err_weaker}
 use Rattle.armsd_core.specs.declared.command.Command.TheVariants.{Break, Unbreak, Watch, Unwatch, Step, Go, Regs, Mem, Detach, Quit}
 use Rattle.armsd_core.specs.Desks.{desk_of}
-use Rattle.armsd_core.proofs.CommandLemmas.{bytes_of, done_as, fails_as, grows_break, grows_less, grows_none, most_of, room_for, steps_of}
+use Rattle.armsd_core.proofs.CommandLemmas.{bytes_of, done_as, fails_as, grows_break, grows_less, grows_none, most_of, points_set, room_for, steps_of}
 use Rattle.armsd_core.proofs.DeskLemmas.{said_so, set_so, unsaid_so}
 use Rattle.armsd_core.proofs.desk.carry_out.Goals as goal
 
@@ -23,12 +23,12 @@ print_memory-requires-clause-few g c = bytes_of c.args.command c.in-Mem.a c.in-M
 pub returns-in-Break-clause-ok : goal.returns-in-Break-clause-ok
 returns-in-Break-clause-ok g c =
     done_as c.args.command (Break c.in-Break.a) _ _ _ _ c.in-Break.is
-    (set_so _ _ _ (ap (λ (p : List ℕ). desk_of (record c.args.notes.now { points = p }) c.args.m.now.state _) c.add.ensures))
+    (set_so _ _ _ (points_set c.args.notes.now c.args.m.now.state _ _ _ c.add.ensures))
 
 pub returns-in-Unbreak-clause-ok : goal.returns-in-Unbreak-clause-ok
 returns-in-Unbreak-clause-ok g c =
     done_as c.args.command (Unbreak c.in-Unbreak.a) _ _ _ _ c.in-Unbreak.is
-    (set_so _ _ _ (ap (λ (p : List ℕ). desk_of (record c.args.notes.now { points = p }) c.args.m.now.state _) c.remove.ensures))
+    (set_so _ _ _ (points_set c.args.notes.now c.args.m.now.state _ _ _ c.remove.ensures))
 
 pub returns-in-Watch-clause-ok : goal.returns-in-Watch-clause-ok
 returns-in-Watch-clause-ok g c = done_as c.args.command (Watch c.in-Watch.range) _ _ _ _ c.in-Watch.is (set_so _ _ _ refl)

@@ -12,18 +12,18 @@ pub returns-in-Some-clause-failed : goal.returns-in-Some-clause-failed
 returns-in-Some-clause-failed g c =
     on_err_weaker c.print_end.result (λ h. again_fails (Goes c.args.notes.now.points c.args.notes.now.watch c.args.m.now.state _) c.args.n c.args.notes.now c.args.m.now.state _ c.in-Some.why _ _ _ c.in-Some.is h) c.print_end.ensures.failed
 
-pub returns-in-Some-2-clause-ok : goal.returns-in-Some-2-clause-ok
-returns-in-Some-2-clause-ok g c =
+pub returns-in-Some-reason-clause-ok : goal.returns-in-Some-reason-clause-ok
+returns-in-Some-reason-clause-ok g c =
     on_ok_weaker c.tell.result
-    (λ got. told (Goes c.args.notes.now.points c.args.notes.now.watch c.args.m.now.state _) c.args.n c.args.notes.now c.tell.new.self c.args.m.now.state c.go_for-made.new.m.state _ _ c.go_for-made.result.reason c.in-Some-2.why c.go_for-made.result.steps _ _ _ _
-    c.in_default.is c.in-Some-2.is c.tell.ensures.notes (rw c.from.ensures at c.go_for-made.ensures.makes) got)
+    (λ got. told (Goes c.args.notes.now.points c.args.notes.now.watch c.args.m.now.state _) c.args.n c.args.notes.now c.tell.new.self c.args.m.now.state c.go_for-made.new.m.state _ _ c.go_for-made.result.reason c.in-Some-reason.why c.go_for-made.result.steps _ _ _ _
+    c.in_default.is c.in-Some-reason.is c.tell.ensures.notes (rw c.from.ensures at c.go_for-made.ensures.makes) got)
     c.tell.ensures.ok
 
-pub returns-in-Some-2-clause-failed : goal.returns-in-Some-2-clause-failed
-returns-in-Some-2-clause-failed g c =
+pub returns-in-Some-reason-clause-failed : goal.returns-in-Some-reason-clause-failed
+returns-in-Some-reason-clause-failed g c =
     on_err_weaker c.tell.result
-    (λ h. told_fails (Goes c.args.notes.now.points c.args.notes.now.watch c.args.m.now.state _) c.args.n c.args.notes.now c.args.m.now.state c.go_for-made.new.m.state _ _ c.go_for-made.result.reason c.in-Some-2.why c.go_for-made.result.steps _ _ _ _ _ _
-    c.in_default.is c.in-Some-2.is (rw c.from.ensures at c.go_for-made.ensures.makes) (λ rose. omega (arith, c.go_for-made.ensures.faults, rose)) h)
+    (λ h. told_fails (Goes c.args.notes.now.points c.args.notes.now.watch c.args.m.now.state _) c.args.n c.args.notes.now c.args.m.now.state c.go_for-made.new.m.state _ _ c.go_for-made.result.reason c.in-Some-reason.why c.go_for-made.result.steps _ _ _ _ _ _
+    c.in_default.is c.in-Some-reason.is (rw c.from.ensures at c.go_for-made.ensures.makes) (λ rose. omega (arith, c.go_for-made.ensures.faults, rose)) h)
     c.tell.ensures.failed
 
 pub returns-in-None-clause-failed : goal.returns-in-None-clause-failed

@@ -17,3 +17,19 @@ carry_out-requires-clause-range g c = range_at c.args.commands.now c.commands.co
 
 pub carry_out-requires-clause-room : goal.carry_out-requires-clause-room
 carry_out-requires-clause-room g c = room_at c.args.commands.now c.commands.command-index _ c.commands.notes.points c.commands-test.true c.commands.invariant.left
+
+pub commands-preserved : goal.commands-preserved
+commands-preserved g c = record {
+  way = goes_to c.args.commands.now _ _ c.commands.command-index _ _ _ _ _ c.commands-test.true c.in_default.not-Quit c.commands.invariant.way c.in-Ok.ensures.ok;
+  left = left_after c.args.commands.now c.commands.command-index _ c.commands.notes.points c.carry_out.new.notes.points c.commands-test.true c.commands.invariant.left c.carry_out.ensures.grows.points;
+  steps = omega (arith, c.commands.invariant.steps, c.carry_out.ensures.grows.steps);
+  faults = omega (arith, c.commands.invariant.faults, c.carry_out.ensures.faults);
+  valid = c.carry_out.ensures.valid;
+  ready = c.carry_out.ensures.ready;
+}
+
+pub returns-in-Quit-clause-session : goal.returns-in-Quit-clause-session
+returns-in-Quit-clause-session g c = quits_at c.args.commands.now _ _ c.commands.command-index _ _ _ _ c.commands-test.true c.in-Quit.is c.commands.invariant.way
+
+pub returns-clause-session : goal.returns-clause-session
+returns-clause-session g c = ends_at c.args.commands.now _ _ c.commands.command-index _ _ _ c.commands-test.false c.commands.invariant.way

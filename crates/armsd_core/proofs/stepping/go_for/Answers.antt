@@ -20,4 +20,4 @@ steps-preserved g c = record {
 
 pub returns-clause-makes : goal.returns-clause-makes
 returns-clause-makes g c =
-    passes_all c.args.points.now c.args.watch c.args.m.now.state _ _ c.args.steps c.steps.made _ _ _ _ (omega arith) c.steps.invariant.way
+    passes_all c.args.points.now c.args.watch c.args.m.now.state _ _ c.args.steps c.steps.made _ _ _ (omega arith) c.steps.invariant.way
