@@ -1,5 +1,5 @@
 -- The commands of a session, one by one.
-use Rattle.std.proofs.Common.{◌≡◌, ◌∙◌, ℕ, zero, suc, ◌+◌, ◌-◌, ◌<◌, ◌≤◌, ◌==◌, cond, List, [], ◌∷◌, ◌++◌, length, drop, get_or, drop-cons, Option, Some, None, refl, sym, ap, subst, append_assoc, drop_of_length-le, arith}
+use Rattle.std.proofs.Common.{◌≡◌, ◌∙◌, ℕ, zero, suc, ◌+◌, ◌-◌, ◌*◌, ◌<◌, ◌≤◌, ◌==◌, cond, List, [], ◌∷◌, ◌++◌, length, drop, get_or, drop-cons, Option, Some, None, refl, sym, ap, subst, append_assoc, drop_of_length-le, arith}
 use Rattle.std.proofs.lemmas.List.{append-nil}
 use Rattle.sdt_fault.specs.declared.kinds.CommandKind.{CommandKind}
 use Rattle.sdt_fault.specs.declared.kinds.CommandKind.TheVariants as kind
@@ -11,11 +11,12 @@ use Rattle.arm7_run.proofs.StringLemmas.{got_more}
 use Rattle.armsd_core.specs.declared.command.Command.{Command}
 use Rattle.armsd_core.specs.declared.command.Command.TheVariants.{Break, Unbreak, Watch, Unwatch, Step, Go, Regs, Mem, Detach, Quit}
 use Rattle.armsd_core.specs.declared.session.DebugEnd.{DebugEnd}
+use Rattle.armsd_core.specs.declared.desk.Notes.{Notes}
 use Rattle.armsd_core.specs.declared.session.DebugEnd.TheVariants as end
-use Rattle.armsd_core.specs.Desks.{HasRoom, IsDone, sets}
+use Rattle.armsd_core.specs.Desks.{HasRoom, IsDone, desk_of, sets}
 use Rattle.armsd_core.specs.Scripts.{AreGood, IsInRange, devices_behind, flaw, points_behind}
 use Rattle.armsd_core.proofs.DeskLemmas.{raised}
-use Rattle.armsd_core.specs.Sessions.{CarriesOut, Desk, Fails, IsCutOff, IsDebugged, Does, before_quit, up_to}
+use Rattle.armsd_core.specs.Sessions.{CarriesOut, Desk, Fails, IsCutOff, IsDebugged, Does, before_quit, opened, up_to}
 
 -- ---- room for breakpoints
 
@@ -137,45 +138,61 @@ comes_to_end commands d0 before rest d after rose none w =
 
 -- ---- the commands of a list
 
-next : (commands : List Command) (i : ℕ) (x : Command) → i < length commands → drop i commands ≡ get_or commands i x ∷ drop (i + 1) commands
-next commands i x lt =
+next : (commands : List Command) (i : ℕ) (x : Command) → i < length commands → x ≡ get_or commands i x → drop i commands ≡ x ∷ drop (i + 1) commands
+next commands i x lt item =
     let more : suc i ≡ i + 1 = omega arith in
-    drop-cons commands i x lt ∙ ap (λ (k : ℕ). get_or commands i x ∷ drop k commands) more
+    drop-cons commands i x lt ∙ ap (λ (k : ℕ). get_or commands i x ∷ drop k commands) more ∙ ap (λ (c : Command). c ∷ drop (i + 1) commands) (sym item)
 
-pub range_at : (commands : List Command) (i : ℕ) (x : Command) (points : List ℕ) → i < length commands → HasLeft points (drop i commands) → IsInRange (get_or commands i x)
-range_at commands i x points lt h = has_range points (get_or commands i x) (drop (i + 1) commands) (subst (HasLeft points) (next commands i x lt) h)
+pub range_at : (commands : List Command) (i : ℕ) (x : Command) (points : List ℕ) → i < length commands → x ≡ get_or commands i x → HasLeft points (drop i commands) → IsInRange (x)
+range_at commands i x points lt item h = has_range points (x) (drop (i + 1) commands) (subst (HasLeft points) (next commands i x lt item) h)
 
-pub room_at : (commands : List Command) (i : ℕ) (x : Command) (points : List ℕ) → i < length commands → HasLeft points (drop i commands) → HasRoom (get_or commands i x) points
-room_at commands i x points lt h = has_room points (get_or commands i x) (drop (i + 1) commands) (subst (HasLeft points) (next commands i x lt) h)
+pub room_at : (commands : List Command) (i : ℕ) (x : Command) (points : List ℕ) → i < length commands → x ≡ get_or commands i x → HasLeft points (drop i commands) → HasRoom (x) points
+room_at commands i x points lt item h = has_room points (x) (drop (i + 1) commands) (subst (HasLeft points) (next commands i x lt item) h)
 
-pub left_after : (commands : List Command) (i : ℕ) (x : Command) (old new : List ℕ) → i < length commands → HasLeft old (drop i commands) → length new ≤ length old + sets (get_or commands i x)
+pub left_after : (commands : List Command) (i : ℕ) (x : Command) (old new : List ℕ) → i < length commands → x ≡ get_or commands i x → HasLeft old (drop i commands) → length new ≤ length old + sets (x)
     → HasLeft new (drop (i + 1) commands)
-left_after commands i x old new lt h few = has_later old new (get_or commands i x) (drop (i + 1) commands) (subst (HasLeft old) (next commands i x lt) h) few
+left_after commands i x old new lt item h few = has_later old new (x) (drop (i + 1) commands) (subst (HasLeft old) (next commands i x lt item) h) few
 
 pub goes_to : (commands : List Command) (d0 : Desk) (before : Option (List ℕ)) (i : ℕ) (x : Command) (d : Desk) (middle : Option (List ℕ)) (d' : Desk) (after : Option (List ℕ))
-    → i < length commands → (get_or commands i x ≡ Quit → ⊥) → IsUnderWay commands d0 before (drop i commands) d middle → IsDone (get_or commands i x) d d' middle after
+    → i < length commands → x ≡ get_or commands i x → (x ≡ Quit → ⊥) → IsUnderWay commands d0 before (drop i commands) d middle → IsDone (x) d d' middle after
     → IsUnderWay commands d0 before (drop (i + 1) commands) d' after
-goes_to commands d0 before i x d middle d' after lt other w done =
-    goes_on commands d0 before (drop i commands) (get_or commands i x) (drop (i + 1) commands) d middle d' after (next commands i x lt) other w done
+goes_to commands d0 before i x d middle d' after lt item other w done =
+    goes_on commands d0 before (drop i commands) (x) (drop (i + 1) commands) d middle d' after (next commands i x lt item) other w done
 
 pub cuts_at : (commands : List Command) (d0 : Desk) (before : Option (List ℕ)) (i : ℕ) (x : Command) (d : Desk) (middle : Option (List ℕ)) (core : ArmState) (s : State) (after : Option (List ℕ)) (rose : Type 0)
-    → i < length commands → (get_or commands i x ≡ Quit → ⊥) → IsUnderWay commands d0 before (drop i commands) d middle → Fails (get_or commands i x) d core s middle after rose
+    → i < length commands → x ≡ get_or commands i x → (x ≡ Quit → ⊥) → IsUnderWay commands d0 before (drop i commands) d middle → Fails (x) d core s middle after rose
     → IsDebugged commands d0 end.Sink core s before after rose
-cuts_at commands d0 before i x d middle core s after rose lt other w fails =
-    cuts_off commands d0 before (drop i commands) (get_or commands i x) (drop (i + 1) commands) d middle core s after rose (next commands i x lt) other w fails
+cuts_at commands d0 before i x d middle core s after rose lt item other w fails =
+    cuts_off commands d0 before (drop i commands) (x) (drop (i + 1) commands) d middle core s after rose (next commands i x lt item) other w fails
 
 pub quits_at : (commands : List Command) (d0 : Desk) (before : Option (List ℕ)) (i : ℕ) (x : Command) (d : Desk) (after : Option (List ℕ)) (rose : Type 0)
-    → i < length commands → get_or commands i x ≡ Quit → IsUnderWay commands d0 before (drop i commands) d after → IsDebugged commands d0 end.Ended d.core d.bus before after rose
-quits_at commands d0 before i x d after rose lt is w =
+    → i < length commands → x ≡ get_or commands i x → x ≡ Quit → IsUnderWay commands d0 before (drop i commands) d after → IsDebugged commands d0 end.Ended d.core d.bus before after rose
+quits_at commands d0 before i x d after rose lt item is w =
     comes_to_end commands d0 before (drop i commands) d after rose
-    (ap before_quit (next commands i x lt) ∙ ap (λ (c : Command). up_to c (before_quit (drop (i + 1) commands))) is) w
+    (ap before_quit (next commands i x lt item) ∙ ap (λ (c : Command). up_to c (before_quit (drop (i + 1) commands))) is) w
 
 pub ends_at : (commands : List Command) (d0 : Desk) (before : Option (List ℕ)) (i : ℕ) (d : Desk) (after : Option (List ℕ)) (rose : Type 0)
     → length commands ≤ i → IsUnderWay commands d0 before (drop i commands) d after → IsDebugged commands d0 end.Ended d.core d.bus before after rose
 ends_at commands d0 before i d after rose le w = comes_to_end commands d0 before (drop i commands) d after rose (ap before_quit (drop_of_length-le commands le)) w
 
 pub cuts_up : (commands : List Command) (d0 : Desk) (before : Option (List ℕ)) (i : ℕ) (x : Command) (d : Desk) (middle : Option (List ℕ)) (core : ArmState) (s : State) (after : Option (List ℕ)) (rose rose' : Type 0)
-    → i < length commands → (get_or commands i x ≡ Quit → ⊥) → (rose → rose') → IsUnderWay commands d0 before (drop i commands) d middle → Fails (get_or commands i x) d core s middle after rose
+    → i < length commands → x ≡ get_or commands i x → (x ≡ Quit → ⊥) → (rose → rose') → IsUnderWay commands d0 before (drop i commands) d middle → Fails (x) d core s middle after rose
     → IsDebugged commands d0 end.Sink core s before after rose'
-cuts_up commands d0 before i x d middle core s after rose rose' lt other up w fails =
-    cuts_at commands d0 before i x d middle core s after rose' lt other w (raised (get_or commands i x) d core s middle after rose rose' up fails)
+cuts_up commands d0 before i x d middle core s after rose rose' lt item other up w fails =
+    cuts_at commands d0 before i x d middle core s after rose' lt item other w (raised (x) d core s middle after rose rose' up fails)
+
+-- ---- the beginning
+
+opened_is : (notes : Notes) (core : ArmState) (s : State) → notes ≡ record { points = []; watch = None; steps = 0; ended = None } → desk_of notes core s ≡ opened core s
+opened_is notes core s e = ap (λ (n : Notes). desk_of n core s) e
+
+pub begins_with : (commands : List Command) (notes : Notes) (core : ArmState) (s : State) (before : Option (List ℕ)) → notes ≡ record { points = []; watch = None; steps = 0; ended = None }
+    → IsUnderWay commands (opened core s) before commands (desk_of notes core s) before
+begins_with commands notes core s before e =
+    subst (λ (d : Desk). IsUnderWay commands (opened core s) before commands d before) (sym (opened_is notes core s e)) (sets_out commands (opened core s) before)
+
+pub has_all_of : (devices : ℕ) (commands : List Command) (notes : Notes) → notes ≡ record { points = []; watch = None; steps = 0; ended = None } → AreGood 64 devices commands → HasLeft notes.points commands
+has_all_of devices commands notes e good = subst (λ (n : Notes). HasLeft n.points commands) (sym e) (has_all devices commands good)
+
+pub none_made : (notes : Notes) → notes ≡ record { points = []; watch = None; steps = 0; ended = None } → notes.steps ≤ 0 * 1000000000
+none_made notes e = let none : notes.steps ≡ 0 = ap (λ (n : Notes). n.steps) e in omega arith

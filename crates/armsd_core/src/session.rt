@@ -44,9 +44,10 @@ pub fn debug_for<K: Sink>(
         if let Command::Quit = command {
             return DebugEnd::Ended;
         }
-        let Ok(()) = carry_out(*command, &mut notes, m, bus, sink) else {
-            return DebugEnd::Sink;
-        };
+        match carry_out(*command, &mut notes, m, bus, sink) {
+            Ok(()) => {}
+            Err(_) => return DebugEnd::Sink,
+        }
     }
     DebugEnd::Ended
 }
