@@ -250,8 +250,7 @@ partly Quit d core s before after rose h = absurd h
 
 pub cut_off_is_a_beginning : CutOffIsABeginning
 cut_off_is_a_beginning commands d core s before after was now h =
-    let x = partly h.last h.desk core s h.middle after (Rose was now) h.fails in
-    (
+    let x = partly h.last h.desk core s h.middle after (Rose was now) h.fails in (
       h.front ++ x.short ∷ [],
       record { front = h.front; last = h.last; shortened = x.short; rest = h.rest; whole = h.split; is = refl; less = x.less },
       x.counted,

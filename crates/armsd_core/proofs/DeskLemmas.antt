@@ -65,8 +65,7 @@ told lead most old new core0 core s0 s None why made before middle after rose on
 told lead most old new core0 core s0 s (Some x) why made before middle after rose on is keeps (text, leads, got1) got =
     let same : x ≡ why = cc in
     let d : Desk = desk_of old core0 s0 in
-    let leads' = subst (λ (w : Reason). lead most w made text core s) same leads in
-    (
+    let leads' = subst (λ (w : Reason). lead most w made text core s) same leads in (
       text ++ line_at (moved d why made core s) why,
       subst (λ (n : Notes). MovesOn lead most old.ended d (text ++ line_at (moved d why made core s) why) (desk_of n core s)) (sym keeps) (on_told lead most d old.ended why made text core s on leads'),
       got_more before middle after text (line_at (moved d why made core s) why) got1 got,

@@ -24,11 +24,10 @@ use Rattle.armsd_core.specs.Reasons.{lasting, reason_of}
 pub counts : (n made : ℕ) (core : ArmState) (s : State) (text : List ℕ) (core' : ArmState) (s' : State)
     → Steps core s n reason.Count made text core' s' → (made ≡ n) × Leads core s n text core' s'
 counts n made core s text core' s' (stop.Budget, e, runs) =
-    let (all, is, c, b) = runs.ends in
-    (
+    let (all, is, c, b) = runs.ends in (
       is ∙ all,
       subst (λ (k : ℕ). Leads core s k text core' s') all
-      (subst (λ (x : ArmState). Leads core s runs.count text x s') (sym c) (subst (λ (x : State). Leads core s runs.count text runs.core1 x) (sym b) runs.leads)),
+          (subst (λ (x : ArmState). Leads core s runs.count text x s') (sym c) (subst (λ (x : State). Leads core s runs.count text runs.core1 x) (sym b) runs.leads)),
     )
 counts n made core s text core' s' (stop.Exit, e, runs) = absurd (cc)
 counts n made core s text core' s' (stop.Unpredictable a w, e, runs) = absurd (cc)
@@ -80,8 +79,7 @@ alone : (core : ArmState) (s : State) (made : ℕ) (core' : ArmState) (s' : Stat
     → AreChoked (Steps core s) 1 made core' s' before after rose → (made ≡ 1) × Chokes core s core' s' before after rose
 alone core s made core' s' before after rose c =
     let few = c.few in
-    let none : c.count ≡ 0 = omega arith in
-    (
+    let none : c.count ≡ 0 = omega arith in (
       c.made_is ∙ ap (λ (k : ℕ). k + 1) none,
       alone_by c.count core s c.text c.core1 c.s1 core' s' before c.middle after rose none (counts c.count c.count core s c.text c.core1 c.s1 c.leads).1 c.got c.chokes,
     )

@@ -76,18 +76,17 @@ ends-later k most n stop.Sink core s made core' s' h = absurd h
 
 later : (core : ArmState) (s : State) (k : ℕ) (t : List ℕ) (core1 : ArmState) (s1 : State) (most : ℕ) (why : Reason) (made : ℕ) (u : List ℕ) (core2 : ArmState) (s2 : State)
     → Leads core s k t core1 s1 → Steps core1 s1 most why made u core2 s2 → Steps core s (k + most) why (k + made) (t ++ u) core2 s2
-later core s k t core1 s1 most why made u core2 s2 a (w, e, r) =
-    (
-      w,
-      e,
-      record {
-        count = k + r.count;
-        core1 = r.core1;
-        s1 = r.s1;
-        leads = join core s k t core1 s1 r.count u r.core1 r.s1 a r.leads;
-        ends = ends-later k most r.count w r.core1 r.s1 made core2 s2 r.ends;
-      },
-    )
+later core s k t core1 s1 most why made u core2 s2 a (w, e, r) = (
+  w,
+  e,
+  record {
+    count = k + r.count;
+    core1 = r.core1;
+    s1 = r.s1;
+    leads = join core s k t core1 s1 r.count u r.core1 r.s1 a r.leads;
+    ends = ends-later k most r.count w r.core1 r.s1 made core2 s2 r.ends;
+  },
+)
 
 behind-one : (n m : ℕ) → n + (m + 1) ≡ n + m + 1
 behind-one n m = omega arith
@@ -271,8 +270,7 @@ split : (front : List Command) (i : ℕ) (rest : List Command) (d : Desk) (text 
 split [] i rest d text d' (m, said, last, (silent, is), more, t) =
     (d, [], last, (refl, refl), subst (λ (x : Desk). CarriesOut rest x last d') is more, t ∙ ap (λ (l : List ℕ). l ++ last) silent)
 split (c ∷ front) i rest d text d' (k, said, more, does, others, t) =
-    let (m, first, last, before, behind, e) = split front i rest k more d' others in
-    (
+    let (m, first, last, before, behind, e) = split front i rest k more d' others in (
       m,
       said ++ first,
       last,

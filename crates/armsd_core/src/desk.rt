@@ -50,12 +50,7 @@ impl Notes {
     }
 
     /// Prints where the machine is, the steps so far, and why the last ones ended.
-    fn print_end<K: Sink>(
-        &self,
-        m: &Machine,
-        sink: &mut K,
-        why: Reason,
-    ) -> Result<(), SinkError>
+    fn print_end<K: Sink>(&self, m: &Machine, sink: &mut K, why: Reason) -> Result<(), SinkError>
         ensures ok { OnOk result (Got (K.bytes sink.old) (K.bytes sink.new) (texts.stop_line (register m.now.state 15) self.now.steps why)) }
         ensures failed { OnErr result (Rose (K.faults sink.old) (K.faults sink.new) × GotPart (K.bytes sink.old) (K.bytes sink.new) (texts.stop_line (register m.now.state 15) self.now.steps why)) }
         ensures faults { K.faults sink.old ≤ K.faults sink.new }
