@@ -176,10 +176,10 @@ unsaid c text d core s before after rose less does h =
     record { short = c; less = less; said = text; desk = d; does = does; same_core = h.same_core; same_bus = h.same_bus; part = h.part; counted = h.counted }
 
 -- of a command that makes steps: the command of a number, the steps of a number, and steps that were stopped
-record IsMover (make : ℕ → Command) (lead : Lead) (d : Desk) : Type 0 where
+record IsMover (make : ℕ → Command) (lead : Lead) (d : Desk) (rose : Type 0) : Type 0 where
   shorter : (m n : ℕ) → m ≤ n → IsShortened (make m) (make n)
   does : (n : ℕ) (said : List ℕ) (d' : Desk) → MovesOn lead n d.ended d said d' → Does (make n) d said d'
-  stopped : (most made : ℕ) (core : ArmState) (s : State) (before after : Option (List ℕ)) (rose : Type 0)
+  stopped : (most made : ℕ) (core : ArmState) (s : State) (before after : Option (List ℕ))
       → AreChoked lead most made core s before after rose → IsStopped lead made core s before after
 
 on-moves : (lead : Lead) (most : ℕ) (d : Desk) (o : Option Reason) (why : Reason) (made : ℕ) (text : List ℕ) (core : ArmState) (s : State)
@@ -194,9 +194,9 @@ made-few : (count made n : ℕ) → count < n → made ≡ count + 1 → made �
 made-few count made n few is = omega arith
 
 partly-in : (make : ℕ → Command) (lead : Lead) (n : ℕ) (d : Desk) (core : ArmState) (s : State) (before after : Option (List ℕ)) (rose : Type 0)
-    → IsMover make lead d → d.ended ≡ None → FailsIn lead n d core s before after rose → IsPartly (make n) d core s before after rose
+    → IsMover make lead d rose → d.ended ≡ None → FailsIn lead n d core s before after rose → IsPartly (make n) d core s before after rose
 partly-in make lead n d core s before after rose m on (chokes made c) =
-    let x = m.stopped n made core s before after rose c in
+    let x = m.stopped n made core s before after c in
     record {
       short = make made;
       less = m.shorter made n (made-few c.count made n c.few c.made_is);
@@ -225,7 +225,7 @@ on-again lead n d None why e = absurd (cc)
 on-again lead n d (Some x) why e = let same : why ≡ x = cc in (ap (line_at d) same, refl)
 
 partly-on : (make : ℕ → Command) (lead : Lead) (n : ℕ) (d : Desk) (o : Option Reason) (core : ArmState) (s : State) (before after : Option (List ℕ)) (rose : Type 0)
-    → IsMover make lead d → d.ended ≡ o → FailsOn lead n o d core s before after rose → IsPartly (make n) d core s before after rose
+    → IsMover make lead d rose → d.ended ≡ o → FailsOn lead n o d core s before after rose → IsPartly (make n) d core s before after rose
 partly-on make lead n d None core s before after rose m e h = partly-in make lead n d core s before after rose m e h
 partly-on make lead n d (Some why) core s before after rose m e h =
     unsaid (make n) (line_at d why) d core s before after rose (m.shorter n n (same-number n)) (m.does n (line_at d why) d (on-again lead n d d.ended why e)) h
@@ -237,10 +237,10 @@ partly (Watch r) d core s before after rose h = absurd h
 partly Unwatch d core s before after rose h = absurd h
 partly (Step n) d core s before after rose h =
     partly-on (λ k. Step k) (Steps d.core d.bus) n d d.ended core s before after rose
-    (record { shorter = λ m k le. le; does = λ k said d' x. x; stopped = step-stopped d.core d.bus }) refl h
+    (record { shorter = λ m k le. le; does = λ k said d' x. x; stopped = λ most made c s b a x. step-stopped d.core d.bus most made c s b a rose x }) refl h
 partly (Go n) d core s before after rose h =
     partly-on (λ k. Go k) (Goes d.points d.watch d.core d.bus) n d d.ended core s before after rose
-    (record { shorter = λ m k le. le; does = λ k said d' x. x; stopped = go-stopped d.points d.watch d.core d.bus }) refl h
+    (record { shorter = λ m k le. le; does = λ k said d' x. x; stopped = λ most made c s b a x. go-stopped d.points d.watch d.core d.bus most made c s b a rose x }) refl h
 partly Regs d core s before after rose h = unsaid Regs _ d core s before after rose refl (refl, refl) h
 partly (Mem a n) d core s before after rose h = unsaid (Mem a n) _ d core s before after rose refl (refl, refl) h
 partly (Detach i) d core s before after rose h = absurd h

@@ -248,16 +248,15 @@ ran-still d m d' a l = record {
       (subst (λ (x : State). IsOneRun d.core d.bus a.count m.ended a.printed m.core x) (sym l.bus) a.run));
 }
 
+ran-by : (d m d' : Desk) (o : Option Reason) → m.ended ≡ o → Ran d m → (m.ended ≡ None → Ran m d') → ((why : Reason) → m.ended ≡ Some why → IsLeft m d') → Ran d d'
+ran-by d m d' None on a f h = ran-on d m d' on a (f on)
+ran-by d m d' (Some why) on a f h = ran-still d m d' a (h why on)
+
 session-ran : (cs : List Command) (d : Desk) (text : List ℕ) (d' : Desk) → d.ended ≡ None → list_any is_detach cs ≡ false → CarriesOut cs d text d' → Ran d d'
 session-ran [] d text d' e f h = ran-none d d' e (left-as d d d' h.1 refl refl refl refl)
-session-ran (c ∷ cs) d text d' e f (m, said, rest, does, more, t) = go m.ended refl
-  where
-    both : (is_detach c ≡ false) × (list_any is_detach cs ≡ false)
-    both = either-false (is_detach c) (list_any is_detach cs) f
-
-    go : (o : Option Reason) → m.ended ≡ o → Ran d d'
-    go None on = ran-on d m d' on (ran c d said m e both.0 does) (session-ran cs m rest d' on both.1 more)
-    go (Some why) on = ran-still d m d' (ran c d said m e both.0 does) (all-still cs m why rest d' on both.1 more)
+session-ran (c ∷ cs) d text d' e f (m, said, rest, does, more, t) =
+    let both = either-false (is_detach c) (list_any is_detach cs) f in
+    ran-by d m d' m.ended refl (ran c d said m e both.0 does) (λ on. session-ran cs m rest d' on both.1 more) (λ why on. all-still cs m why rest d' on both.1 more)
 
 pub session_is_one_run : SessionIsOneRun
 session_is_one_run cs d text d' e f h = let r = session-ran cs d text d' e f h in (r.count, r.printed, r.steps, r.run)
