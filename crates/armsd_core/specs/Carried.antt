@@ -1,22 +1,16 @@
 -- What the steps of a debugger leave, over a sink that takes what they print or a beginning of it. This project's.
-use Rattle.std.specs.Prelude.{◌≡◌, ℕ, ◌+◌, ◌<◌, true, false, List, Option, Some, None}
+use Rattle.std.specs.Prelude.{◌≡◌, ℕ, ◌+◌, ◌<◌, ◌⊎◌, List, Option, Some, None}
 use Rattle.sdt_outside.specs.Sinks.{Got}
 use Rattle.sdt_word.specs.declared.ranges.Range32.{Range32}
 use Rattle.arm7_model.specs.declared.state.ArmState.{ArmState}
-use Rattle.arm7_bus.specs.Meets.{IsLeast, IsNowhere}
+use Rattle.arm7_model.specs.Registers.{register}
 use Rattle.arm7_bus.specs.States.{State}
-use Rattle.arm7_run.specs.Runs.{Chokes}
+use Rattle.arm7_run.specs.Runs.{Chokes, Leads}
 use Rattle.armsd_core.specs.declared.reason.Reason.{Reason}
 use Rattle.armsd_core.specs.declared.reason.Reason.TheVariants as reason
-use Rattle.armsd_core.specs.Goes.{is_hit}
-use Rattle.armsd_core.specs.Points.{is_point}
-
--- why a Go pauses behind a step that goes on, by the address where it leads and by its stores
-abbrev pub IsPause : List ℕ → Option Range32 → ℕ → List (ℕ × ℕ) → Option Reason → Type 0
-IsPause points watch pc stores (Some (reason.Watch a)) = IsLeast (is_hit watch stores) a
-IsPause points watch pc stores (Some reason.Break) = IsNowhere (is_hit watch stores) × (is_point points pc ≡ true)
-IsPause points watch pc stores (Some other) = ⊥
-IsPause points watch pc stores None = IsNowhere (is_hit watch stores) × (is_point points pc ≡ false)
+use Rattle.armsd_core.specs.declared.stepping.Made.{Made}
+use Rattle.armsd_core.specs.Goes.{IsPause, Steps}
+use Rattle.armsd_core.specs.Reasons.{lasting}
 
 -- the last step of at most so many choked, and the others went on, with their text in the sink
 pub record AreChoked (lead : ℕ → Reason → ℕ → List ℕ → ArmState → State → Type 0) (most made : ℕ) (core : ArmState) (s : State) (before after : Option (List ℕ)) (rose : Type 0) : Type 0 where
@@ -35,3 +29,21 @@ pub record AreChoked (lead : ℕ → Reason → ℕ → List ℕ → ArmState �
 abbrev pub Makes : (ℕ → Reason → ℕ → List ℕ → ArmState → State → Type 0) → ℕ → Option Reason → ℕ → ArmState → State → Option (List ℕ) → Option (List ℕ) → Type 0 → Type 0
 Makes lead most (Some told) made core s before after rose = (text : List ℕ) × lead most told made text core s × Got before after text
 Makes lead most None made core s before after rose = AreChoked lead most made core s before after rose
+
+-- a step ends a Go: it pauses behind it, or the machine stops for good
+abbrev pub IsLast : List ℕ → Option Range32 → Reason → ℕ → List ℕ → ArmState → State → ArmState → State → Type 0
+IsLast points watch why made piece core s core' s' =
+    ((made ≡ 1) × Leads core s 1 piece core' s' × IsPause points watch (register core' 15) s'.contents.stores (Some why))
+    ⊎ ((lasting why ≡ Some why) × Steps core s 1 why made piece core' s')
+
+-- so it does for a reason, or the sink failed at its text
+abbrev pub EndsGo : List ℕ → Option Range32 → Option Reason → ℕ → ArmState → State → ArmState → State → Option (List ℕ) → Option (List ℕ) → Type 0 → Type 0
+EndsGo points watch (Some why) made core s core' s' before after rose =
+    (piece : List ℕ) × IsLast points watch why made piece core s core' s' × Got before after piece
+EndsGo points watch None made core s core' s' before after rose = (made ≡ 1) × Chokes core s core' s' before after rose
+
+-- a step of a Go, and what becomes of the Go behind it: it goes on, or ends
+abbrev pub GoTurn : List ℕ → Option Range32 → Option Made → ArmState → State → ArmState → State → Option (List ℕ) → Option (List ℕ) → Type 0 → Type 0
+GoTurn points watch None core s core' s' before after rose =
+    (piece : List ℕ) × Leads core s 1 piece core' s' × IsPause points watch (register core' 15) s'.contents.stores None × Got before after piece
+GoTurn points watch (Some made) core s core' s' before after rose = EndsGo points watch made.reason made.steps core s core' s' before after rose

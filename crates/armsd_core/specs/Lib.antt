@@ -6,3 +6,7 @@ pub mod Reasons
 pub mod Points
 pub mod Goes
 pub mod Carried
+pub mod Texts
+pub mod Sessions
+pub mod Desks
+pub mod SessionLaws

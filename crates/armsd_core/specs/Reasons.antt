@@ -13,3 +13,13 @@ reason_of (stop.Unpredictable at w) = Some (reason.Unpredictable w)
 reason_of (stop.BadString a) = Some (reason.BadString a)
 reason_of (stop.NoFrame a) = Some (reason.NoFrame a)
 reason_of stop.Sink = None
+
+-- the reason by which the machine stops for good, where it does
+abbrev pub lasting : Reason → Option Reason
+lasting reason.Count = None
+lasting reason.Break = None
+lasting (reason.Watch a) = None
+lasting reason.Exit = Some reason.Exit
+lasting (reason.Unpredictable w) = Some (reason.Unpredictable w)
+lasting (reason.BadString a) = Some (reason.BadString a)
+lasting (reason.NoFrame a) = Some (reason.NoFrame a)

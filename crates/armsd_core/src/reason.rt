@@ -37,3 +37,15 @@ pub fn reason_of(stop: Stop) -> Option<Reason>
         Stop::Sink => None,
     }
 }
+
+/// The reason by which the machine stops for good, where it does.
+pub fn lasting(why: Reason) -> Option<Reason>
+    ensures { result ≡ reasons.lasting why }
+{
+    match why {
+        Reason::Count | Reason::Break | Reason::Watch(_) => None,
+        Reason::Exit | Reason::Unpredictable(_) | Reason::BadString(_) | Reason::NoFrame(_) => {
+            Some(why)
+        }
+    }
+}

@@ -1,14 +1,14 @@
 //! The steps of a Step, and why a Go pauses.
 
-ghost use Rattle.std.specs.Prelude.{◌≡◌, ◌≤◌, map};
+ghost use Rattle.std.specs.Prelude.{◌≡◌, ◌≤◌, map, IfSome};
 ghost use Rattle.sdt_outside.specs.Counts.{Rose};
 ghost use Rattle.arm7_model.specs.Registers.{IsValid, register};
 ghost use Rattle.arm7_bus.specs.Meets.{IsFound};
 ghost use Rattle.arm7_bus.specs.Places.{place_of};
 ghost use Rattle.arm7_transfers.specs.Ready.{IsReady};
 ghost use Rattle.arm7_transfers.specs.Views.{state_of};
-ghost use Rattle.armsd_core.specs.Carried.{IsPause, Makes};
-ghost use Rattle.armsd_core.specs.Goes.{Steps, is_hit};
+ghost use Rattle.armsd_core.specs.Carried.{GoTurn, Makes};
+ghost use Rattle.armsd_core.specs.Goes.{Goes, IsPause, Steps, is_hit};
 
 use crate::points::Points;
 use crate::reason::{Reason, reason_of};
@@ -78,6 +78,7 @@ pub fn step_for<K: Sink>(m: &mut Machine, bus: &mut Bus, sink: &mut K, steps: u6
     requires valid { IsValid m.old.state }
     requires ready { IsReady (state_of base size state touched bus.old) }
     ensures makes { Makes (Steps m.old.state (state_of base size state touched bus.old)) steps result.reason result.steps m.new.state (state_of base size state touched bus.new) (K.bytes sink.old) (K.bytes sink.new) (Rose (K.faults sink.old) (K.faults sink.new)) }
+    ensures few { result.steps ≤ steps }
     ensures faults { K.faults sink.old ≤ K.faults sink.new }
     ensures valid { IsValid m.new.state }
     ensures ready { IsReady (state_of base size state touched bus.new) }
@@ -86,5 +87,65 @@ pub fn step_for<K: Sink>(m: &mut Machine, bus: &mut Bus, sink: &mut K, steps: u6
     Made {
         reason: reason_of(end.stop),
         steps: end.steps,
+    }
+}
+
+/// Makes a step of a Go; None where the Go goes on behind it.
+fn go_on<K: Sink>(
+    m: &mut Machine,
+    bus: &mut Bus,
+    sink: &mut K,
+    points: &Points,
+    watch: Option<Range32>,
+) -> Option<Made>
+    requires valid { IsValid m.old.state }
+    requires ready { IsReady (state_of base size state touched bus.old) }
+    ensures turns { GoTurn points.now watch result m.old.state (state_of base size state touched bus.old) m.new.state (state_of base size state touched bus.new) (K.bytes sink.old) (K.bytes sink.new) (Rose (K.faults sink.old) (K.faults sink.new)) }
+    ensures few { IfSome result (λ end. end.steps ≤ 1) }
+    ensures faults { K.faults sink.old ≤ K.faults sink.new }
+    ensures valid { IsValid m.new.state }
+    ensures ready { IsReady (state_of base size state touched bus.new) }
+{
+    let one = step_for(m, bus, sink, 1);
+    let Some(Reason::Count) = one.reason else {
+        return Some(one);
+    };
+    match pause(m, bus, points, watch) {
+        None => None,
+        Some(why) => Some(Made {
+            reason: Some(why),
+            steps: 1,
+        }),
+    }
+}
+
+/// Makes at most so many steps, up to a stop of the machine, a breakpoint where a step leads, or a store to the watched range.
+pub fn go_for<K: Sink>(
+    m: &mut Machine,
+    bus: &mut Bus,
+    sink: &mut K,
+    points: &Points,
+    watch: Option<Range32>,
+    steps: u64,
+) -> Made
+    requires valid { IsValid m.old.state }
+    requires ready { IsReady (state_of base size state touched bus.old) }
+    ensures makes { Makes (Goes points.now watch m.old.state (state_of base size state touched bus.old)) steps result.reason result.steps m.new.state (state_of base size state touched bus.new) (K.bytes sink.old) (K.bytes sink.new) (Rose (K.faults sink.old) (K.faults sink.new)) }
+    ensures few { result.steps ≤ steps }
+    ensures faults { K.faults sink.old ≤ K.faults sink.new }
+    ensures valid { IsValid m.new.state }
+    ensures ready { IsReady (state_of base size state touched bus.new) }
+{
+    'steps: for made in 0..steps {
+        if let Some(end) = go_on(m, bus, sink, points, watch) {
+            return Made {
+                reason: end.reason,
+                steps: made + end.steps,
+            };
+        }
+    }
+    Made {
+        reason: Some(Reason::Count),
+        steps,
     }
 }
