@@ -1,5 +1,5 @@
 -- Where a build asks for files, `asm` of each of its sources asks for the file of its object, unless that is too long.
-use Rattle.std.proofs.Common.{◌≡◌, inl, inr, ℕ, ◌^◌, nat_lt, List, [], ◌∷◌, Bool, true, false, cond, Option, Some, None, Result, Ok, Err, refl, sym, ap, ◌∙◌, subst}
+use Rattle.std.proofs.Common.{◌≡◌, ◌⊎◌, inl, inr, ℕ, ◌^◌, nat_lt, List, [], ◌∷◌, Bool, true, false, cond, Option, Some, None, Result, Ok, Err, refl, sym, ap, ◌∙◌, subst}
 use Rattle.std.specs.List.{AllByRecursion}
 use Rattle.sdt_fault.specs.declared.kinds.Quantity.TheVariants.{FileBytes}
 use Rattle.sdt_fault.specs.declared.refusal.Refusal.{Refusal}
@@ -85,14 +85,13 @@ module _ (s : Reads) (files : Files) (told : s.told ≡ Some files) where
   each : (names contents : List (List ℕ)) (xs : Inputs) → inputs_of files names ≡ Ok contents → InputsAre s true names contents (Ok xs)
       → AllByRecursion (λ name. is_source_name name ≡ true → AsksAlone s name) names
   each [] contents xs read h = tt
-  each (name ∷ names) contents xs read h = by (read_first name names contents read) where
-    by : IsRead name names contents → AllByRecursion (λ q. is_source_name q ≡ true → AsksAlone s q) (name ∷ names)
-    by r =
-        let k : InputsAre s true (name ∷ names) (r.text ∷ r.rest) (Ok xs) = subst (λ (cs : List (List ℕ)). InputsAre s true (name ∷ names) cs (Ok xs)) r.all h in
-        let f = first_is s true name r.text (InputsAre s true names r.rest) k.0 xs k.1 k.2 in (
-          λ e. alone name r.text f.value r.there (subst (λ (b : Bool). InputBy s b name r.text (Ok f.value)) e f.is),
-          each names r.rest f.rest r.others f.others,
-        )
+  each (name ∷ names) contents xs read h =
+      let r = read_first name names contents read in
+      let k : InputsAre s true (name ∷ names) (r.text ∷ r.rest) (Ok xs) = subst (λ (cs : List (List ℕ)). InputsAre s true (name ∷ names) cs (Ok xs)) r.all h in
+      let f = first_is s true name r.text (InputsAre s true names r.rest) k.0 xs k.1 k.2 in (
+        λ e. alone name r.text f.value r.there (subst (λ (b : Bool). InputBy s b name r.text (Ok f.value)) e f.is),
+        each names r.rest f.rest r.others f.others,
+      )
 
   -- behind the description, where there is one
   under_names : (p : LinkPlacement) (names contents : List (List ℕ)) → inputs_of files (read_by p names) ≡ Ok contents → inputs_of files names ≡ Ok (inputs_in p contents)
