@@ -16,6 +16,7 @@ mod BuildLaws
 mod BuildClauses
 mod BuildSources
 mod BurnLinked
+mod BurnStarts
 mod EndLemmas
 mod EndsLemmas
 mod ExactLemmas

@@ -71,10 +71,10 @@ segments_needed file (s ∷ ss) x v all e = go (covers s.address (length (bytes_
         either true p = refl
         either false p = p
 
-even : (n : ℕ) → n % 4 ≡ 0 → (n % 2 == 1) ≡ false
+pub even : (n : ℕ) → n % 4 ≡ 0 → (n % 2 == 1) ≡ false
 even n h = let low : n % 2 ≡ 0 = omega arith in rw low refl
 
-whole : (n : ℕ) → n % 4 ≡ 0 → n - n % 2 ≡ n
+pub whole : (n : ℕ) → n % 4 ≡ 0 → n - n % 2 ≡ n
 whole n h = omega arith
 
 module _ (law : ElfLoadLaw) (i : Image) (view : ByteMap) (file : List ℕ) (e : Elf) (reads : ReadsElf file e) (entry : e.entry ≡ i.start) (loads : elf_load file e ≡ map_of (segments_of i)) (r : Reaches i view) where

@@ -111,7 +111,7 @@ module _ (w : RunWords) (whole : (banks : List MemoryBank) → AreBanks w banks 
 -- ---- the clauses of the top call
 
 -- the answer to words that ask for a run
-run_answers : (words : List (List ℕ)) (o : Outside) (seats left : List Seat) (a : Answer) → Commanded (command_of words) o seats left a → (r : RunWords) → command_of words ≡ Ok (command.Run r) → RunAnswers r o seats left a
+pub run_answers : (words : List (List ℕ)) (o : Outside) (seats left : List Seat) (a : Answer) → Commanded (command_of words) o seats left a → (r : RunWords) → command_of words ≡ Ok (command.Run r) → RunAnswers r o seats left a
 unfolding Commanded
 run_answers words o seats left a commanded r is = subst (λ (x : Result Command ℕ). Commanded x o seats left a) is commanded
 

@@ -5,7 +5,7 @@ ghost use Rattle.std.specs.Prelude.{◌≡◌, map, string_bytes, false};
 ghost use Rattle.arm7_bus.specs.Seats.{seats_by};
 ghost use Rattle.sdt_toolkit.specs.Big.{MakesBig};
 ghost use Rattle.sdt_toolkit.specs.Builds.{BuildsAsLinked};
-ghost use Rattle.sdt_toolkit.specs.Burns.{BurnsAsLinked};
+ghost use Rattle.sdt_toolkit.specs.Burns.{BurnsAsLinked, StartsAsBurned};
 ghost use Rattle.sdt_toolkit.specs.Commands.{Commanded, Ends, is_run, may_print};
 ghost use Rattle.sdt_toolkit.specs.Exact.{Exact};
 ghost use Rattle.sdt_toolkit.specs.Headline.{Headline};
@@ -21,6 +21,7 @@ use scatter_text::reading_law;
 use sdt_fault::answer::Answer;
 use sdt_outside::{Device, Sink, Store};
 use std::alloc::Global;
+use tool_run::burn_load_law;
 
 mod assemble;
 mod big;
@@ -70,6 +71,11 @@ pub fn run_tool<S: Store, K: Sink>(
         (K.bytes sink.old) (K.bytes sink.new) (S.read_faults store.old) (S.read_faults store.new)
         (S.write_faults store.old) (S.write_faults store.new) (K.faults sink.old) (K.faults sink.new))
         (seats_by base size state touched devices.old.items) (seats_by base size state touched devices.new.items) result }
+    // So does a run of the text that `burn` wrote of it.
+    ensures burned { StartsAsBurned (command_of (map string_bytes words.now)) (outside_of (S.files store.old) (S.files store.new)
+        (K.bytes sink.old) (K.bytes sink.new) (S.read_faults store.old) (S.read_faults store.new)
+        (S.write_faults store.old) (S.write_faults store.new) (K.faults sink.old) (K.faults sink.new))
+        (seats_by base size state touched devices.old.items) (seats_by base size state touched devices.new.items) result }
     // A run goes by the machine's steps, and leaves each device that none of them accesses as time alone makes it.
     ensures steps { RunsBySteps (command_of (map string_bytes words.now)) (outside_of (S.files store.old) (S.files store.new)
         (K.bytes sink.old) (K.bytes sink.new) (S.read_faults store.old) (S.read_faults store.new)
@@ -112,6 +118,8 @@ pub fn run_tool<S: Store, K: Sink>(
     refusals_law();
     laws::builds_are_links();
     laws::linked_burns();
+    burn_load_law();
+    laws::commands_start();
     laws::linked_runs_start();
     commands::command(alloc, words, store, sink, devices)
 }

@@ -3,6 +3,7 @@ use Rattle.std.specs.Prelude.{string_bytes}
 use Rattle.sdt_toolkit.proofs.BigClauses.{big_told}
 use Rattle.sdt_toolkit.proofs.BuildClauses.{builds_told}
 use Rattle.sdt_toolkit.proofs.BurnLinked.{burns_told}
+use Rattle.sdt_toolkit.proofs.BurnStarts.{burned_start}
 use Rattle.sdt_toolkit.proofs.EndsLemmas.{ends_of}
 use Rattle.sdt_toolkit.proofs.ExactLemmas.{exact_of}
 use Rattle.sdt_toolkit.proofs.HeadlineLemmas.{headline_of}
@@ -53,3 +54,7 @@ returns-clause-refusals g c = refusals_told c.refusals_law.ensures (command_of (
 
 pub returns-clause-big : goal.returns-clause-big
 returns-clause-big g c = big_told (map string_bytes c.args.words.now) _ _ _ c.command.result c.command.ensures.commanded
+
+pub returns-clause-burned : goal.returns-clause-burned
+returns-clause-burned g c =
+    burned_start c.burn_load_law.ensures c.commands_start.ensures (map string_bytes c.args.words.now) _ _ _ c.command.result c.command.ensures.commanded
