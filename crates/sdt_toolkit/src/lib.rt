@@ -22,6 +22,7 @@ use std::alloc::Global;
 
 mod assemble;
 mod commands;
+mod contents;
 mod images;
 mod inputs;
 mod kit;
