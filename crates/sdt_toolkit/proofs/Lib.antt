@@ -1,5 +1,6 @@
 pub mod CommandLemmas
 mod ContainerLemmas
+mod ContentLemmas
 mod KitLemmas
 mod AifStartLemmas
 mod AskLemmas

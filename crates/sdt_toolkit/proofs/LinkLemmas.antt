@@ -1,5 +1,5 @@
 -- What the files of a link make and ask for, and answers to it, by its ends.
-use Rattle.std.proofs.Common.{◌≡◌, ℕ, ◌<◌, ◌^◌, List, [], ◌∷◌, length, get_or, suc, Bool, true, false, Option, Some, None, Result, Ok, Err, refl, sym, subst, inl, inr, arith}
+use Rattle.std.proofs.Common.{◌≡◌, ℕ, List, [], length, Bool, true, false, Option, Some, None, Result, Ok, Err, refl, sym, subst, inl, inr}
 use Rattle.sdt_fault.specs.declared.answer.Answer.{Answer}
 use Rattle.sdt_fault.specs.declared.answer.Answer.TheVariants as answer
 use Rattle.sdt_fault.specs.declared.answer.Fault.{Fault}
@@ -30,22 +30,7 @@ use Rattle.tool_library.specs.declared.linkables.Linkable.{Linkable}
 use Rattle.tool_library.specs.Libraries.{end_answer, fault_answer}
 use Rattle.sdt_toolkit.specs.Inputs.{InputsAre, IsGot, Tells}
 use Rattle.sdt_toolkit.specs.Reads.{Reads, HasFailed, TellsOf, reads_of}
-use Rattle.sdt_toolkit.specs.Links.{AllWritten, FilesAsk, HasImage, HasNamedImage, ImageIs, InputsMake, LinkAnswers, LinkAsks, LinkMakes, ReadAsks, WordsAsk, filed, files_read, has_tables, inputs_in, outputs, read_by, text_in}
-
--- ---- what is read
-
-pub inputs_count : (f : LinkPlacement) (names contents : List (List ℕ)) → length contents ≡ length (read_by f names) → length (inputs_in f contents) ≡ length names
-inputs_count (placement.Scatter file) names [] h = absurd (omega (arith, h))
-inputs_count (placement.Scatter file) names (text ∷ contents) h = omega (arith, h)
-inputs_count (placement.Aif base relocatable) names contents h = h
-inputs_count (placement.Plain base) names contents h = h
-
-pub inputs_short : (f : LinkPlacement) (contents : List (List ℕ)) → ((k : ℕ) (d : List ℕ) → k < length contents → length (get_or contents k d) < 2 ^ 32)
-    → (k : ℕ) (d : List ℕ) → k < length (inputs_in f contents) → length (get_or (inputs_in f contents) k d) < 2 ^ 32
-inputs_short (placement.Scatter file) [] h k d lt = absurd (omega (arith, lt))
-inputs_short (placement.Scatter file) (text ∷ contents) h k d lt = h (suc k) d (omega (arith, lt))
-inputs_short (placement.Aif base relocatable) contents h k d lt = h k d lt
-inputs_short (placement.Plain base) contents h k d lt = h k d lt
+use Rattle.sdt_toolkit.specs.Links.{AllWritten, FilesAsk, HasImage, HasNamedImage, ImageIs, InputsMake, LinkAnswers, LinkAsks, LinkMakes, ReadAsks, WordsAsk, filed, files_read, has_tables, inputs_in, outputs, text_in}
 
 -- ---- what it makes
 

@@ -41,7 +41,8 @@ fn object_file<S: Store>(
     write_object(alloc, &object)
 }
 
-fn too_large() -> Fault
+/// Of a source that has more than `MOST_BYTES` bytes.
+pub fn too_large() -> Fault
     ensures { result ≡ fault.Refused (TooLarge SourceBytes most_bytes) }
 {
     Fault::Refused(Refusal::TooLarge {

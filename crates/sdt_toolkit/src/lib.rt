@@ -28,6 +28,7 @@ mod big;
 mod big_image;
 mod big_laws;
 mod commands;
+mod contents;
 mod images;
 mod inputs;
 mod kit;

@@ -1,24 +1,25 @@
 //! The commands `link` and `build`.
 
-ghost use Rattle.std.specs.Prelude.{◌≡◌, ◌<◌, ◌≤◌, ◌^◌, All, IfOk, Ok, false, length, true};
+ghost use Rattle.std.specs.Prelude.{◌≡◌, ◌<◌, ◌≤◌, ◌^◌, ◌++◌, ℕ, All, IfOk, List as Items, Ok, false, length, true};
+ghost use Rattle.sdt_toolkit.specs.Contents.{AllAgree, AreCounted};
 ghost use Rattle.sdt_toolkit.specs.Inputs.{AreValid, IsGot, Tells};
 ghost use Rattle.sdt_toolkit.specs.Reads.{Told};
-ghost use Rattle.sdt_toolkit.specs.Links.{InputsMake, LinkAnswersOver, LinkMakes, files_read, has_tables, inputs_in};
+ghost use Rattle.sdt_toolkit.specs.Links.{InputsMake, LinkAnswersOver, LinkMakes, has_tables, inputs_in};
 ghost use Rattle.tool_words.specs.Commands.{IsLinked};
 
+use crate::contents::{LinkFiles, read_files, text_in};
 use crate::images::{files_of, image_of};
-use crate::inputs::{files_read, inputs_in, inputs_of, text_in};
+use crate::inputs::inputs_of;
 use crate::named::{named_file, named_image_of};
 use crate::writing::write_files;
 use armlink_core::laws::image_sizes;
 use bin_image::OutFile;
 use link_model::Named;
 use scatter_text::reading_law;
+use sdt_fault::List;
 use sdt_fault::answer::{Answer, Fault};
-use sdt_fault::{Bytes, List, NoMemory};
 use sdt_outside::Store;
 use std::alloc::Global;
-use tool_answers::read_inputs;
 use tool_library::Linkable;
 use tool_library::ends::{end_answer, fault_answer};
 use tool_words::{Container, LinkWords};
@@ -92,28 +93,34 @@ fn files_by(
     plain_files(alloc, words, text, inputs)
 }
 
-/// The files that these contents make.
+/// The files that these make of which this was read, whatever contents they have that agree with that.
 fn made<S: Store>(
     alloc: Global,
     store: &mut S,
     sources: bool,
     words: &LinkWords,
-    contents: &[Bytes],
+    read: &LinkFiles,
 ) -> Result<List<OutFile>, Fault>
     requires good { IsLinked words.now }
-    requires few { length contents.now ≡ length (files_read words.now) }
-    requires bounded { All (λ bytes. length bytes < 2 ^ 32) contents.now }
-    ensures makes { Told (S.files store.old) (S.read_faults store.old) (S.read_faults store.new)
-        result (λ s. LinkMakes s sources words.now contents.now)
-        (λ s. IsGot s.told sources words.now.names (inputs_in words.now.placement contents.now)) }
+    requires counted { AreCounted words.now.placement words.now.names read.now }
+    ensures makes { (inputs : Items (Items ℕ)) → AllAgree sources words.now.names read.now.contents inputs
+        → Told (S.files store.old) (S.read_faults store.old) (S.read_faults store.new)
+        result (λ s. LinkMakes s sources words.now (read.now.texts ++ inputs))
+        (λ s. IsGot s.told sources words.now.names (inputs_in words.now.placement (read.now.texts ++ inputs))) }
     ensures short { IfOk result (λ files. All (λ f. length f.bytes < 2 ^ 32) files) }
     ensures files { S.files store.new ≡ S.files store.old }
     ensures read_faults { S.read_faults store.old ≤ S.read_faults store.new }
     ensures write_faults { S.write_faults store.new ≡ S.write_faults store.old }
 {
-    let under_names = inputs_in(&words.placement, contents);
-    match inputs_of(alloc, store, sources, words.names.as_slice(), under_names) {
-        Ok(inputs) => files_by(alloc, words, text_in(&words.placement, contents), inputs),
+    let text = text_in(&words.placement, read.texts.as_slice());
+    match inputs_of(
+        alloc,
+        store,
+        sources,
+        words.names.as_slice(),
+        read.contents.as_slice(),
+    ) {
+        Ok(inputs) => files_by(alloc, words, text, inputs),
         Err(fault) => Err(fault),
     }
 }
@@ -129,14 +136,17 @@ pub fn link_files<S: Store>(
     ensures { LinkAnswersOver sources words.now (S.files store.old) (S.files store.new) (S.read_faults store.old) (S.read_faults store.new)
         (S.write_faults store.old) (S.write_faults store.new) result }
 {
-    let Ok(names) = files_read(alloc, words) else {
-        return Answer::NoMemory;
-    };
-    let contents = match read_inputs(alloc, store, names.as_slice()) {
-        Ok(contents) => contents,
+    let read = match read_files(
+        alloc,
+        store,
+        sources,
+        &words.placement,
+        words.names.as_slice(),
+    ) {
+        Ok(read) => read,
         Err(end) => return end_answer(end),
     };
-    match made(alloc, store, sources, words, contents.as_slice()) {
+    match made(alloc, store, sources, words, &read) {
         Ok(files) => write_files(alloc, store, files.as_slice()),
         Err(fault) => fault_answer(fault),
     }

@@ -1,31 +1,33 @@
 //! The command `report`.
 
-ghost use Rattle.std.specs.Prelude.{◌≡◌, ◌<◌, ◌≤◌, ◌^◌, All, Ok, length, true};
+ghost use Rattle.std.specs.Prelude.{◌≡◌, ◌≤◌, ◌++◌, ℕ, List as Items, Ok, length, true};
 ghost use Rattle.std.specs.List.{AllByRecursion};
 ghost use Rattle.std.specs.Option.{option_copied};
 ghost use Rattle.alf_archive.specs.Grammar.{IsValid as IsValidArchive};
 ghost use Rattle.aof_object.specs.Validity.{IsValid};
 ghost use Rattle.armlink_core.specs.Images.{Links};
 ghost use Rattle.tool_words.specs.Commands.{AreBanks, IsBased, IsReported};
+ghost use Rattle.sdt_toolkit.specs.Contents.{AllAgree, AreCounted};
 ghost use Rattle.sdt_toolkit.specs.Inputs.{AreValid, IsGot, Tells};
-ghost use Rattle.sdt_toolkit.specs.Links.{inputs_in, read_by};
+ghost use Rattle.sdt_toolkit.specs.Links.{inputs_in};
 ghost use Rattle.sdt_toolkit.specs.Reads.{Told, outside_of};
 ghost use Rattle.sdt_toolkit.specs.Reports as reports;
 ghost use Rattle.sdt_toolkit.specs.Reports.{InputsReport, IsReport, ReportAnswers, ReportIs, Reports};
 
+use crate::contents::{LinkFiles, read_files, text_in};
 use crate::images::{Parts, parts_of};
-use crate::inputs::{files_in, inputs_in, inputs_of, text_in};
+use crate::inputs::inputs_of;
 use crate::laws::images_start;
 use crate::sound::{archives_fit, objects_fit};
 use armlink_core::{PlacedLink, place_link, place_scatter, report};
 use link_model::Named;
 use place_model::Kind;
 use sdt_fault::answer::{Answer, Fault};
-use sdt_fault::{Bytes, List, Text};
+use sdt_fault::{List, Text};
 use sdt_outside::{Sink, Store};
 use sdt_word::Range32;
 use std::alloc::Global;
-use tool_answers::{print, read_inputs};
+use tool_answers::print;
 use tool_library::Linkable;
 use tool_library::ends::{end_answer, fault_answer};
 use tool_run::ranges;
@@ -138,26 +140,32 @@ fn inputs_report(
     report_of(alloc, &words.placement, text, &words.ram, inputs.into_vec())
 }
 
-/// What these contents report.
+/// What these report of which this was read, whatever contents they have that agree with that.
 fn contents_report<S: Store>(
     alloc: Global,
     store: &mut S,
     words: &ReportWords,
-    contents: &[Bytes],
+    read: &LinkFiles,
 ) -> Result<Text, Fault>
     requires good { IsReported words.now }
-    requires few { length contents.now ≡ length (read_by words.now.placement words.now.names) }
-    requires bounded { All (λ bytes. length bytes < 2 ^ 32) contents.now }
-    ensures reports { Told (S.files store.old) (S.read_faults store.old) (S.read_faults store.new)
-        result (λ s. Reports s words.now contents.now)
-        (λ s. IsGot s.told true words.now.names (inputs_in words.now.placement contents.now)) }
+    requires counted { AreCounted words.now.placement words.now.names read.now }
+    ensures reports { (inputs : Items (Items ℕ)) → AllAgree true words.now.names read.now.contents inputs
+        → Told (S.files store.old) (S.read_faults store.old) (S.read_faults store.new)
+        result (λ s. Reports s words.now (read.now.texts ++ inputs))
+        (λ s. IsGot s.told true words.now.names (inputs_in words.now.placement (read.now.texts ++ inputs))) }
     ensures files { S.files store.new ≡ S.files store.old }
     ensures read_faults { S.read_faults store.old ≤ S.read_faults store.new }
     ensures write_faults { S.write_faults store.new ≡ S.write_faults store.old }
 {
-    let under_names = inputs_in(&words.placement, contents);
-    match inputs_of(alloc, store, true, words.names.as_slice(), under_names) {
-        Ok(inputs) => inputs_report(alloc, words, text_in(&words.placement, contents), inputs),
+    let text = text_in(&words.placement, read.texts.as_slice());
+    match inputs_of(
+        alloc,
+        store,
+        true,
+        words.names.as_slice(),
+        read.contents.as_slice(),
+    ) {
+        Ok(inputs) => inputs_report(alloc, words, text, inputs),
         Err(fault) => Err(fault),
     }
 }
@@ -174,14 +182,11 @@ pub fn print_report<S: Store, K: Sink>(
         (S.read_faults store.old) (S.read_faults store.new) (S.write_faults store.old) (S.write_faults store.new)
         (K.faults sink.old) (K.faults sink.new)) result }
 {
-    let Ok(names) = files_in(alloc, &words.placement, words.names.as_slice()) else {
-        return Answer::NoMemory;
-    };
-    let contents = match read_inputs(alloc, store, names.as_slice()) {
-        Ok(contents) => contents,
+    let read = match read_files(alloc, store, true, &words.placement, words.names.as_slice()) {
+        Ok(read) => read,
         Err(end) => return end_answer(end),
     };
-    match contents_report(alloc, store, words, contents.as_slice()) {
+    match contents_report(alloc, store, words, &read) {
         Ok(text) => print(sink, text.as_slice()),
         Err(fault) => fault_answer(fault),
     }

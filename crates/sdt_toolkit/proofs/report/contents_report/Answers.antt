@@ -1,25 +1,23 @@
-use Rattle.sdt_toolkit.proofs.LinkLemmas.{inputs_count, inputs_short}
+use Rattle.std.proofs.Common.{◌++◌}
+use Rattle.sdt_toolkit.proofs.ContentLemmas.{inputs_behind, text_first}
 use Rattle.sdt_toolkit.proofs.ReportLemmas.{inputs_told, no_inputs}
 use Rattle.sdt_toolkit.specs.Reads.{Told}
 use Rattle.sdt_toolkit.proofs.report.contents_report.Goals as goal
 
-pub inputs_of-requires-clause-few : goal.inputs_of-requires-clause-few
-inputs_of-requires-clause-few g c =
-    rw (c.inputs_in-under_names.ensures, c.as_slice.ensures) (inputs_count c.args.words.now.placement c.args.words.now.names c.args.contents.now c.requires.few)
-
-pub inputs_of-requires-clause-bounded : goal.inputs_of-requires-clause-bounded
-inputs_of-requires-clause-bounded g c =
-    rw c.inputs_in-under_names.ensures (inputs_short c.args.words.now.placement c.args.contents.now c.requires.bounded)
-
 pub returns-in-Ok-clause-reports : goal.returns-in-Ok-clause-reports
 unfolding Told
-returns-in-Ok-clause-reports g c = λ s among.
-    let judged = rw (c.inputs_in-under_names.ensures, c.as_slice.ensures) at c.in-Ok.ensures.value s among in
-    let told = rw c.text_in.ensures at c.inputs_report.ensures in
-    inputs_told s c.args.words.now c.args.contents.now c.in-Ok.inputs c.inputs_report.result judged told
+returns-in-Ok-clause-reports g c = λ inputs agree s among.
+    let words = c.args.words.now in
+    let read = c.args.read.now in
+    let judged = rw (c.as_slice-2.ensures, c.as_slice-3.ensures) at c.in-Ok.ensures.value inputs agree s among in
+    let told = rw (c.text_in-text.ensures, c.as_slice.ensures) at c.inputs_report.ensures in
+    inputs_told s words (read.texts ++ inputs) c.in-Ok.inputs c.inputs_report.result
+    (rw (inputs_behind words.placement read.texts inputs c.requires.counted.texts) judged) (rw (text_first words.placement read.texts inputs c.requires.counted.texts) told)
 
 pub returns-in-Err-clause-reports : goal.returns-in-Err-clause-reports
 unfolding Told
-returns-in-Err-clause-reports g c = λ s among.
-    let judged = rw (c.inputs_in-under_names.ensures, c.as_slice.ensures) at c.in-Err.ensures.value s among in
-    no_inputs s c.args.words.now c.args.contents.now c.in-Err.fault judged
+returns-in-Err-clause-reports g c = λ inputs agree s among.
+    let words = c.args.words.now in
+    let read = c.args.read.now in
+    let judged = rw (c.as_slice-2.ensures, c.as_slice-3.ensures) at c.in-Err.ensures.value inputs agree s among in
+    no_inputs s words (read.texts ++ inputs) c.in-Err.fault (rw (inputs_behind words.placement read.texts inputs c.requires.counted.texts) judged)
