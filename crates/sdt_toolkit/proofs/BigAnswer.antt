@@ -1,5 +1,5 @@
 -- What make-big answers, by how its parts end.
-use Rattle.std.proofs.Common.{◌≡◌, ◌≢◌, ℕ, ◌+◌, ◌-◌, ◌*◌, ◌/◌, ◌^◌, ◌<◌, ◌≤◌, Bool, true, false, List, [], ◌∷◌, ◌++◌, length, map, Option, None, Some, Result, Ok, Err, refl, sym, ap, ◌∙◌, subst, arith, inl, inr, append_assoc}
+use Rattle.std.proofs.Common.{◌≡◌, ◌≢◌, ℕ, ◌+◌, ◌-◌, ◌*◌, ◌/◌, ◌^◌, ◌<◌, ◌≤◌, Bool, true, List, [], ◌∷◌, ◌++◌, length, map, Option, None, Some, Result, Ok, Err, refl, sym, ap, ◌∙◌, subst, arith, inl, inr, append_assoc}
 use Rattle.std.specs.Prelude.{codes}
 use Rattle.std.specs.Fmt.{decimal}
 use Rattle.std.specs.List.{AllByRecursion}
@@ -15,8 +15,7 @@ use Rattle.sdt_fault.specs.declared.answer.Stop.{Stop}
 use Rattle.sdt_fault.specs.declared.answer.Stop.TheVariants as stop
 use Rattle.sdt_fault.specs.declared.refusal.Refusal.{Refusal}
 use Rattle.sdt_outside.specs.Counts.{Rose}
-use Rattle.sdt_outside.specs.Files.{Files, IsWritten, files_of}
-use Rattle.sdt_outside.specs.Sinks.{Got}
+use Rattle.sdt_outside.specs.Files.{IsWritten, files_of}
 use Rattle.aof_object.specs.declared.records.Object.{Object}
 use Rattle.aof_object.specs.Validity.{IsValid}
 use Rattle.alf_archive.specs.declared.records.Archive.{Archive}
@@ -38,11 +37,11 @@ use Rattle.link_model.specs.declared.selection.Named.{Named}
 use Rattle.link_model.specs.Chosen.{AreLinked}
 use Rattle.big_faults.specs.Big.{big_object}
 use Rattle.big_lines.specs.Lines.{BigIsShort}
-use Rattle.big_model.specs.Sources.{big_sum, big_text}
+use Rattle.big_model.specs.Sources.{big_text}
 use Rattle.big_place.specs.Big.{big_description}
 use Rattle.tool_answers.specs.Outcomes.{Outside, Writes}
 use Rattle.tool_library.specs.Libraries.{fault_answer}
-use Rattle.sdt_toolkit.specs.Big.{BigAnswers, BigImagesFit, BigImagesRun, HasEnded, HasRunBig, IsBigImage, IsBigOutcome, IsMeeting, PrintsLine, Reports, big_line, big_report, default_banks, first_words}
+use Rattle.sdt_toolkit.specs.Big.{BigAnswers, BigImagesFit, BigImagesRun, HasEnded, HasRunBig, IsBigImage, PrintsLine, Reports, big_line, big_report, default_banks, first_words}
 use Rattle.sdt_toolkit.specs.BigAccepts.{BigIsAssembled}
 use Rattle.sdt_toolkit.specs.BigMade.{ImageIsMade, big_image, big_named}
 use Rattle.sdt_toolkit.specs.BigStarts.{ImageStarts}

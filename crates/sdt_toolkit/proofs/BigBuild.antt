@@ -1,13 +1,11 @@
 -- What `build` makes of the file of a generated source and of the file of its description.
-use Rattle.std.proofs.Common.{◌≡◌, ℕ, ◌≤◌, Bool, true, List, [], ◌∷◌, Option, None, Some, Result, Ok, Err, refl, sym, ap, ◌∙◌, subst}
+use Rattle.std.proofs.Common.{◌≡◌, ℕ, ◌≤◌, Bool, true, List, [], ◌∷◌, Option, None, Some, Result, Ok, sym, ap, ◌∙◌, subst}
 use Rattle.std.specs.Prelude.{◌&&◌}
 use Rattle.sdt_word.specs.declared.ranges.Range32.{Range32}
 use Rattle.sdt_fault.specs.declared.refusal.Refusal.{Refusal}
 use Rattle.sdt_outside.specs.Files.{Files, content}
 use Rattle.aof_object.specs.declared.records.Object.{Object}
-use Rattle.alf_archive.specs.declared.records.Archive.{Archive}
 use Rattle.chunk_file.specs.Reading.{◌>>=◌}
-use Rattle.boot_code.specs.Boots.{ByteMap}
 use Rattle.armasm_core.specs.Assembling.{AssembledFrom}
 use Rattle.armlink_core.specs.Images.{scatter_linking}
 use Rattle.link_model.specs.declared.images.Image.{Image}
@@ -16,18 +14,16 @@ use Rattle.link_model.specs.Chosen.{AreLinked}
 use Rattle.big_faults.specs.Big.{big_object}
 use Rattle.big_model.specs.Sources.{big_text}
 use Rattle.big_place.specs.Big.{big_description}
-use Rattle.tool_answers.specs.Inputs.{and_others, before_others, found_or, inputs_of}
+use Rattle.tool_answers.specs.Inputs.{and_others, found_or, inputs_of}
 use Rattle.tool_library.specs.declared.linkables.Linkable.{Linkable}
 use Rattle.tool_library.specs.declared.linkables.Linkable.TheVariants as input
 use Rattle.tool_words.specs.declared.command.Bank.{Bank}
 use Rattle.tool_words.specs.declared.command.LinkPlacement.{LinkPlacement}
 use Rattle.tool_words.specs.declared.command.LinkPlacement.TheVariants as placement
-use Rattle.tool_words.specs.declared.command.LinkWords.{LinkWords}
 use Rattle.sdt_toolkit.specs.Big.{IsBuilt}
 use Rattle.sdt_toolkit.specs.BigAccepts.{BigIsAssembled}
 use Rattle.sdt_toolkit.specs.BigMade.{big_named}
-use Rattle.sdt_toolkit.specs.Headline.{IsLinkedInto}
-use Rattle.sdt_toolkit.specs.Inputs.{Behind, InputBy, InputsAre, IsSource, NamedIs, archives_among, is_source_name, module_of, named, objects_among, with_name}
+use Rattle.sdt_toolkit.specs.Inputs.{Behind, InputBy, InputsAre, IsSource, archives_among, is_source_name, module_of, named, objects_among, with_name}
 use Rattle.sdt_toolkit.specs.Links.{LinksTo, ScattersTo, inputs_in, read_by, text_in}
 use Rattle.sdt_toolkit.specs.Reads.{Reads}
 

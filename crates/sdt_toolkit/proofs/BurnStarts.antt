@@ -6,7 +6,6 @@ use Rattle.sdt_fault.specs.declared.refusal.Refusal.{Refusal}
 use Rattle.sdt_outside.specs.Counts.{Rose}
 use Rattle.sdt_outside.specs.Files.{Files, content}
 use Rattle.chunk_file.specs.Reading.{◌>>=◌}
-use Rattle.arm7_bus.specs.declared.memory.Bank.{Bank}
 use Rattle.arm7_bus.specs.Seats.{Seat, has_access}
 use Rattle.boot_code.specs.Boots.{Boots, ByteMap}
 use Rattle.boot_code.specs.Maps.{map_of}
@@ -31,16 +30,14 @@ use Rattle.tool_words.specs.declared.command.LinkPlacement.{LinkPlacement}
 use Rattle.tool_words.specs.declared.command.LinkPlacement.TheVariants as placement
 use Rattle.tool_words.specs.declared.command.RunImage.{RunImage as Named}
 use Rattle.tool_words.specs.declared.command.RunImage.TheVariants as image
-use Rattle.tool_words.specs.declared.command.RunWords.{RunWords}
 use Rattle.tool_words.specs.Commands.{command_of}
 use Rattle.tool_run.specs.Burned.{BurnLoadLaw, burned_image, loaded_burn, need_of}
 use Rattle.tool_run.specs.Images.{IsRead}
-use Rattle.tool_run.specs.Runs.{AreBanks, RunAnswers}
 use Rattle.sdt_toolkit.specs.Burns.{IsBurnText, ReadsText, StartsAsBurned, burn_booting}
 use Rattle.sdt_toolkit.specs.Commands.{Commanded}
 use Rattle.sdt_toolkit.specs.Links.{IsAskedAs, text_in}
 use Rattle.sdt_toolkit.specs.RunImages.{is_needed}
-use Rattle.sdt_toolkit.specs.Runs.{AnswerStarts, CanBoot, CommandsStart, entry_of}
+use Rattle.sdt_toolkit.specs.Runs.{CanBoot, CommandsStart, entry_of}
 use Rattle.sdt_toolkit.specs.Starting.{ReachesEntry, segments_of, written_in}
 use Rattle.sdt_toolkit.proofs.RunBooting.{Reaches, even, map_can, whole}
 use Rattle.sdt_toolkit.proofs.RunClauses.{run_answers}

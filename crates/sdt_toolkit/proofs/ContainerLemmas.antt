@@ -1,5 +1,5 @@
 -- What the files of a placed image hold, container by container.
-use Rattle.std.proofs.Common.{◌≡◌, ℕ, ◌+◌, ◌%◌, ◌^◌, ◌<◌, ◌≤◌, nat_le, ◌||◌, Bool, true, false, cond, List, [], ◌∷◌, ◌++◌, length, map, append-nil, Option, Some, None, Result, Ok, Err, refl, sym, ap, ◌∙◌, subst, arith}
+use Rattle.std.proofs.Common.{◌≡◌, ℕ, ◌+◌, ◌%◌, ◌^◌, ◌<◌, ◌≤◌, nat_le, ◌||◌, Bool, true, false, cond, List, [], ◌∷◌, ◌++◌, length, map, append-nil, Option, Result, Ok, Err, refl, sym, ap, ◌∙◌, subst, arith}
 use Rattle.std.specs.List.{flat_map, list_any, AllByRecursion}
 use Rattle.std.proofs.lemmas.Bool.{leb-false}
 use Rattle.std.proofs.lemmas.List.{length-map}
@@ -35,7 +35,7 @@ use Rattle.bin_image.specs.Maps as maps
 use Rattle.elf_image.specs.declared.tables.Tables.{Tables}
 use Rattle.elf_image.specs.Symbols.{CanName}
 use Rattle.elf_image.specs.Tables.{named_file, named_size}
-use Rattle.elf_image.specs.Files.{AreApart, InLoad, IsElf, elf_file, elf_load, elf_record, file_size}
+use Rattle.elf_image.specs.Files.{AreApart, IsElf, elf_file, elf_record, file_size}
 use Rattle.elf_image.proofs.WrittenLemmas.{file_length, loads as loads_are, written as reads_back}
 use Rattle.tool_words.specs.declared.command.Bank.{Bank}
 use Rattle.tool_words.specs.declared.command.Container.{Container}
@@ -43,8 +43,8 @@ use Rattle.tool_words.specs.declared.command.Container.TheVariants as container
 use Rattle.tool_words.specs.declared.command.LinkPlacement.{LinkPlacement}
 use Rattle.tool_words.specs.declared.command.LinkPlacement.TheVariants as placement
 use Rattle.tool_words.specs.Commands.{ComeTogether}
-use Rattle.sdt_toolkit.specs.Containers.{FilesHold, IsBinaryFile, IsElfFile, IsMapFile, IsNamedFile}
-use Rattle.sdt_toolkit.specs.Links.{AreCounted, IsAskedAs, filed, image_files, is_long, one_file, too_large, unless_long}
+use Rattle.sdt_toolkit.specs.Containers.{FilesHold, IsBinaryFile, IsElfFile, IsNamedFile}
+use Rattle.sdt_toolkit.specs.Links.{AreCounted, IsAskedAs, filed, image_files, is_long, one_file, too_large}
 use Rattle.sdt_toolkit.specs.Plans.{IsPlacedAs, plan_at}
 use Rattle.sdt_toolkit.proofs.NamedLemmas.{can_name, few_sections, is_named_file, named_length, plain_shorter}
 use Rattle.sdt_toolkit.specs.RunImages.{CanRun}

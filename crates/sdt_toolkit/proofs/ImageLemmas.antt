@@ -27,7 +27,7 @@ use Rattle.armlink_core.specs.declared.naming.NamedImage.{NamedImage}
 use Rattle.armlink_core.specs.Images.{Links, described, linking, scatter_linking}
 use Rattle.armlink_core.specs.Tables.{named_scatter, scatter_tables, with_tables}
 use Rattle.armlink_core.proofs.PlaceLemmas.{refused_first}
-use Rattle.armlink_core.specs.Laws.{IsSized, LinkedSizes, ScatterSizes}
+use Rattle.armlink_core.specs.Laws.{LinkedSizes, ScatterSizes}
 use Rattle.bin_image.specs.declared.records.OutFile.{OutFile}
 use Rattle.bin_image.specs.Files.{IsMapped, load_file, map_file}
 use Rattle.elf_image.specs.declared.tables.Tables.{Tables}
@@ -50,7 +50,7 @@ use Rattle.sdt_toolkit.proofs.SoundLemmas.{sound_linked}
 use Rattle.sdt_toolkit.specs.Inputs.{AreValid, Tells, archives_among, objects_among}
 use Rattle.sdt_toolkit.specs.Plans.{ImagesArePlaced}
 use Rattle.sdt_toolkit.specs.Starting.{AreSound, HasBytes}
-use Rattle.sdt_toolkit.specs.Links.{AsAif, HasImage, HasNamedImage, ImageIs, IsAifImage, IsInMemory, IsNamedScatter, IsRam, IsScatterImage, IsWritable, LinksTo, ScattersTo, TablesTo, filed, image_files, is_long, is_long_load, one_file, too_large, unless_long}
+use Rattle.sdt_toolkit.specs.Links.{HasImage, HasNamedImage, ImageIs, IsAifImage, IsInMemory, IsNamedScatter, IsRam, IsScatterImage, IsWritable, LinksTo, TablesTo, filed, image_files, is_long, is_long_load, one_file, too_large, unless_long}
 
 -- ---- the image
 

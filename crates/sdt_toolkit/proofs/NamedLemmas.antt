@@ -1,7 +1,7 @@
 -- ELF executables with symbols: their size, how many sections there are, and that a debugger finds the tables.
-use Rattle.std.proofs.Common.{◌≡◌, ℕ, zero, suc, ◌+◌, ◌*◌, ◌-◌, ◌^◌, ◌<◌, ◌≤◌, ◌==◌, Bool, true, false, cond, List, [], ◌∷◌, ◌++◌, length, map, Some, refl, sym, ap, ◌∙◌, subst, arith}
+use Rattle.std.proofs.Common.{◌≡◌, ℕ, zero, suc, ◌+◌, ◌*◌, ◌-◌, ◌^◌, ◌<◌, ◌≤◌, ◌==◌, Bool, true, false, cond, List, [], ◌∷◌, ◌++◌, length, map, refl, sym, ap, ◌∙◌, subst, arith}
 use Rattle.std.specs.Prelude.{replicate}
-use Rattle.std.specs.List.{flat_map, AllByRecursion}
+use Rattle.std.specs.List.{flat_map}
 use Rattle.std.proofs.lemmas.List.{length-append, length-map}
 use Rattle.sdt_word.specs.Numbers.{flag}
 use Rattle.boot_code.specs.Boots.{ByteMap, Boots}
@@ -19,7 +19,7 @@ use Rattle.link_place.specs.Placed.{placed_region, placed_regions, placement_of}
 use Rattle.elf_image.specs.declared.tables.ElfSymbol.{ElfSymbol}
 use Rattle.elf_image.specs.declared.tables.Section.{Section}
 use Rattle.elf_image.specs.declared.tables.Tables.{Tables}
-use Rattle.elf_image.specs.Files.{elf_load, elf_record, file_size, first_offset, headers_bytes, loads_bytes, IsElf}
+use Rattle.elf_image.specs.Files.{elf_record, file_size, first_offset, headers_bytes, loads_bytes, IsElf}
 use Rattle.elf_image.specs.Symbols.{CanName}
 use Rattle.elf_image.specs.Tables.{end_from, named_file, named_header, named_of, named_size, names_of, padding_of, section_headers, section_strings_header, section_table, strings_of, symbol_strings_header, symbol_table, symbols_words, symtab_header, table_headers, tables_at, tables_bytes}
 use Rattle.elf_image.proofs.NamedLemmas.{front_length, loads as loads_are, reads as reads_back}
@@ -30,7 +30,7 @@ use Rattle.link_symbols.specs.Laws.{Fits}
 use Rattle.link_symbols.specs.Sections.{bytes_section, bytes_sections, region_sections, sections_from, zeros_section, zeros_sections}
 use Rattle.link_symbols.specs.Symbols.{tables_in}
 use Rattle.link_symbols.proofs.TableLemmas.{fits_law}
-use Rattle.sdt_toolkit.specs.Containers.{IsElfFile, IsNamedFile}
+use Rattle.sdt_toolkit.specs.Containers.{IsNamedFile}
 use Rattle.sdt_toolkit.specs.Starting.{segments_of, written_in}
 
 -- ---- the size

@@ -4,7 +4,6 @@ use Rattle.std.specs.Prelude.{sum_by}
 use Rattle.std.specs.List.{list_any, AllByRecursion}
 use Rattle.std.proofs.lemmas.List.Sums.{sum_by-append, sum_by-cons}
 use Rattle.base_lemmas.proofs.BaseLemmas.{all_back, all_front, or_true, true_or}
-use Rattle.boot_code.specs.Boots.{covers}
 use Rattle.boot_code.proofs.ViewLemmas.{covers-true}
 use Rattle.arm7_bus.specs.Seats.{has_access}
 use Rattle.place_model.specs.Faults.{load_span, shared}

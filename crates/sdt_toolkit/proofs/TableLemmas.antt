@@ -1,5 +1,5 @@
 -- The tables of a link are those of the plan by which its image is placed, and a debugger finds each definition in them.
-use Rattle.std.proofs.Common.{◌≡◌, ℕ, ◌+◌, ◌^◌, ◌<◌, Bool, true, false, List, ◌∷◌, ◌++◌, length, map, Option, Some, None, Result, Ok, Err, refl, sym, ap, ◌∙◌, subst}
+use Rattle.std.proofs.Common.{◌≡◌, ℕ, ◌+◌, ◌^◌, ◌<◌, Bool, true, false, List, ◌∷◌, ◌++◌, length, Option, Some, None, Result, Ok, refl, sym, ap, ◌∙◌, subst}
 use Rattle.std.specs.Prelude.{slice_get}
 use Rattle.std.proofs.lemmas.List.{length-map}
 use Rattle.std.specs.List.{AllByRecursion}
@@ -8,8 +8,6 @@ use Rattle.sdt_fault.specs.declared.refusal.Refusal.{Refusal}
 use Rattle.chunk_file.specs.Reading.{◌>>=◌}
 use Rattle.aof_object.specs.declared.records.Entry.{Entry}
 use Rattle.aof_object.specs.declared.records.Object.{Object}
-use Rattle.aof_object.specs.declared.records.Symbol.{Symbol}
-use Rattle.aof_object.specs.Flags.{is_definition}
 use Rattle.aof_object.specs.Validity.{IsValid}
 use Rattle.boot_code.specs.Boots.{ByteMap}
 use Rattle.elf_image.specs.declared.tables.Tables.{Tables}
@@ -36,17 +34,14 @@ use Rattle.link_model.specs.declared.selection.Linked.{Linked}
 use Rattle.link_model.specs.declared.selection.LinkedEntry.{LinkedEntry}
 use Rattle.link_model.specs.declared.selection.Named.{Named}
 use Rattle.link_model.specs.Definitions.{definitions_from, is_thumb}
-use Rattle.link_model.specs.Meaning.{symbol_of}
 use Rattle.link_model.specs.Members.{link_of, objects_in}
-use Rattle.link_items.specs.LinkedItems.{contents_of, has_header}
-use Rattle.link_assign.specs.Assigning.{assignment_of}
-use Rattle.link_veneer.specs.Planning.{planned_veneers}
-use Rattle.link_place.specs.Placed.{placed, placement_of}
+use Rattle.link_items.specs.LinkedItems.{contents_of}
+use Rattle.link_place.specs.Placed.{placed}
 use Rattle.link_values.specs.Placed as by_placement
 use Rattle.link_apply.specs.Applied.{applied}
 use Rattle.link_select.specs.Selection.{selection_of}
 use Rattle.link_laws.specs.Joins.{IsMade}
-use Rattle.link_laws.specs.Placing.{IsPlacedLink, link_plan}
+use Rattle.link_laws.specs.Placing.{link_plan}
 use Rattle.link_laws.specs.Plans.{IsSelection, values_by}
 use Rattle.link_laws.proofs.AppliedAt.{same_values}
 use Rattle.link_symbols.specs.Laws.{IsListed}
@@ -55,7 +50,7 @@ use Rattle.link_symbols.proofs.LawLemmas.{definitions_law}
 use Rattle.armlink_core.specs.declared.making.PlacedImage.{PlacedImage}
 use Rattle.armlink_core.specs.Images.{described, image_made, image_with, linking}
 use Rattle.armlink_core.specs.Linking.{made_at, made_of, made_with, symbols_of}
-use Rattle.armlink_core.specs.Placing.{as_link, placed_by, placed_link, placing}
+use Rattle.armlink_core.specs.Placing.{as_link, placed_by, placing}
 use Rattle.armlink_core.specs.Sizes.{IsSmall}
 use Rattle.armlink_core.proofs.ValidLemmas.{scatter_small}
 use Rattle.armlink_core.specs.Tables.{link_tables, scatter_tables, tables_by}
@@ -65,8 +60,8 @@ use Rattle.tool_words.specs.declared.command.Container.TheVariants as container
 use Rattle.tool_words.specs.declared.command.LinkPlacement.{LinkPlacement}
 use Rattle.tool_words.specs.declared.command.LinkPlacement.TheVariants as placement
 use Rattle.tool_words.specs.Commands.{ComeTogether}
-use Rattle.sdt_toolkit.specs.Debug.{DefinitionsAreFound, IsFound, NamesHold}
-use Rattle.sdt_toolkit.specs.Links.{IsAskedAs, IsRam, LinksTo, TablesTo, filed}
+use Rattle.sdt_toolkit.specs.Debug.{DefinitionsAreFound, NamesHold}
+use Rattle.sdt_toolkit.specs.Links.{IsAskedAs, LinksTo, TablesTo, filed}
 use Rattle.sdt_toolkit.specs.Plans.{IsPlacedAs}
 use Rattle.sdt_toolkit.proofs.ContainerLemmas.{can_be_named, filed_as, named_short}
 use Rattle.sdt_toolkit.proofs.LinkOnce.{ram_once}

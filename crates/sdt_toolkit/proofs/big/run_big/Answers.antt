@@ -1,5 +1,5 @@
 use Rattle.std.proofs.Common.{refl}
-use Rattle.sdt_toolkit.proofs.BigAnswer.{closed_answer, reported, unwritten}
+use Rattle.sdt_toolkit.proofs.BigAnswer.{closed_answer, reported}
 use Rattle.sdt_toolkit.proofs.big.run_big.Goals as goal
 
 pub returns-in-Err : goal.returns-in-Err
