@@ -65,11 +65,13 @@ first_alike None b (Some c) d h k = absurd h
 first_alike (Some a) b None d h k = absurd h
 first_alike (Some a) b (Some c) d h k = h
 
-line_alike : (area : ℕ) (thumb : Bool) (l : LaidLine) (before : List LaidLine) (w : What) → area_kinds l.seen w before ≡ [] → AreAlike (says_area area l w thumb) (contents_in area l w)
+line_alike : (area : ℕ) (thumb : Bool) (l : LaidLine) (before : List LaidLine) (w : What) → area_kinds l.seen w before ≡ []
+    → AreAlike (says_area area l w thumb) (contents_in area l w)
 line_alike area thumb l before (what.Directive (line.Area name a)) e = by_area (is_of area l.area)
   where
     small : or_two (exponent l.seen a.alignments) ≤ 16
-    small = exponent_small (exponent l.seen a.alignments) (both_empty (exponent_kinds (exponent l.seen a.alignments)) (kind_if (is_named_otherwise name l.seen a before) BadOperand) e).0
+    small = exponent_small (exponent l.seen a.alignments) (both_empty (exponent_kinds (exponent l.seen a.alignments))
+        (kind_if (is_named_otherwise name l.seen a before) BadOperand) e).0
 
     by_area : (b : Bool) → AreAlike (cond b (Some (attributes_word a (or_two (exponent l.seen a.alignments)) thumb)) None) (cond b (Some a.contents) None)
     by_area true = code_bit a (or_two (exponent l.seen a.alignments)) thumb small
@@ -99,12 +101,14 @@ none_in : (area : ℕ) (l : LaidLine) (w : What) → is_of area l.area ≡ false
 none_in area l (what.Directive (line.Area name a)) e = rw e refl
 none_in area l _ e = refl
 
-none_past : (d : List LaidName) (ss : List Statement) (area n : ℕ) → length (areas_behind (statements_of (laid_of d ss))) ≤ n → n ≤ area → contents_of area (laid_of d ss) ≡ None
+none_past : (d : List LaidName) (ss : List Statement) (area n : ℕ) → length (areas_behind (statements_of (laid_of d ss))) ≤ n → n ≤ area
+    → contents_of area (laid_of d ss) ≡ None
 none_past d [] area n fits past = refl
 none_past d (s ∷ ss) area n fits past =
     let before = laid_of d ss in
     let l = laid_behind d s before in
-    let fewer = low_of (length (areas_behind (statements_of before))) (length (areas_behind (statements_of (l ∷ before)))) n (areas_more (l ∷ []) before) fits in
+    let fewer =
+    low_of (length (areas_behind (statements_of before))) (length (areas_behind (statements_of (l ∷ before)))) n (areas_more (l ∷ []) before) fits in
     let within = area_within n (s ∷ statements_of before) fits in
     rw (none_past d ss area n fewer past) (none_in area l l.statement.what (other_area area n l.area within past))
 
@@ -139,11 +143,13 @@ kept_alike w (Some contents.Zeroes) h = sym (ap not h)
 
 -- an area keeps its bytes unless its attributes have the bit of zeros
 pub zeroes_there : (statements : List Statement) → layout_faults statements ≡ None → (area w : ℕ)
-    → attributes_of area (is_thumb_area area (statements_of (laid statements))) (laid statements) ≡ Some w → is_kept (contents_of area (laid statements)) ≡ not (marks_zeroes w)
+    → attributes_of area (is_thumb_area area (statements_of (laid statements))) (laid statements) ≡ Some w
+    → is_kept (contents_of area (laid statements)) ≡ not (marks_zeroes w)
 zeroes_there statements e area w is =
     kept_alike w (contents_of area (laid statements))
     (subst (λ (o : Option ℕ). Agree o (contents_of area (laid statements))) is
-    (lines_agree (settled (equals_in statements)) statements area (is_thumb_area area (statements_of (laid statements))) (laid statements) (layout_sound statements e)))
+    (lines_agree (settled (equals_in statements)) statements area (is_thumb_area area (statements_of (laid statements))) (laid statements)
+    (layout_sound statements e)))
 
 same_low : (m n : ℕ) → m ≡ n → n ≤ m
 same_low m n e = omega arith
@@ -156,7 +162,8 @@ code_there statements areas h e area = got areas area ∙ by_area (slice_get are
     all = laid statements
 
     alike : AreAlike (attributes_of area (is_thumb_area area (statements_of (laid statements))) (laid statements)) (contents_of area (laid statements))
-    alike = lines_alike (settled (equals_in statements)) statements area (is_thumb_area area (statements_of (laid statements))) (laid statements) (layout_sound statements e)
+    alike = lines_alike (settled (equals_in statements)) statements area (is_thumb_area area (statements_of (laid statements))) (laid statements)
+        (layout_sound statements e)
 
     by_area : (o : Option LaidArea) → slice_get areas area ≡ o → marked_at o ≡ holds_code (contents_of area (laid statements))
     by_area (Some a) is =

@@ -15,9 +15,9 @@ use Rattle.asm_layout.specs.Front.{front_laid}
 use Rattle.asm_model.specs.declared.lines.Flat.{Flat}
 use Rattle.asm_model.specs.declared.statements.Statement.{Statement}
 use Rattle.asm_model.specs.Directives.{or_else}
-use Rattle.asm_reading.specs.declared.reading.Reading.{Reading}
-use Rattle.asm_reading.specs.declared.reading.Unread.{Unread}
-use Rattle.asm_reading.specs.Reading.{IsReading}
+use Rattle.asm_reading.specs.declared.flat_lines.Reading.{Reading}
+use Rattle.asm_reading.specs.declared.flat_lines.Unread.{Unread}
+use Rattle.asm_reading.specs.FlatLines.{IsReading}
 use Rattle.expand_model.specs.Expands.{Outcome, Flats, FaultAt, MissingFile, Expands, ExpansionLaw}
 use Rattle.expand_model.specs.Gets.{GetsFile}
 use Rattle.expand_model.specs.Steps.{visit_limit}
@@ -37,7 +37,8 @@ flats_give name flats r (Err fault.NoMemory) says made = tt
 
 -- ---- what was expanded
 
-may_expand : (told : Option Files) (name text : List ℕ) (o : Outcome) → OfFiles told (λ sources. Expands sources visit_limit name text o) → MayExpand told name text o
+may_expand : (told : Option Files) (name text : List ℕ) (o : Outcome) → OfFiles told (λ sources. Expands sources visit_limit name text o)
+    → MayExpand told name text o
 may_expand None name text o h = tt
 may_expand (Some files) name text o h = h
 
@@ -86,7 +87,8 @@ line_caused : (files : Option Files) (rose : Type 0) (q : Refusal) → IsOfLine 
 line_caused files rose (Missing file) h = absurd h
 line_caused files rose q h = tt
 
-pub made_caused : (files : Option Files) (rose : Type 0) (name : List ℕ) (flats : List Flat) (x : Result Object Fault) → FlatsGive name flats x → IfErr x (IsCaused files rose)
+pub made_caused : (files : Option Files) (rose : Type 0) (name : List ℕ) (flats : List Flat) (x : Result Object Fault) → FlatsGive name flats x
+    → IfErr x (IsCaused files rose)
 made_caused files rose name flats (Ok o) made = tt
 made_caused files rose name flats (Err (fault.Refused r)) made =
     line_caused files rose r (subst IsOfLine made.makes (source_of_line name flats made.reading))
@@ -101,7 +103,8 @@ told_made name (Missing file) o h = subst (λ (p : Outcome). OutcomeMakes name p
 told_made name r o h = absurd h
 
 pub refused : (told : Option Files) (rose : Type 0) (name text : List ℕ) (e : Fault) → length text ≤ most_bytes
-    → OfFiles told (λ sources. IsFault e (λ o. Expands sources visit_limit name text o)) → OfFiles told (λ sources. IsReadOf e (GetsFile sources visit_limit name text))
+    → OfFiles told (λ sources. IsFault e (λ o. Expands sources visit_limit name text o))
+    → OfFiles told (λ sources. IsReadOf e (GetsFile sources visit_limit name text))
     → Caused e told rose → Assembles told name text (Err e)
 refused None rose name text (fault.ReadFault file) short h gets cause = tt
 refused (Some files) rose name text (fault.ReadFault file) short h gets cause = (short, gets)

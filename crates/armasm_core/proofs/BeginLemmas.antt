@@ -21,9 +21,9 @@ use Rattle.asm_model.specs.Labels.{Defined, defined_by}
 use Rattle.asm_model.specs.Laid.{LaidLine, laid, reversed, statements_of}
 use Rattle.asm_model.specs.LayoutKinds.{area_bytes, area_kinds, contents_behind, contents_kinds, equals_in, fault_kinds, first_equal, has_place, is_entry, is_free, is_repeated, is_thumb_area, layout_kinds, map_kinds, name_kinds, names_behind, names_here, names_in, no_area_kinds, settled, settled_kinds, state_kinds}
 use Rattle.asm_model.specs.OwnKinds.{own_kinds}
-use Rattle.asm_reading.specs.declared.reading.Reading.{Reading}
+use Rattle.asm_reading.specs.declared.flat_lines.Reading.{Reading}
 use Rattle.asm_reading.specs.Laws.{AreFit, OneReading, ReadingsAreFit}
-use Rattle.asm_reading.specs.Reading.{IsReading}
+use Rattle.asm_reading.specs.FlatLines.{IsReading}
 use Rattle.expand_model.specs.Expands.{Expands, ExpansionLaw, FaultAt, Flats, MissingFile, Outcome}
 use Rattle.expand_model.specs.Steps.{Sources, visit_limit}
 use Rattle.layout_laws.proofs.SoundLemmas.{both_empty, kind_none, or_none}
@@ -91,7 +91,8 @@ none_before s before is h =
     let repeated = is_repeated (names_behind before) (names_in s) in
     second_false (is_entry s.what) (list_any (λ t. is_entry t.what) before) is (neither repeated twice (kind_none (repeated || twice) DuplicateName h)).1
 
-any_there : (m : List LaidLine) (l : LaidLine) (b : List LaidLine) → is_entry l.statement.what ≡ true → list_any (λ t. is_entry t.what) (statements_of (m ++ l ∷ b)) ≡ true
+any_there : (m : List LaidLine) (l : LaidLine) (b : List LaidLine) → is_entry l.statement.what ≡ true
+    → list_any (λ t. is_entry t.what) (statements_of (m ++ l ∷ b)) ≡ true
 any_there [] l b is = true_or (is_entry l.statement.what) (list_any (λ t. is_entry t.what) (statements_of b)) is
 any_there (x ∷ m) l b is = or_true (is_entry x.statement.what) (list_any (λ t. is_entry t.what) (statements_of (m ++ l ∷ b))) (any_there m l b is)
 
@@ -123,7 +124,8 @@ module _ (ss : List Statement) (none : layout_faults ss ≡ None) where
       go (inr (inr (front, e))) = absurd (later_not m l b a second first front e)
 
   -- where no line gives the object an entry there is none
-  entry_none : (after before : List LaidLine) (l : LaidLine) → entry_of (after ++ l ∷ before) ≡ None → entry_by (is_entry l.statement.what) l.area l.offset ≡ None
+  entry_none : (after before : List LaidLine) (l : LaidLine) → entry_of (after ++ l ∷ before) ≡ None
+      → entry_by (is_entry l.statement.what) l.area l.offset ≡ None
   entry_none [] before l h = (or_none (entry_of before) (entry_by (is_entry l.statement.what) l.area l.offset) h).1
   entry_none (x ∷ after) before l h =
       entry_none after before l (or_none (entry_of (after ++ l ∷ before)) (entry_by (is_entry x.statement.what) x.area x.offset) h).0
@@ -152,7 +154,8 @@ module _ (ss : List Statement) (o : Object) (h : AreFaultless ss) (x : IsObject 
       let state : l.thumb ≡ is_thumb_area e.area ss = entry_state l.area e.area l.thumb l.statement.what ss n.own n.says last.0 in
       let a = within o.areas e.area (subst (λ (z : ℕ). e.area < z) (sym x.count) (line_below ss n.later n.earlier l n.parts e.area n.own)) in
       let facts = area_facts ss h e.area a.0 (x.areas e.area a.0 a.1) in
-      ap (λ (z : Option Area). option_map_or (λ a. marks_thumb a.attributes) z false) a.1 ∙ ap (λ (z : ℕ). z == 1) facts.bits.state ∙ flag_is (is_thumb_area e.area ss) ∙ sym state
+      ap (λ (z : Option Area). option_map_or (λ a. marks_thumb a.attributes) z false) a.1 ∙ ap (λ (z : ℕ). z == 1) facts.bits.state
+      ∙ flag_is (is_thumb_area e.area ss) ∙ sym state
 
   begins_there : (bases : ℕ → ℕ) → BeginsAtLine (source_of ss) bases (bases e.area + e.offset) (area_state o e.area)
   begins_there bases =
@@ -172,7 +175,8 @@ module _ (ss : List Statement) (o : Object) (h : AreFaultless ss) (x : IsObject 
 not_made : {A E : Type 0} (a : A) (e : E) → ◌≡◌ {A = Result A E} (Ok a) (Err e) → ⊥
 not_made a e h = cc
 
-module _ (expands : ExpansionLaw) (one : OneReading) (fits : ReadingsAreFit) (keep : SourcesKeepStates) (sources : Sources) (name text : List ℕ) (o : Object) where
+module _ (expands : ExpansionLaw) (one : OneReading) (fits : ReadingsAreFit) (keep : SourcesKeepStates) (sources : Sources) (name text : List ℕ)
+    (o : Object) where
   -- of the statements that made it
   abbrev Begins : List Statement → Option Entry → Type 0
   Begins ss None = (bases : ℕ → ℕ) (entry : ℕ) (thumb : Bool) → BeginsIn false (source_of ss) bases entry thumb
@@ -207,17 +211,21 @@ module _ (expands : ExpansionLaw) (one : OneReading) (fits : ReadingsAreFit) (ke
   by_outcome : (out : Outcome) → Expands sources visit_limit name text out → OutcomeMakes name out (Ok o)
       → (flats : List Flat) → Expands sources visit_limit name text (Flats flats) → (r : Reading) → IsReading flats r → Begins (said_by r) o.entry
   by_outcome (Flats made) has h flats others r says =
-      by_flats flats (subst (λ (fs : List Flat). FlatsMake name fs (Ok o)) (flats_same made flats (expands sources visit_limit name text (Flats made) (Flats flats) has others)) h) r says
+      by_flats flats (subst (λ (fs : List Flat). FlatsMake name fs (Ok o)) (flats_same made flats
+      (expands sources visit_limit name text (Flats made) (Flats flats) has others)) h) r says
   by_outcome (FaultAt file number kind) has h flats others r says = absurd (not_made o (BadLine file number kind) h)
   by_outcome (MissingFile file) has h flats others r says = absurd (not_made o (Missing file) h)
 
-  each : IsAssembled sources name text (Ok o) → (flats : List Flat) → Expands sources visit_limit name text (Flats flats) → (r : Reading) → IsReading flats r → Begins (said_by r) o.entry
+  each : IsAssembled sources name text (Ok o) → (flats : List Flat) → Expands sources visit_limit name text (Flats flats) → (r : Reading) → IsReading flats r
+      → Begins (said_by r) o.entry
   each (inl h) = absurd (not_made o (TooLarge SourceBytes most_bytes) h.1)
   each (inr h) = by_outcome h.1 h.2 h.3
 
-  as_said : (e : Option Entry) → ((flats : List Flat) → Expands sources visit_limit name text (Flats flats) → (r : Reading) → IsReading flats r → Begins (said_by r) e) → BeginsBy sources name text o e
+  as_said : (e : Option Entry) → ((flats : List Flat) → Expands sources visit_limit name text (Flats flats) → (r : Reading) → IsReading flats r
+      → Begins (said_by r) e) → BeginsBy sources name text o e
   as_said None h = λ bases entry thumb flats has r says. h flats has r says bases entry thumb
   as_said (Some e) h = λ bases flats has r says. h flats has r says bases
 
 pub sources_begin : ExpansionLaw → OneReading → ReadingsAreFit → SourcesKeepStates → SourcesBegin
-sources_begin expands one fits keep sources name text o h = as_said expands one fits keep sources name text o o.entry (each expands one fits keep sources name text o h)
+sources_begin expands one fits keep sources name text o h =
+    as_said expands one fits keep sources name text o o.entry (each expands one fits keep sources name text o h)

@@ -79,7 +79,8 @@ module _ (names : List (List ℕ)) (pieces : List Piece) (q : Piece) (f g : ℕ 
       let parts = reloc_parts (reloc_at p) (relocation names p.1) r is in
       notes r.offset ∙ ⊎_elim (before parts.0 parts.1) (last parts.0 parts.1) (last_among p pieces q among)
     where
-      before : r.offset ≡ reloc_at p → relocation names p.1 ≡ Some r.word → IsAmong p pieces → noted (f r.offset) (reloc_at q) (relocation names q.1) r.offset ≡ Some r.word
+      before : r.offset ≡ reloc_at p → relocation names p.1 ≡ Some r.word → IsAmong p pieces
+          → noted (f r.offset) (reloc_at q) (relocation names q.1) r.offset ≡ Some r.word
       before at word k =
           ap (noted (f r.offset) (reloc_at q) (relocation names q.1)) at
           ∙ stays names p q (f r.offset) (relocation names q.1) r.word (none p k) word refl (old p r k is)
@@ -162,7 +163,8 @@ pub record PutUpTo (names : List (List ℕ)) (at : ℕ) (us : List Emitted) (old
   pub stand : AllCanStand names (length now.bytes.items) (units_from next left)
   pub builder : (pieces : List Piece) → HasPieces names pieces old → MeetNone pieces (units_from at us) → HasPieces names (pieces ++ units_from at done) now
 
-pub put_next : (names : List (List ℕ)) (at : ℕ) (us : List Emitted) (old : AreaBuilder) (next : ℕ) (u : Emitted) (left : List Emitted) (now : AreaBuilder) (later : ℕ) (more : AreaBuilder)
+pub put_next : (names : List (List ℕ)) (at : ℕ) (us : List Emitted) (old : AreaBuilder) (next : ℕ) (u : Emitted) (left : List Emitted) (now : AreaBuilder)
+    (later : ℕ) (more : AreaBuilder)
     → PutUpTo names at us old next (u ∷ left) now → length more.bytes.items ≡ length now.bytes.items → later ≡ next + length (unit_bytes u)
     → ((pieces : List Piece) → HasPieces names pieces now → MeetsNone pieces (next, u) → HasPieces names (pieces ++ (next, u) ∷ []) more)
     → PutUpTo names at us old later left more
@@ -173,7 +175,8 @@ put_next names at us old next u left now later more h size step put = record {
   size = size ∙ h.size;
   stand = subst (λ (n : ℕ). AllCanStand names n (units_from later left)) (sym size)
       (subst (λ (n : ℕ). AllCanStand names (length now.bytes.items) (units_from n left)) (sym step) h.stand.1);
-  builder = λ pieces is none. subst (λ (ps : List Piece). HasPieces names ps more) (joined pieces) (put (pieces ++ units_from at h.done) (h.builder pieces is none) (meets pieces none));
+  builder = λ pieces is none. subst (λ (ps : List Piece). HasPieces names ps more) (joined pieces)
+      (put (pieces ++ units_from at h.done) (h.builder pieces is none) (meets pieces none));
 }
   where
     joined : (pieces : List Piece) → (pieces ++ units_from at h.done) ++ (next, u) ∷ [] ≡ pieces ++ units_from at (h.done ++ u ∷ [])
@@ -189,7 +192,8 @@ put_next names at us old next u left now later more h size step put = record {
 rest_of_all : {A : Type 0} (xs : List A) (n : ℕ) → length xs ≡ n → take n xs ≡ xs
 rest_of_all xs n e = take_all n xs (omega (arith, e))
 
-pub put_first : {C : Type 0} (emitted : C → Emitted) (names : List (List ℕ)) (at : ℕ) (us : List Emitted) (old : AreaBuilder) (next : ℕ) (xs : List C) (x : C) (now : AreaBuilder) (later : ℕ) (more : AreaBuilder)
+pub put_first : {C : Type 0} (emitted : C → Emitted) (names : List (List ℕ)) (at : ℕ) (us : List Emitted) (old : AreaBuilder) (next : ℕ) (xs : List C) (x : C)
+    (now : AreaBuilder) (later : ℕ) (more : AreaBuilder)
     → 1 ≤ length xs → x ≡ get_or xs 0 x → PutUpTo names at us old next (map emitted xs) now → length more.bytes.items ≡ length now.bytes.items
     → later ≡ next + length (unit_bytes (emitted x))
     → ((pieces : List Piece) → HasPieces names pieces now → MeetsNone pieces (next, emitted x) → HasPieces names (pieces ++ (next, emitted x) ∷ []) more)

@@ -6,10 +6,10 @@ use Rattle.armasm_core.specs.declared.builders.AreaBuilder.{AreaBuilder}
 use Rattle.armasm_core.specs.Builders.{HasPieces, MeetNone}
 use Rattle.armasm_core.specs.Pools.{pool_words, pooled_words, words_in}
 use Rattle.asm_units.specs.declared.emitted.LineUnits.{LineUnits}
-use Rattle.armasm_core.specs.declared.whole.Whole.{Whole}
+use Rattle.armasm_core.specs.declared.source_tables.SourceTables.{SourceTables}
 use Rattle.armasm_core.specs.Giving.{gives}
 use Rattle.armasm_core.specs.Putting.{IsPut}
-use Rattle.armasm_core.specs.Whole.{IsHere, kinds_at}
+use Rattle.armasm_core.specs.SourceTables.{IsHere, kinds_at}
 use Rattle.armasm_core.proofs.LoopLemmas.{lines_from, turned_again, first_of, none_left}
 use Rattle.base_lemmas.proofs.BaseLemmas.{rest_of}
 use Rattle.asm_layout.specs.Late.{AreOn}
@@ -51,7 +51,8 @@ later s area p before (r ∷ rest) h =
 pub stands_there : (ss : List Statement) (area : ℕ) (p : Piece) (before rest : List LaidLine) → laid ss ≡ reversed rest before
     → IsAmong p (things_so_far (source_of ss) before rest area) → StandsIn (source_of ss) area p
 stands_there ss area p before rest parts h =
-    ⊎_elim (λ k. among_last p (things_behind s area s.lines []) (pooled_words s area) k) (λ k. among_first p (things_behind s area s.lines []) (pooled_words s area) (line_there k))
+    ⊎_elim (λ k. among_last p (things_behind s area s.lines []) (pooled_words s area) k)
+    (λ k. among_first p (things_behind s area s.lines []) (pooled_words s area) (line_there k))
     (among_either p (pooled_words s area) (things_behind s area before rest) h)
   where
     s : Source
@@ -61,7 +62,8 @@ stands_there ss area p before rest parts h =
     line_there k = subst (λ (ls : List LaidLine). IsAmong p (things_behind s area ls [])) (sym parts) (later s area p before rest k)
 
 -- what a line puts into its area
-pub things_here : (ss : List Statement) (area : ℕ) (before rest : List LaidLine) (l : LaidLine) (more : List Piece) → l.area ≡ Some area → own_things ss l before rest ≡ more
+pub things_here : (ss : List Statement) (area : ℕ) (before rest : List LaidLine) (l : LaidLine) (more : List Piece) → l.area ≡ Some area
+    → own_things ss l before rest ≡ more
     → things_so_far (source_of ss) (l ∷ before) rest area ≡ things_so_far (source_of ss) before (l ∷ rest) area ++ more
 things_here ss area before rest l more here e =
     ap (λ (ps : List Piece). pooled_words (source_of ss) area ++ (things_behind (source_of ss) area before (l ∷ rest) ++ ps))
@@ -77,9 +79,11 @@ apart_there apart ss sound states before rest l own more parts same e = λ area 
     (subst (IsAmong q) (sym (things_here ss area before rest l more (sym same ∙ here) e))
     (among_last q (things_so_far (source_of ss) before (l ∷ rest) area) more u)))
 
-builders_there : (ss : List Statement) (names : List (List ℕ)) (before rest : List LaidLine) (l : LaidLine) (own : Option ℕ) (more : List Piece) (gs : List AreaBuild)
+builders_there : (ss : List Statement) (names : List (List ℕ)) (before rest : List LaidLine) (l : LaidLine) (own : Option ℕ) (more : List Piece)
+    (gs : List AreaBuild)
     → own ≡ l.area → own_things ss l before rest ≡ more
-    → HavePieces names (with_line (things_so_far (source_of ss) before (l ∷ rest)) own more) gs → HavePieces names (things_so_far (source_of ss) (l ∷ before) rest) gs
+    → HavePieces names (with_line (things_so_far (source_of ss) before (l ∷ rest)) own more) gs
+    → HavePieces names (things_so_far (source_of ss) (l ∷ before) rest) gs
 builders_there ss names before rest l own more gs same e h = λ area g is.
     let words = pooled_words (source_of ss) area in
     let things = things_behind (source_of ss) area before (l ∷ rest) in
@@ -131,7 +135,7 @@ pools_first ss names xs gs h same builders = λ area g is.
 
 -- ---- all lines
 
-pub grown_first : (ss : List Statement) (l : Layout) (w : Whole) (names : List (List ℕ)) (known : List Named) (gs : List AreaBuild) → IsEmittable ss l w
+pub grown_first : (ss : List Statement) (l : Layout) (w : SourceTables) (names : List (List ℕ)) (known : List Named) (gs : List AreaBuild) → IsEmittable ss l w
     → ((q : List ℕ) → register_in q known ≡ None) → HavePieces names (pooled_words (source_of ss)) gs → IsGrown ss names l.statements known gs
 grown_first ss l w names known gs h none builders = record {
   before = [];
@@ -156,7 +160,8 @@ grown_all ss names left known gs less h =
     )
 
 -- the lines that are left begin with this one
-pub record Next (ss : List Statement) (l : Layout) (w : Whole) (names : List (List ℕ)) (x : LaidStatement) (more : List LaidStatement) (known : List Named) (gs : List AreaBuild) : Type 0 where
+pub record Next (ss : List Statement) (l : Layout) (w : SourceTables) (names : List (List ℕ)) (x : LaidStatement) (more : List LaidStatement)
+    (known : List Named) (gs : List AreaBuild) : Type 0 where
   pub before : List LaidLine
   pub line : LaidLine
   pub rest : List LaidLine
@@ -165,7 +170,8 @@ pub record Next (ss : List Statement) (l : Layout) (w : Whole) (names : List (Li
   pub none : value_faults ss ≡ first_valued (laid ss) ss before (line ∷ rest)
   pub builders : HavePieces names (things_so_far (source_of ss) before (line ∷ rest)) gs
 
-next_of : (ss : List Statement) (l : Layout) (w : Whole) (names : List (List ℕ)) (x : LaidStatement) (more : List LaidStatement) (known : List Named) (gs : List AreaBuild)
+next_of : (ss : List Statement) (l : Layout) (w : SourceTables) (names : List (List ℕ)) (x : LaidStatement) (more : List LaidStatement) (known : List Named)
+    (gs : List AreaBuild)
     → IsEmittable ss l w → IsGrown ss names (x ∷ more) known gs → Next ss l w names x more known gs
 next_of ss l w names x more known gs j k =
     let f = first_of k.before k.rest x more k.lines in
@@ -184,17 +190,21 @@ next_of ss l w names x more known gs j k =
       };
       lines = f.lines;
       none = k.none ∙ ap (λ (ls : List LaidLine). first_valued (laid ss) ss k.before ls) f.parts;
-      builders = λ area g is. subst (λ (ls : List LaidLine). HasPieces names (things_so_far (source_of ss) k.before ls area) g.builder) f.parts (k.builders area g is);
+      builders =
+          λ area g is. subst (λ (ls : List LaidLine). HasPieces names (things_so_far (source_of ss) k.before ls area) g.builder) f.parts (k.builders area g is);
     }
 
-pub next_there : (ss : List Statement) (l : Layout) (w : Whole) (names : List (List ℕ)) (x : LaidStatement) (left : List LaidStatement) (known : List Named) (gs : List AreaBuild)
-    → 1 ≤ length left → x ≡ get_or left 0 x → IsEmittable ss l w → IsGrown ss names left known gs → Next ss l w names x (take (length left - 1) (drop 1 left)) known gs
+pub next_there : (ss : List Statement) (l : Layout) (w : SourceTables) (names : List (List ℕ)) (x : LaidStatement) (left : List LaidStatement)
+    (known : List Named) (gs : List AreaBuild)
+    → 1 ≤ length left → x ≡ get_or left 0 x → IsEmittable ss l w → IsGrown ss names left known gs
+    → Next ss l w names x (take (length left - 1) (drop 1 left)) known gs
 next_there ss l w names x left known gs some at j k =
     next_of ss l w names x (take (length left - 1) (drop 1 left)) known gs j
     (subst (λ (xs : List LaidStatement). IsGrown ss names xs known gs) (rest_of left x some at) k)
 
 -- what the line puts is what definitions have
-pub put_there : (ss : List Statement) (l : Layout) (w : Whole) (names : List (List ℕ)) (x : LaidStatement) (more : List LaidStatement) (known : List Named) (gs : List AreaBuild)
+pub put_there : (ss : List Statement) (l : Layout) (w : SourceTables) (names : List (List ℕ)) (x : LaidStatement) (more : List LaidStatement)
+    (known : List Named) (gs : List AreaBuild)
     (n : Next ss l w names x more known gs) (u : LineUnits) (us : List Code) → us ≡ u.units.items → IsPut ss n.before n.rest n.line u
     → own_things ss n.line n.before n.rest ≡ pieces_put x.place.offset us
 put_there ss l w names x more known gs n u us is h =
@@ -205,13 +215,16 @@ told_first t u f (inl none) = inl none
 told_first t u f (inr h) = inr (h.0, h.1, ap (λ o. or_else o u) h.2, h.3)
 
 -- the refusal of the first of the lines that are left is that of the source
-pub told_here : (ss : List Statement) (l : Layout) (w : Whole) (names : List (List ℕ)) (x : LaidStatement) (more : List LaidStatement) (known : List Named) (gs : List AreaBuild)
-    (n : Next ss l w names x more known gs) (f : Fault) → IsTold (told_at n.line.statement (told_kind (kinds_at ss n.before n.line n.rest))) f → IsTold (value_faults ss) f
+pub told_here : (ss : List Statement) (l : Layout) (w : SourceTables) (names : List (List ℕ)) (x : LaidStatement) (more : List LaidStatement)
+    (known : List Named) (gs : List AreaBuild)
+    (n : Next ss l w names x more known gs) (f : Fault) → IsTold (told_at n.line.statement (told_kind (kinds_at ss n.before n.line n.rest))) f
+    → IsTold (value_faults ss) f
 told_here ss l w names x more known gs n f h =
     subst (λ o. IsTold o f) (sym n.none)
     (told_first (told_at n.line.statement (told_kind (kinds_at ss n.before n.line n.rest))) (first_valued (laid ss) ss (n.line ∷ n.before) n.rest) f h)
 
-pub grown_more : (ss : List Statement) (l : Layout) (w : Whole) (names : List (List ℕ)) (x : LaidStatement) (more : List LaidStatement) (known new : List Named) (gs hs : List AreaBuild)
+pub grown_more : (ss : List Statement) (l : Layout) (w : SourceTables) (names : List (List ℕ)) (x : LaidStatement) (more : List LaidStatement)
+    (known new : List Named) (gs hs : List AreaBuild)
     (n : Next ss l w names x more known gs) (u : LineUnits) (us : List Code) → us ≡ u.units.items → IsPut ss n.before n.rest n.line u
     → HavePieces names (with_line (things_so_far (source_of ss) n.before (n.line ∷ n.rest)) x.place.area (pieces_put x.place.offset us)) hs
     → ((q : List ℕ) → register_in q new ≡ register_in q (known ++ gives u.number (defined_by x.statement)))

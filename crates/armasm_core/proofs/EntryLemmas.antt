@@ -22,7 +22,8 @@ first_behind [] x = or_none (entry_at x)
 first_behind (y ∷ ys) x =
     ap (λ (o : Option Entry). or_else (entry_at y) o) (first_behind ys x) ∙ assoc (entry_at y) (first_entry ys) (entry_at x)
 
-entry_there : (x : LaidStatement) (l : LaidLine) (before : List LaidLine) → IsStatement x l before → entry_at x ≡ entry_by (is_entry l.statement.what) l.area l.offset
+entry_there : (x : LaidStatement) (l : LaidLine) (before : List LaidLine) → IsStatement x l before
+    → entry_at x ≡ entry_by (is_entry l.statement.what) l.area l.offset
 entry_there x l before h = rw (h.statement, h.place.area, h.place.offset) refl
 
 pub first_is : (all : List LaidLine) (xs : List LaidStatement) → AreStatements all xs → first_entry xs ≡ entry_of all

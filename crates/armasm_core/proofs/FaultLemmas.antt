@@ -10,7 +10,7 @@ use Rattle.asm_layout.specs.Layout.{IsTold}
 use Rattle.asm_model.specs.declared.lines.Flat.{Flat}
 use Rattle.asm_model.specs.declared.statements.Statement.{Statement}
 use Rattle.asm_model.specs.Directives.{or_else}
-use Rattle.asm_reading.specs.declared.reading.Reading.{Reading}
+use Rattle.asm_reading.specs.declared.flat_lines.Reading.{Reading}
 use Rattle.source_model.specs.SourceFaults.{value_faults}
 use Rattle.armasm_core.specs.Assembling.{said_by, says_area, told, line_faults, reading_faults, without_area}
 use Rattle.armasm_core.specs.Passes.{IsToldAs, LaysLines, LaysOut, Makes}
@@ -26,13 +26,15 @@ no_area : (name : List ℕ) (flats : List Flat) (r : Reading) → list_any says_
 no_area name flats r h = rw h refl
 
 pub area_missing_beside : (name : List ℕ) (flats : List Flat) (r : Reading) (e f : Fault) → list_any says_area flats ≡ false
-    → LaysLines (said_by r) r.before r.unread (Err e) → ((t : Option Refusal) → IsToldAs t e → IsToldAs (Some (without_area name t)) f) → LaysOut name flats r (Err f)
+    → LaysLines (said_by r) r.before r.unread (Err e) → ((t : Option Refusal) → IsToldAs t e → IsToldAs (Some (without_area name t)) f)
+    → LaysOut name flats r (Err f)
 area_missing_beside name flats r e f h k tables =
     subst (λ (t : Option Refusal). IsToldAs t f) (sym (no_area name flats r h)) (tables (line_faults (said_by r) r.before r.unread) k)
 
 -- ---- the object
 
-pub makes : (name : List ℕ) (flats : List Flat) (r : Reading) (x : Result Object Fault) → reading_faults name flats r ≡ None → IsEmitted (said_by r) x → Makes name flats r x
+pub makes : (name : List ℕ) (flats : List Flat) (r : Reading) (x : Result Object Fault) → reading_faults name flats r ≡ None → IsEmitted (said_by r) x
+    → Makes name flats r x
 makes name flats r (Ok o) none h = (ap (λ (t : Option Refusal). or_else t (told (value_faults (said_by r)))) none ∙ ap told h.0, h.1)
 makes name flats r (Err f) none h =
     subst (λ (t : Option Refusal). IsToldAs t f)

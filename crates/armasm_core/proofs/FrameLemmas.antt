@@ -10,7 +10,8 @@ pub record HasFrame (xs : List LaidArea) (area : ℕ) (g : AreaBuild) : Type 0 w
   pub there : slice_get xs area ≡ Some laid_area
   pub same : frame g ≡ frame_of laid_area
 
-pub frame_there : (gs : List AreaBuild) (xs : List LaidArea) → frames gs ≡ map frame_of xs → (area : ℕ) (g : AreaBuild) → slice_get gs area ≡ Some g → HasFrame xs area g
+pub frame_there : (gs : List AreaBuild) (xs : List LaidArea) → frames gs ≡ map frame_of xs → (area : ℕ) (g : AreaBuild) → slice_get gs area ≡ Some g
+    → HasFrame xs area g
 frame_there [] xs e area g is = absurd (cc)
 frame_there (y ∷ gs) [] e area g is = absurd (cc)
 frame_there (y ∷ gs) (x ∷ xs) e zero g is =

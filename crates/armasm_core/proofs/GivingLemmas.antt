@@ -22,7 +22,7 @@ use Rattle.asm_model.specs.declared.names.LaidName.{LaidName}
 use Rattle.asm_model.specs.Labels.{defined_by, field_defines, what_defines, directive_defines}
 use Rattle.asm_model.specs.Laid.{LaidLine, laid_of, laid_behind}
 use Rattle.asm_model.specs.LayoutKinds.{fault_kinds}
-use Rattle.said_model.specs.Said.{WhatSaid, GivenSaid, AllSaid}
+use Rattle.asm_model.specs.Said.{WhatSaid, GivenSaid, AllSaid}
 use Rattle.source_model.specs.Contexts.{Context, value_of, number_in}
 use Rattle.source_model.specs.Registers.{Named, register_in, as_register, given, with_register, named_by, registers_behind, given_kinds, names_kinds, operand_kinds, registers_of, register_kinds}
 use Rattle.asm_units.specs.Passing.{IsNumber}
@@ -30,7 +30,8 @@ use Rattle.armasm_core.specs.Giving.{gives}
 
 -- ---- what RN gives
 
-number_stays : (c : Context) (s : Names) (e : Expr) (r : Result Value LineKind) → value_there s e ≡ r → ((v : Value) → value_there s e ≡ Ok v → value_of c e ≡ Ok v)
+number_stays : (c : Context) (s : Names) (e : Expr) (r : Result Value LineKind) → value_there s e ≡ r
+    → ((v : Value) → value_there s e ≡ Ok v → value_of c e ≡ Ok v)
     → fault_kinds (as_register (as_number r)) ≡ [] → number_there s e ≡ number_in c e
 number_stays c s e (Ok (Number n)) is kept h = ap as_number is ∙ sym (ap as_number (kept (Number n) is))
 number_stays c s e (Ok (Truth b)) is kept h = absurd (cc)
@@ -121,5 +122,6 @@ small_found q (r ∷ rs) n h e = by_test (same r.0 q) e (small_found q rs n h.1)
     by_test true e rest = let is : r.1 ≡ n = cc in subst (λ m. m < 16) is h.0
     by_test false e rest = rest e
 
-pub small_there : (d : List LaidName) (ss : List Statement) → AllSaid ss → (q : List ℕ) (n : ℕ) → register_in q (registers_behind (laid_of d ss)) ≡ Some n → n < 16
+pub small_there : (d : List LaidName) (ss : List Statement) → AllSaid ss → (q : List ℕ) (n : ℕ) → register_in q (registers_behind (laid_of d ss)) ≡ Some n
+    → n < 16
 small_there d ss h q n e = small_found q (registers_behind (laid_of d ss)) n (all_small d ss h) e

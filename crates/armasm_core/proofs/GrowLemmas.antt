@@ -10,13 +10,14 @@ use Rattle.asm_model.specs.Offsets.{is_of}
 use Rattle.asm_model.proofs.OffsetLemmas.{is_here}
 use Rattle.source_model.specs.Objects.{Piece, words_of}
 use Rattle.armasm_core.specs.declared.building.AreaBuild.{AreaBuild}
-use Rattle.armasm_core.specs.declared.whole.Whole.{Whole}
+use Rattle.armasm_core.specs.declared.source_tables.SourceTables.{SourceTables}
 use Rattle.armasm_core.specs.Pools.{BeginsWith, HoldPools, pool_words, words_in}
 use Rattle.armasm_core.specs.Building.{HavePieces, CanTake, LineCanStand, MeetNoneThere, Frame, frame, frame_of, frames, with_line}
 
 -- ---- one area of many
 
-set_got : (gs : List AreaBuild) (i j : ℕ) (y z : AreaBuild) → slice_get (slice_set gs i y) j ≡ Some z → ((i ≡ j) × (y ≡ z)) ⊎ ((i ≡ j → ⊥) × (slice_get gs j ≡ Some z))
+set_got : (gs : List AreaBuild) (i j : ℕ) (y z : AreaBuild) → slice_get (slice_set gs i y) j ≡ Some z → ((i ≡ j) × (y ≡ z))
+    ⊎ ((i ≡ j → ⊥) × (slice_get gs j ≡ Some z))
 set_got [] i j y z e = absurd (cc)
 set_got (x ∷ gs) zero zero y z e = inl (refl, cc)
 set_got (x ∷ gs) zero (suc j) y z e = inr (λ h. omega arith, e)
@@ -51,13 +52,15 @@ pub take_less : (names : List (List ℕ)) (gs : List AreaBuild) (own : Option �
     → LineCanStand names (frames gs) own more → area < length gs
 take_less names gs own area more e h = let t = take_there names (frames gs) own area more e h in frame_less gs area t.own t.there
 
-pub take_small : (names : List (List ℕ)) (gs : List AreaBuild) (own : Option ℕ) (area : ℕ) (more : List Piece) (x : AreaBuild) → own ≡ Some area → x ≡ get_or gs area x
+pub take_small : (names : List (List ℕ)) (gs : List AreaBuild) (own : Option ℕ) (area : ℕ) (more : List Piece) (x : AreaBuild) → own ≡ Some area
+    → x ≡ get_or gs area x
     → LineCanStand names (frames gs) own more → length x.builder.bytes.items < 2 ^ 32
 take_small names gs own area more x e at h =
     let t = take_there names (frames gs) own area more e h in
     subst (λ (f : Frame). f.kept < 2 ^ 32) (frame_read gs area t.own x t.there at) t.small
 
-pub take_stand : (names : List (List ℕ)) (gs : List AreaBuild) (own : Option ℕ) (area : ℕ) (more : List Piece) (x : AreaBuild) → own ≡ Some area → x ≡ get_or gs area x
+pub take_stand : (names : List (List ℕ)) (gs : List AreaBuild) (own : Option ℕ) (area : ℕ) (more : List Piece) (x : AreaBuild) → own ≡ Some area
+    → x ≡ get_or gs area x
     → LineCanStand names (frames gs) own more → AllCanStand names (length x.builder.bytes.items) more
 take_stand names gs own area more x e at h =
     let t = take_there names (frames gs) own area more e h in
@@ -81,7 +84,8 @@ builders_put names held gs i x y own more here less at old apart grows = λ area
     others_there : (area : ℕ) → (i ≡ area → ⊥) → with_line held own more area ≡ held area
     others_there area far = ap (λ (ms : List Piece). held area ++ ms) (cond-false (is_of area own) more [] (other area far)) ∙ append-nil (held area)
 
-    by_place : (area : ℕ) (g : AreaBuild) → ((i ≡ area) × (y ≡ g)) ⊎ ((i ≡ area → ⊥) × (slice_get gs area ≡ Some g)) → HasPieces names (with_line held own more area) g.builder
+    by_place : (area : ℕ) (g : AreaBuild) → ((i ≡ area) × (y ≡ g)) ⊎ ((i ≡ area → ⊥) × (slice_get gs area ≡ Some g))
+        → HasPieces names (with_line held own more area) g.builder
     by_place area g (inl h) =
         subst (λ (n : ℕ). HasPieces names (with_line held own more n) g.builder) h.0
         (subst (λ (z : AreaBuild). HasPieces names (with_line held own more i) z.builder) h.1
@@ -89,7 +93,8 @@ builders_put names held gs i x y own more here less at old apart grows = λ area
     by_place area g (inr h) = subst (λ (ps : List Piece). HasPieces names ps g.builder) (sym (others_there area h.0)) (old area g h.1)
 
 -- a line in no area puts nothing
-pub builders_same : (names : List (List ℕ)) (held : ℕ → List Piece) (gs : List AreaBuild) (own : Option ℕ) (more : List Piece) → own ≡ None → HavePieces names held gs
+pub builders_same : (names : List (List ℕ)) (held : ℕ → List Piece) (gs : List AreaBuild) (own : Option ℕ) (more : List Piece) → own ≡ None
+    → HavePieces names held gs
     → HavePieces names (with_line held own more) gs
 builders_same names held gs own more none old = λ area g is.
     subst (λ (ps : List Piece). HasPieces names ps g.builder)
@@ -97,7 +102,8 @@ builders_same names held gs own more none old = λ area g is.
 
 -- ---- areas one behind the other
 
-pub builders_more : (names : List (List ℕ)) (held : ℕ → List Piece) (gs : List AreaBuild) (y : AreaBuild) → HavePieces names held gs → HasPieces names (held (length gs)) y.builder
+pub builders_more : (names : List (List ℕ)) (held : ℕ → List Piece) (gs : List AreaBuild) (y : AreaBuild) → HavePieces names held gs
+    → HasPieces names (held (length gs)) y.builder
     → HavePieces names held (gs ++ y ∷ [])
 builders_more names held [] y h k = λ area g is. one area g is
   where
@@ -106,11 +112,13 @@ builders_more names held [] y h k = λ area g is. one area g is
     one (suc area) g is = absurd (cc)
 builders_more names held (x ∷ gs) y h k = λ area g is. by_place (builders_more names (λ n. held (suc n)) gs y (λ n z e. h (suc n) z e) k) area g is
   where
-    by_place : HavePieces names (λ n. held (suc n)) (gs ++ y ∷ []) → (area : ℕ) (g : AreaBuild) → slice_get (x ∷ (gs ++ y ∷ [])) area ≡ Some g → HasPieces names (held area) g.builder
+    by_place : HavePieces names (λ n. held (suc n)) (gs ++ y ∷ []) → (area : ℕ) (g : AreaBuild) → slice_get (x ∷ (gs ++ y ∷ [])) area ≡ Some g
+        → HasPieces names (held area) g.builder
     by_place rest zero g is = h zero g is
     by_place rest (suc area) g is = rest area g is
 
-pub pools_more : (w : Whole) (names : List (List ℕ)) (areas : List LaidArea) (gs : List AreaBuild) (n : ℕ) (a : LaidArea) (y : AreaBuild) → length gs ≡ n → slice_get areas n ≡ Some a
+pub pools_more : (w : SourceTables) (names : List (List ℕ)) (areas : List LaidArea) (gs : List AreaBuild) (n : ℕ) (a : LaidArea) (y : AreaBuild) → length gs ≡ n
+    → slice_get areas n ≡ Some a
     → HoldPools w names areas gs → BeginsWith w names n a.pools.placed y.builder → HoldPools w names areas (gs ++ y ∷ [])
 pools_more w names areas gs n a y count at held begins = λ s shares apart.
     let there : words_in s n (slice_get areas n) ≡ words_of s n a.pools.placed = ap (words_in s n) at in

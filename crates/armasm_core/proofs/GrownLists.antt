@@ -2,8 +2,8 @@
 use Rattle.std.proofs.Common.{◌≡◌, ◌≤◌, ◌<◌, ◌-◌, ℕ, List, [], ◌∷◌, length, take, drop, get_or, refl, sym, ap, ◌∙◌, subst}
 use Rattle.base_lemmas.proofs.BaseLemmas.{rest_of}
 use Rattle.asm_layout.specs.Late.{AreOn}
-use Rattle.asm_layout.specs.Lines.{IsLineOf}
-use Rattle.asm_names.specs.declared.lines.PlacedLine.{PlacedLine}
+use Rattle.asm_layout.specs.PlacedLines.{IsLineOf}
+use Rattle.asm_names.specs.declared.placed_lines.PlacedLine.{PlacedLine}
 use Rattle.asm_model.specs.declared.names.LaidName.{LaidName}
 use Rattle.asm_model.specs.declared.statements.Statement.{Statement}
 use Rattle.asm_layout.specs.declared.laid.LaidArea.{LaidArea}
@@ -11,14 +11,15 @@ use Rattle.asm_layout.specs.declared.laid.LaidStatement.{LaidStatement}
 use Rattle.asm_layout.specs.declared.laid.Layout.{Layout}
 use Rattle.asm_model.specs.Laid.{LaidLine, laid, taken, reversed, final_names}
 use Rattle.asm_model.specs.Symbols.{symbols_in, symbols_of, listed_behind}
-use Rattle.armasm_core.specs.declared.whole.Whole.{Whole}
+use Rattle.armasm_core.specs.declared.source_tables.SourceTables.{SourceTables}
 use Rattle.armasm_core.proofs.LoopLemmas.{lines_from, turned_again, first_of, none_left}
 use Rattle.armasm_core.specs.Listing.{StandsThere, needed_by, IsListable, IsListed}
 use Rattle.armasm_core.proofs.ListLemmas.{nothing}
 
 -- ---- a line
 
-pub needed_there : (statements : List Statement) (areas : List LaidArea) (w : Whole) (before rest : List LaidLine) (l : LaidLine) (x : LaidStatement) (y : PlacedLine) (old new : List (List ℕ))
+pub needed_there : (statements : List Statement) (areas : List LaidArea) (w : SourceTables) (before rest : List LaidLine) (l : LaidLine) (x : LaidStatement)
+    (y : PlacedLine) (old new : List (List ℕ))
     → StandsThere statements areas w before rest l x → IsLineOf x y
     → new ≡ listed_behind old (symbols_in w.names.now l.line (taken l.extent) y.statement.now.what)
     → new ≡ listed_behind old (needed_by statements l)
@@ -29,7 +30,7 @@ needed_there statements areas w before rest l x y old new h r e =
 
 -- ---- all lines
 
-pub listed_first : (statements : List Statement) (l : Layout) (w : Whole) → IsListable statements l w → IsListed statements l.statements []
+pub listed_first : (statements : List Statement) (l : Layout) (w : SourceTables) → IsListable statements l w → IsListed statements l.statements []
 listed_first statements l w h = record {
   before = [];
   rest = reversed (laid statements) [];
@@ -46,7 +47,8 @@ listed_all statements left symbols less h =
     h.same ∙ ap (λ (ls : List LaidLine). symbols_of (final_names (laid statements)) ls) (sym all)
 
 -- the lines that are left begin with this one
-pub record Next (statements : List Statement) (l : Layout) (w : Whole) (x : LaidStatement) (more : List LaidStatement) (symbols : List (List ℕ)) : Type 0 where
+pub record Next (statements : List Statement) (l : Layout) (w : SourceTables) (x : LaidStatement) (more : List LaidStatement) (symbols : List (List ℕ)) : Type
+    0 where
   pub before : List LaidLine
   pub line : LaidLine
   pub rest : List LaidLine
@@ -54,7 +56,7 @@ pub record Next (statements : List Statement) (l : Layout) (w : Whole) (x : Laid
   pub lines : AreOn (line ∷ before) rest more
   pub same : symbols ≡ symbols_of (final_names (laid statements)) before
 
-next_of : (statements : List Statement) (l : Layout) (w : Whole) (x : LaidStatement) (more : List LaidStatement) (symbols : List (List ℕ))
+next_of : (statements : List Statement) (l : Layout) (w : SourceTables) (x : LaidStatement) (more : List LaidStatement) (symbols : List (List ℕ))
     → IsListable statements l w → IsListed statements (x ∷ more) symbols → Next statements l w x more symbols
 next_of statements l w x more symbols j k =
     let f = first_of k.before k.rest x more k.lines in
@@ -74,13 +76,15 @@ next_of statements l w x more symbols j k =
       same = k.same;
     }
 
-pub next_there : (statements : List Statement) (l : Layout) (w : Whole) (x : LaidStatement) (left : List LaidStatement) (symbols : List (List ℕ))
+pub next_there : (statements : List Statement) (l : Layout) (w : SourceTables) (x : LaidStatement) (left : List LaidStatement) (symbols : List (List ℕ))
     → 1 ≤ length left → x ≡ get_or left 0 x → IsListable statements l w → IsListed statements left symbols
     → Next statements l w x (take (length left - 1) (drop 1 left)) symbols
 next_there statements l w x left symbols some at j k =
-    next_of statements l w x (take (length left - 1) (drop 1 left)) symbols j (subst (λ (xs : List LaidStatement). IsListed statements xs symbols) (rest_of left x some at) k)
+    next_of statements l w x (take (length left - 1) (drop 1 left)) symbols j
+    (subst (λ (xs : List LaidStatement). IsListed statements xs symbols) (rest_of left x some at) k)
 
-pub listed_more : (statements : List Statement) (l : Layout) (w : Whole) (x : LaidStatement) (more : List LaidStatement) (old new : List (List ℕ)) (n : Next statements l w x more old)
+pub listed_more : (statements : List Statement) (l : Layout) (w : SourceTables) (x : LaidStatement) (more : List LaidStatement) (old new : List (List ℕ))
+    (n : Next statements l w x more old)
     → new ≡ listed_behind old (needed_by statements n.line) → IsListed statements more new
 listed_more statements l w x more old new n e = record {
   before = n.line ∷ n.before;

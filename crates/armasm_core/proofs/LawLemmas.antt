@@ -6,10 +6,10 @@ use Rattle.aof_object.specs.declared.records.Object.{Object}
 use Rattle.asm_model.specs.declared.lines.Flat.{Flat}
 use Rattle.asm_model.specs.declared.statements.Statement.{Statement}
 use Rattle.asm_model.specs.Directives.{or_else}
-use Rattle.asm_reading.specs.declared.reading.Reading.{Reading}
-use Rattle.asm_reading.specs.declared.reading.Unread.{Unread}
+use Rattle.asm_reading.specs.declared.flat_lines.Reading.{Reading}
+use Rattle.asm_reading.specs.declared.flat_lines.Unread.{Unread}
 use Rattle.asm_reading.specs.Laws.{OneReading}
-use Rattle.asm_reading.specs.Reading.{IsReading}
+use Rattle.asm_reading.specs.FlatLines.{IsReading}
 use Rattle.asm_model.specs.Laid.{reversed}
 use Rattle.expand_model.specs.Expands.{Outcome, Flats, FaultAt, MissingFile, ExpansionLaw}
 use Rattle.expand_model.specs.Steps.{visit_limit}
@@ -27,11 +27,13 @@ faults_of name flats items unread before =
     else Some (without_area name (line_faults (reversed items []) before unread)))
     (told (value_faults (reversed items [])))
 
-same_faults : OneReading → (name : List ℕ) (flats : List Flat) (a b : Reading) → IsReading flats a → IsReading flats b → source_faults name flats a ≡ source_faults name flats b
+same_faults : OneReading → (name : List ℕ) (flats : List Flat) (a b : Reading) → IsReading flats a → IsReading flats b
+    → source_faults name flats a ≡ source_faults name flats b
 unfolding faults_of
 same_faults law name flats a b h k =
     let e = law flats a b h k in
-    ap (λ (x : List Statement). faults_of name flats x a.unread a.before) e.0 ∙ ap (λ (x : Option Unread). faults_of name flats b.statements.items x a.before) e.1
+    ap (λ (x : List Statement). faults_of name flats x a.unread a.before) e.0
+    ∙ ap (λ (x : Option Unread). faults_of name flats b.statements.items x a.before) e.1
     ∙ ap (λ (n : ℕ). faults_of name flats b.statements.items b.unread n) e.2
 
 -- ---- what flat lines make
@@ -46,7 +48,8 @@ made_once law one name flats p q (Err r) (Ok o) h k m n =
     absurd (let bad : None ≡ Some r = sym n.0 ∙ same_faults law name flats q p k h ∙ m in cc)
 made_once law one name flats p q (Err r) (Err s) h k m n = let is : Some r ≡ Some s = sym m ∙ same_faults law name flats p q h k ∙ n in cc
 
-flats_once : OneReading → OneObject → (name : List ℕ) (flats : List Flat) (a b : Result Object Refusal) → FlatsMake name flats a → FlatsMake name flats b → a ≡ b
+flats_once : OneReading → OneObject → (name : List ℕ) (flats : List Flat) (a b : Result Object Refusal) → FlatsMake name flats a → FlatsMake name flats b
+    → a ≡ b
 flats_once law one name flats a b h k = made_once law one name flats h.reading k.reading a b h.says k.says h.makes k.makes
 
 -- ---- what a source makes

@@ -1,6 +1,6 @@
 -- Lists of a source.
 use Rattle.std.proofs.Common.{◌≡◌, ◌+◌, ◌^◌, ◌<◌, List, [], ◌∷◌, length, refl, arith}
-use Rattle.asm_laying.specs.Behind.{most_statements}
+use Rattle.asm_laying.specs.Carried.{most_statements}
 use Rattle.asm_layout.proofs.WalkLemmas.{reversed_long}
 use Rattle.asm_model.specs.declared.statements.Statement.{Statement}
 use Rattle.asm_model.specs.Laid.{reversed}

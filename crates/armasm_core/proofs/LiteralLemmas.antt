@@ -4,8 +4,6 @@ use Rattle.std.specs.Prelude.{◌||◌, not}
 use Rattle.std.specs.List.{slice_get}
 use Rattle.std.proofs.lemmas.Bool.{or_parts}
 use Rattle.sdt_fault.specs.declared.kinds.LineKind.TheVariants.{NoArea}
-use Rattle.asm_model.specs.declared.directives.DirectiveLine.{DirectiveLine}
-use Rattle.asm_model.specs.declared.directives.DirectiveLine.TheVariants as line
 use Rattle.asm_model.specs.declared.statements.What.{What}
 use Rattle.asm_model.specs.declared.statements.What.TheVariants as what
 use Rattle.asm_model.specs.declared.values.Value.{Value}
@@ -18,54 +16,36 @@ use Rattle.asm_pool.specs.Pooled.{Pooled, noted, flushed, place_of, place_among,
 use Rattle.asm_layout.specs.declared.laid.LaidArea.{LaidArea}
 use Rattle.asm_units.specs.Literals.{literal_in}
 use Rattle.layout_laws.proofs.SoundLemmas.{kind_none}
-use Rattle.asm_model.specs.Extents.{Extent, Block, Padding, Loading, Pool, extent_of, directive_extent}
+use Rattle.asm_model.specs.Extents.{Extent, Block, Padding, Loading, Pool, extent_of, occupied_extent}
 use Rattle.asm_model.specs.Labels.{Defined}
 use Rattle.asm_model.specs.Laid.{taken}
-use Rattle.asm_model.specs.LayoutKinds.{is_free, has_place, names_here, no_area_kinds}
+use Rattle.asm_model.specs.LayoutKinds.{is_free, is_unplaced, has_place, names_here, no_area_kinds}
+use Rattle.asm_model.specs.Occupied.{Occupied, Unplaced, Opening, Marking, Entering, Items, Zeroes, UpTo, Literals, occupied}
 use Rattle.asm_model.specs.OffsetLaws.{joined}
 use Rattle.asm_model.specs.Offsets.{Piece, is_of, start_in}
 use Rattle.source_model.specs.SourceFaults.{word_of}
 use Rattle.armasm_core.specs.Loaded as own
-use Rattle.asm_areas.proofs.StartLemmas.{self}
+use Rattle.asm_checks.proofs.StartLemmas.{self}
 use Rattle.base_lemmas.proofs.BaseLemmas.{not_false}
 
 -- ---- before the first area
 
-free_directive : (s : Names) (d : DirectiveLine) → is_free (what.Directive d) ≡ true → literal_in (taken (directive_extent s d)) ≡ None
-free_directive s (line.Area n a) e = refl
-free_directive s line.Entry e = absurd (cc)
-free_directive s line.End e = refl
-free_directive s (line.Export n) e = refl
-free_directive s (line.Import n weak) e = refl
-free_directive s (line.Extern n weak) e = refl
-free_directive s (line.Keep n) e = refl
-free_directive s (line.Equ v) e = refl
-free_directive s (line.Rn r) e = refl
-free_directive s line.Rout e = refl
-free_directive s (line.Assert v) e = refl
-free_directive s line.Nofp e = refl
-free_directive s (line.Opt v) e = refl
-free_directive s line.Ttl e = refl
-free_directive s line.Subt e = refl
-free_directive s (line.Dcd v) e = refl
-free_directive s (line.Dcdu v) e = refl
-free_directive s (line.Dcw v) e = refl
-free_directive s (line.Dcb v) e = refl
-free_directive s (line.Space v) e = absurd (cc)
-free_directive s (line.Align b) e = absurd (cc)
-free_directive s line.Ltorg e = absurd (cc)
-free_directive s line.Data e = refl
-free_directive s (line.Map v) e = refl
-free_directive s (line.Field v) e = refl
-free_directive s line.Code16 e = refl
-free_directive s line.Code32 e = refl
+free_occupied : (s : Names) (o : Occupied) → is_unplaced o ≡ true → literal_in (taken (occupied_extent s o)) ≡ None
+free_occupied s Unplaced e = refl
+free_occupied s (Opening a) e = absurd (cc)
+free_occupied s Marking e = absurd (cc)
+free_occupied s Entering e = absurd (cc)
+free_occupied s (Items item es) e = absurd (cc)
+free_occupied s (Zeroes v) e = absurd (cc)
+free_occupied s (UpTo b) e = absurd (cc)
+free_occupied s Literals e = absurd (cc)
 
 free_extent : (s : Names) (w : What) → is_free w ≡ true → literal_in (taken (extent_of s w)) ≡ None
 free_extent s what.Nothing e = refl
 free_extent s (what.Arm l) e = refl
 free_extent s (what.Thumb l) e = absurd (cc)
 free_extent s (what.Pseudo l) e = absurd (cc)
-free_extent s (what.Directive d) e = free_directive s d e
+free_extent s (what.Directive d) e = free_occupied s (occupied d) e
 
 pub free_there : (s : Names) (w : What) (d : Defined) → no_area_kinds None d w ≡ [] → literal_in (taken (extent_of s w)) ≡ None
 free_there s w d e =
@@ -94,7 +74,8 @@ noted_stays u v p i e = by_place (place_among u p.waiting)
         let placed = map (λ (x : Value × ℕ). x.0) p.placed in
         ap (λ (l : List Value). slice_get l i) (append_two placed p.waiting (u ∷ [])) ∙ longer (placed ++ p.waiting) (u ∷ []) i v e
 
-step_stays : PoolLaw → (start : ℕ) (e : Extent) (p : Pooled) (i : ℕ) (v : Value) → slice_get (literals_of p) i ≡ Some v → slice_get (literals_of (pools_from start e p)) i ≡ Some v
+step_stays : PoolLaw → (start : ℕ) (e : Extent) (p : Pooled) (i : ℕ) (v : Value) → slice_get (literals_of p) i ≡ Some v
+    → slice_get (literals_of (pools_from start e p)) i ≡ Some v
 step_stays law start (Block a n) p i v h = h
 step_stays law start (Padding a n) p i v h = h
 step_stays law start Pool p i v h = ap (λ (l : List Value). slice_get l i) (law.kept start p) ∙ h
@@ -105,7 +86,8 @@ more_stays : PoolLaw → (area : ℕ) (before rest : List Piece) (i : ℕ) (v : 
 more_stays law area before [] i v h = h
 more_stays law area before (s ∷ rest) i v h = more_stays law area (s ∷ before) rest i v (by_test (is_of area s.area))
   where
-    by_test : (b : Bool) → slice_get (literals_of (cond b (pools_from (start_in area before s.extent) s.extent (pools_behind area before)) (pools_behind area before))) i ≡ Some v
+    by_test : (b : Bool) → slice_get (literals_of (cond b (pools_from (start_in area before s.extent) s.extent (pools_behind area before))
+        (pools_behind area before))) i ≡ Some v
     by_test true = step_stays law (start_in area before s.extent) s.extent (pools_behind area before) i v h
     by_test false = h
 

@@ -16,11 +16,11 @@ use Rattle.asm_model.specs.Before.{areas_behind}
 use Rattle.asm_model.specs.Extents.{Extent, Pool, extent_of}
 use Rattle.asm_model.specs.declared.names.LaidName.{LaidName}
 use Rattle.asm_model.specs.Labels.{defined_by, declared_names}
-use Rattle.asm_names.specs.declared.lines.Place.{Place}
-use Rattle.asm_names.specs.declared.lines.PlacedLine.{PlacedLine}
-use Rattle.asm_names.specs.Lines.{Sees}
+use Rattle.asm_names.specs.declared.placed_lines.StatementPlace.{StatementPlace}
+use Rattle.asm_names.specs.declared.placed_lines.PlacedLine.{PlacedLine}
+use Rattle.asm_names.specs.PlacedLines.{Sees}
 use Rattle.asm_layout.specs.Layout.{AreAreas}
-use Rattle.asm_layout.specs.Lines.{IsLineOf}
+use Rattle.asm_layout.specs.PlacedLines.{IsLineOf}
 use Rattle.asm_model.specs.Kinds.{kind_if}
 use Rattle.asm_model.specs.Laid.{LaidLine, laid, map_behind, taken, pieces_of, reversed, statements_of}
 use Rattle.asm_model.specs.LayoutKinds.{layout_kinds, fault_kinds, map_kinds, no_area_kinds, contents_kinds, contents_behind, area_kinds, name_kinds, first_equal, settled_kinds, state_kinds, area_bytes, settled, equals_in}
@@ -28,12 +28,12 @@ use Rattle.asm_model.specs.OffsetLaws.{joined}
 use Rattle.asm_model.specs.Offsets.{Piece, start_in}
 use Rattle.asm_model.specs.OwnKinds.{own_kinds}
 use Rattle.armasm_core.specs.Loaded as own
-use Rattle.armasm_core.specs.declared.whole.Whole.{Whole}
+use Rattle.armasm_core.specs.declared.source_tables.SourceTables.{SourceTables}
 use Rattle.armasm_core.proofs.LiteralLemmas.{IsPlaced, free_there, literal_there}
 use Rattle.armasm_core.proofs.SplitLemmas.{IsBehind, behind_there, split_there, layout_there}
 use Rattle.source_laws.proofs.WithinLemmas.{IsWithin, line_within}
 use Rattle.armasm_core.specs.Listing.{StandsThere}
-use Rattle.asm_areas.proofs.LateLemmas.{joined_pieces}
+use Rattle.asm_checks.proofs.LateLemmas.{joined_pieces}
 
 -- ---- outside areas
 
@@ -53,7 +53,8 @@ pub has_area : (fixed : List (List ℕ)) (all : List Statement) (l : LaidLine) (
 has_area fixed all l before e =
     third_empty (fault_kinds l.extent) (map_kinds l.seen l.statement.what) (no_area_kinds l.area (defined_by l.statement) l.statement.what)
     (contents_kinds (contents_behind (l.statement ∷ statements_of before)) l.thumb l.statement.what) (area_kinds l.seen l.statement.what before)
-    (name_kinds l.statement (statements_of before)) (settled_kinds fixed (first_equal (defined_by l.statement) (statements_of before))) (state_kinds l.area l.thumb l.statement.what all)
+    (name_kinds l.statement (statements_of before)) (settled_kinds fixed (first_equal (defined_by l.statement) (statements_of before)))
+    (state_kinds l.area l.thumb l.statement.what all)
     (kind_if (nat_lt area_bytes (l.offset + l.size)) TooMany) (own_kinds l.statement) e
 
 pub extent_is : (d : List LaidName) (l : LaidLine) (before : List LaidLine) → IsBehind d l before → l.extent ≡ extent_of l.seen l.statement.what
@@ -64,28 +65,31 @@ extent_is d l before b = subst (λ (k : LaidLine). k.extent ≡ extent_of k.seen
 same_low : (m n : ℕ) → m ≡ n → n ≤ m
 same_low m n e = omega arith
 
-pub areas_low : (statements : List Statement) (areas : List LaidArea) → AreAreas (laid statements) areas → length (areas_behind (statements_of (laid statements))) ≤ length areas
+pub areas_low : (statements : List Statement) (areas : List LaidArea) → AreAreas (laid statements) areas
+    → length (areas_behind (statements_of (laid statements))) ≤ length areas
 areas_low statements areas h = same_low (length areas) (length (areas_behind (statements_of (laid statements)))) h.count
 
-pub within_there : (statements : List Statement) (areas : List LaidArea) (w : Whole) (before rest : List LaidLine) (l : LaidLine) (x : LaidStatement)
+pub within_there : (statements : List Statement) (areas : List LaidArea) (w : SourceTables) (before rest : List LaidLine) (l : LaidLine) (x : LaidStatement)
     → StandsThere statements areas w before rest l x → IsWithin (length areas) l.area
 within_there statements areas w before rest l x h =
-    line_within statements (length areas) (reversed rest []) before l (areas_low statements areas h.laid_out) (split_there (laid statements) rest l before h.parts)
+    line_within statements (length areas) (reversed rest []) before l (areas_low statements areas h.laid_out)
+    (split_there (laid statements) rest l before h.parts)
 
 -- ---- what the line's expressions see
 
 -- a line is what code keeps of it
-pub seen_there : (statements : List Statement) (areas : List LaidArea) (w : Whole) (before rest : List LaidLine) (l : LaidLine) (x : LaidStatement) (y : PlacedLine)
+pub seen_there : (statements : List Statement) (areas : List LaidArea) (w : SourceTables) (before rest : List LaidLine) (l : LaidLine) (x : LaidStatement)
+    (y : PlacedLine)
     → StandsThere statements areas w before rest l x → IsLineOf x y → Sees y l.line
 seen_there statements areas w before rest l x y h r =
     let d = declared_names statements in
     let b = behind_there d statements rest l before h.said h.parts in
     let k = h.line.place in
     record {
-      area = ap (λ (p : Place). p.area) r.place ∙ k.area ∙ subst (λ (m : LaidLine). m.area ≡ m.line.area) (sym b.line) refl;
-      offset = ap (λ (p : Place). p.offset) r.place ∙ k.offset ∙ subst (λ (m : LaidLine). m.offset ≡ m.line.offset) (sym b.line) refl;
-      map = ap (λ (p : Place). p.map) r.place ∙ k.map ∙ ap map_behind b.behind ∙ ap (λ (m : LaidLine). m.line.map) (sym b.line);
-      thumb = ap (λ (p : Place). p.thumb) r.place ∙ k.thumb ∙ subst (λ (m : LaidLine). m.thumb ≡ m.line.thumb) (sym b.line) refl;
+      area = ap (λ (p : StatementPlace). p.area) r.place ∙ k.area ∙ subst (λ (m : LaidLine). m.area ≡ m.line.area) (sym b.line) refl;
+      offset = ap (λ (p : StatementPlace). p.offset) r.place ∙ k.offset ∙ subst (λ (m : LaidLine). m.offset ≡ m.line.offset) (sym b.line) refl;
+      map = ap (λ (p : StatementPlace). p.map) r.place ∙ k.map ∙ ap map_behind b.behind ∙ ap (λ (m : LaidLine). m.line.map) (sym b.line);
+      thumb = ap (λ (p : StatementPlace). p.thumb) r.place ∙ k.thumb ∙ subst (λ (m : LaidLine). m.thumb ≡ m.line.thumb) (sym b.line) refl;
     }
 
 pub area_there : (areas : List LaidArea) (i : ℕ) → i < length areas → (a : LaidArea) × (slice_get areas i ≡ Some a)
@@ -93,7 +97,7 @@ area_there [] i less = absurd (omega arith)
 area_there (a ∷ areas) zero less = (a, refl)
 area_there (a ∷ areas) (suc i) less = area_there areas i (omega arith)
 
-pub loaded : PoolLaw → (statements : List Statement) (areas : List LaidArea) (w : Whole) (before rest : List LaidLine) (l : LaidLine) (x : LaidStatement)
+pub loaded : PoolLaw → (statements : List Statement) (areas : List LaidArea) (w : SourceTables) (before rest : List LaidLine) (l : LaidLine) (x : LaidStatement)
     → StandsThere statements areas w before rest l x → literal_in (taken l.extent) ≡ own.literal_in areas x.place.area x.literal
 loaded pools statements areas w before rest l x h = by_area l.area refl
   where
@@ -102,7 +106,8 @@ loaded pools statements areas w before rest l x h = by_area l.area refl
         let b = behind_there (declared_names statements) statements rest l before h.said h.parts in
         let laying = layout_there statements rest l before h.sound h.parts in
         let here : no_area_kinds None (defined_by l.statement) l.statement.what ≡ [] =
-        subst (λ (o : Option ℕ). no_area_kinds o (defined_by l.statement) l.statement.what ≡ []) e (has_area (settled (equals_in statements)) statements l before laying) in
+        subst (λ (o : Option ℕ). no_area_kinds o (defined_by l.statement) l.statement.what ≡ []) e
+        (has_area (settled (equals_in statements)) statements l before laying) in
         ap (λ (r : Result Extent LineKind). literal_in (taken r)) (extent_is (declared_names statements) l before b)
         ∙ free_there l.seen l.statement.what (defined_by l.statement) here
         ∙ sym (ap (λ (a : Option ℕ). own.literal_in areas a x.literal) (h.line.place.area ∙ e))

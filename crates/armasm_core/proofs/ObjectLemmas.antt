@@ -85,7 +85,8 @@ relocs_there ss names area relocs e h = record {
 
 area_there : (ss : List Statement) (names : List (List ℕ)) (xs : List LaidArea) (area : ℕ) (a : Area) (g : AreaBuild) (x : LaidArea)
     → layout_faults ss ≡ None → AreAreas (laid ss) xs → names ≡ symbols_of (source_of ss).names (laid ss)
-    → slice_get xs area ≡ Some x → frame g ≡ frame_of x → HasPieces names (things_in (source_of ss) area) g.builder → IsFinished g a → IsArea (source_of ss) area a
+    → slice_get xs area ≡ Some x → frame g ≡ frame_of x → HasPieces names (things_in (source_of ss) area) g.builder → IsFinished g a
+    → IsArea (source_of ss) area a
 area_there ss names xs area a g x sound laid_areas listed at same builder done =
     let i = laid_areas.each area x at in
     let name : a.name ≡ x.name = done.name ∙ ap (λ (f : Frame). f.name) same in
@@ -94,10 +95,12 @@ area_there ss names xs area a g x sound laid_areas listed at same builder done =
     let kept : length a.bytes ≡ kept_size x.attributes x.size = done.kept ∙ ap (λ (f : Frame). f.kept) same in
     record {
       name = ap (λ (ss : List Statement). slice_get (areas_behind ss) area) (sym (statements_kept (declared_names ss) ss)) ∙ i.name ∙ ap Some (sym name);
-      attributes = ap (λ (ss' : List Statement). attributes_of area (is_thumb_area area ss') (laid ss)) (sym (statements_kept (declared_names ss) ss)) ∙ i.attributes
+      attributes =
+          ap (λ (ss' : List Statement). attributes_of area (is_thumb_area area ss') (laid ss)) (sym (statements_kept (declared_names ss) ss)) ∙ i.attributes
           ∙ ap Some (sym attributes);
       size = size ∙ i.size;
-      bytes = keeps_there ss area x.attributes x.size a.bytes (marks_zeroes x.attributes) refl (zeroes_there ss sound area x.attributes i.attributes) i.size kept
+      bytes =
+          keeps_there ss area x.attributes x.size a.bytes (marks_zeroes x.attributes) refl (zeroes_there ss sound area x.attributes i.attributes) i.size kept
           (done.held names (things_in (source_of ss) area) builder);
       relocs = relocs_there ss names area a.relocs listed (done.relocs names (things_in (source_of ss) area) builder);
     }
@@ -114,7 +117,8 @@ areas_there ss names xs gs areas sound laid_areas listed same builders done = λ
 pub count_there : (ss : List Statement) (xs : List LaidArea) (gs : List AreaBuild) (areas : List Area) → AreAreas (laid ss) xs → frames gs ≡ map frame_of xs
     → AllZip IsFinished gs areas → length areas ≡ length (areas_behind ss)
 count_there ss xs gs areas laid_areas same done =
-    AllZip-long IsFinished gs areas done ∙ long gs xs same ∙ laid_areas.count ∙ ap (λ (ss : List Statement). length (areas_behind ss)) (statements_kept (declared_names ss) ss)
+    AllZip-long IsFinished gs areas done ∙ long gs xs same ∙ laid_areas.count
+    ∙ ap (λ (ss : List Statement). length (areas_behind ss)) (statements_kept (declared_names ss) ss)
 
 -- as many symbols as records
 pub few_there : (ss : List Statement) (names : List (List ℕ)) (records : List Symbol) → names ≡ symbols_of (final_names (laid ss)) (laid ss)

@@ -10,8 +10,8 @@ use Rattle.aof_object.specs.declared.records.Object.{Object}
 use Rattle.asm_model.specs.declared.statements.Statement.{Statement}
 use Rattle.asm_model.specs.Before.{areas_behind}
 use Rattle.asm_model.specs.PlacedLines.{AllNamed}
-use Rattle.said_model.specs.Named.{AllLoadsNamed}
-use Rattle.said_model.specs.Said.{AllSaid}
+use Rattle.asm_model.specs.Named.{AllLoadsNamed}
+use Rattle.asm_model.specs.Said.{AllSaid}
 use Rattle.source_laws.specs.Laws.{AreOfState}
 use Rattle.source_model.specs.Objects.{IsObject}
 use Rattle.source_model.specs.SourceFaults.{layout_faults}

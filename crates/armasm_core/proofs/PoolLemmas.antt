@@ -4,7 +4,7 @@ use Rattle.std.specs.Prelude.{Result, Ok, Err}
 use Rattle.sdt_fault.specs.declared.kinds.LineKind.{LineKind}
 use Rattle.asm_model.specs.declared.values.Value.{Value}
 use Rattle.asm_model.specs.Marks.{datum_names}
-use Rattle.asm_model.specs.Says.{mapped}
+use Rattle.asm_model.specs.Readings.{mapped}
 use Rattle.asm_model.specs.Symbols.{literal_value}
 use Rattle.asm_pool.specs.Pooled.{Pooled, literals_of, offsets_of}
 use Rattle.asm_units.specs.declared.emitted.Stored.{Stored as Code}
@@ -16,7 +16,7 @@ use Rattle.source_model.specs.Contexts.{Context, sees}
 use Rattle.source_model.specs.Objects.{Piece, Source, IsAmong, context_in, literal_stored, word_piece, words_of}
 use Rattle.source_model.specs.Units.{Emitted, Stored, Word, stored}
 use Rattle.armasm_core.specs.declared.builders.AreaBuilder.{AreaBuilder}
-use Rattle.armasm_core.specs.declared.whole.Whole.{Whole}
+use Rattle.armasm_core.specs.declared.source_tables.SourceTables.{SourceTables}
 use Rattle.armasm_core.specs.Builders.{HasPieces, MeetNone, MeetsNone}
 use Rattle.armasm_core.specs.Pools.{Shares, TakesWords, WordsCanStand, entries}
 use Rattle.armasm_core.specs.Writing.{AllCanStand, CanStand}
@@ -42,8 +42,9 @@ words_joined s area (e ∷ es) fs =
 -- ---- one word
 
 -- what a literal's word holds is what the source has
-pub stored_there : (w : Whole) (s : Source) (area : ℕ) (v : Value) (r x : Result Code LineKind) → Shares w s
-    → ((c : Context) (labels : List (List ℕ)) → ShowsNames w.names.now w.sets.«data» (Some area) c labels → mapped stored_of r ≡ stored c labels (literal_value (sees c) v))
+pub stored_there : (w : SourceTables) (s : Source) (area : ℕ) (v : Value) (r x : Result Code LineKind) → Shares w s
+    → ((c : Context) (labels : List (List ℕ)) → ShowsNames w.names.now w.sets.«data» (Some area) c labels
+    → mapped stored_of r ≡ stored c labels (literal_value (sees c) v))
     → r ≡ x → literal_stored s area v ≡ mapped stored_of x
 stored_there w s area v r x h f is =
     sym (f (context_in s (Some area)) (datum_names s.statements) (record { names = sym h.names; area = refl; labels = h.labels })) ∙ ap (mapped stored_of) is
@@ -52,7 +53,7 @@ pub can_put : (names : List (List ℕ)) (room : ℕ) (s : Source) (area : ℕ) (
     → AllCanStand names room (words_of s area ((v, at) ∷ [])) → CanStand names room (at, Word word)
 can_put names room s area v at word e h = (subst (λ (r : Result Stored LineKind). AllCanStand names room (word_piece at r ++ [])) e h).0
 
-pub takes_word : (w : Whole) (names : List (List ℕ)) (area : ℕ) (v : Value) (at : ℕ) (word : Stored) (u : Emitted) (old new : AreaBuilder)
+pub takes_word : (w : SourceTables) (names : List (List ℕ)) (area : ℕ) (v : Value) (at : ℕ) (word : Stored) (u : Emitted) (old new : AreaBuilder)
     → ((s : Source) → Shares w s → literal_stored s area v ≡ Ok word) → u ≡ Word word
     → ((pieces : List Piece) → HasPieces names pieces old → MeetsNone pieces (at, u) → HasPieces names (pieces ++ (at, u) ∷ []) new)
     → TakesWords w names area ((v, at) ∷ []) old new
@@ -63,7 +64,7 @@ takes_word w names area v at word u old new holds is put = λ s pieces shares bu
     subst (λ (ps : List Piece). HasPieces names (pieces ++ ps) new) (sym words)
     (put pieces builder (λ p k. apart (at, u) (inl refl) p (among_first p pieces ((at, u) ∷ []) k)))
 
-pub takes_none : (w : Whole) (names : List (List ℕ)) (area : ℕ) (v : Value) (at : ℕ) (kind : LineKind) (old : AreaBuilder)
+pub takes_none : (w : SourceTables) (names : List (List ℕ)) (area : ℕ) (v : Value) (at : ℕ) (kind : LineKind) (old : AreaBuilder)
     → ((s : Source) → Shares w s → literal_stored s area v ≡ Err kind) → TakesWords w names area ((v, at) ∷ []) old old
 takes_none w names area v at kind old faulty = λ s pieces shares builder none.
     subst (λ (ps : List Piece). HasPieces names ps old)
@@ -71,7 +72,8 @@ takes_none w names area v at kind old faulty = λ s pieces shares builder none.
 
 -- ---- all words
 
-takes_both : (w : Whole) (names : List (List ℕ)) (area : ℕ) (es fs : List (Value × ℕ)) (a b c : AreaBuilder) → TakesWords w names area es a b → TakesWords w names area fs b c
+takes_both : (w : SourceTables) (names : List (List ℕ)) (area : ℕ) (es fs : List (Value × ℕ)) (a b c : AreaBuilder) → TakesWords w names area es a b
+    → TakesWords w names area fs b c
     → TakesWords w names area (es ++ fs) a c
 takes_both w names area es fs a b c first second = λ s pieces shares builder none.
     let us = words_of s area es in
@@ -83,19 +85,21 @@ takes_both w names area es fs a b c first second = λ s pieces shares builder no
     subst (λ (ps : List Piece). HasPieces names ps c) (append_assoc pieces us vs ∙ ap (λ (ps : List Piece). pieces ++ ps) (sym all))
     (second s (pieces ++ us) shares front (λ q u p k. apart q (among_last q us vs u) p (subst (IsAmong p) (append_assoc pieces us vs) k)))
 
-stand_both : (names : List (List ℕ)) (room : ℕ) (us ws : List Piece) → AllCanStand names room (us ++ ws) → AllCanStand names room (us ++ []) × AllCanStand names room ws
+stand_both : (names : List (List ℕ)) (room : ℕ) (us ws : List Piece) → AllCanStand names room (us ++ ws) → AllCanStand names room (us ++ [])
+    × AllCanStand names room ws
 stand_both names room [] ws h = (tt, h)
 stand_both names room (u ∷ us) ws h = let both = stand_both names room us ws h.1 in ((h.0, both.0), both.1)
 
 -- so many of the words stand in an area that is being built, and those of these literals are left
-pub record WordsPut (w : Whole) (names : List (List ℕ)) (area : ℕ) (es : List (Value × ℕ)) (old : AreaBuilder) (left : List Value) (places : List ℕ) (now : AreaBuilder) : Type 0 where
+pub record WordsPut (w : SourceTables) (names : List (List ℕ)) (area : ℕ) (es : List (Value × ℕ)) (old : AreaBuilder) (left : List Value) (places : List ℕ)
+    (now : AreaBuilder) : Type 0 where
   pub done : List (Value × ℕ)
   pub parts : es ≡ done ++ entries left places
   pub size : length now.bytes.items ≡ length old.bytes.items
   pub stand : WordsCanStand w names (length now.bytes.items) area (entries left places)
   pub put : TakesWords w names area done old now
 
-pub words_first : (w : Whole) (names : List (List ℕ)) (area : ℕ) (left : List Value) (places : List ℕ) (old : AreaBuilder)
+pub words_first : (w : SourceTables) (names : List (List ℕ)) (area : ℕ) (left : List Value) (places : List ℕ) (old : AreaBuilder)
     → WordsCanStand w names (length old.bytes.items) area (entries left places) → WordsPut w names area (entries left places) old left places old
 words_first w names area left places old h = record {
   done = [];
@@ -105,18 +109,21 @@ words_first w names area left places old h = record {
   put = λ s pieces shares builder none. subst (λ (ps : List Piece). HasPieces names ps old) (sym (append-nil pieces)) builder;
 }
 
-words_all : (w : Whole) (names : List (List ℕ)) (area : ℕ) (es : List (Value × ℕ)) (old : AreaBuilder) (left : List Value) (places : List ℕ) (now : AreaBuilder)
+words_all : (w : SourceTables) (names : List (List ℕ)) (area : ℕ) (es : List (Value × ℕ)) (old : AreaBuilder) (left : List Value) (places : List ℕ)
+    (now : AreaBuilder)
     → entries left places ≡ [] → WordsPut w names area es old left places now → TakesWords w names area es old now
 words_all w names area es old left places now none h =
     subst (λ (fs : List (Value × ℕ)). TakesWords w names area fs old now)
     (sym (h.parts ∙ ap (λ (fs : List (Value × ℕ)). h.done ++ fs) none ∙ append-nil h.done)) h.put
 
-pub no_literals : (w : Whole) (names : List (List ℕ)) (area : ℕ) (es : List (Value × ℕ)) (old : AreaBuilder) (left : List Value) (places : List ℕ) (now : AreaBuilder)
+pub no_literals : (w : SourceTables) (names : List (List ℕ)) (area : ℕ) (es : List (Value × ℕ)) (old : AreaBuilder) (left : List Value) (places : List ℕ)
+    (now : AreaBuilder)
     → length left < 1 → WordsPut w names area es old left places now → TakesWords w names area es old now
 no_literals w names area es old left places now less h =
     words_all w names area es old left places now (ap (λ (vs : List Value). entries vs places) (nothing left less)) h
 
-pub no_places : (w : Whole) (names : List (List ℕ)) (area : ℕ) (es : List (Value × ℕ)) (old : AreaBuilder) (left : List Value) (places : List ℕ) (now : AreaBuilder)
+pub no_places : (w : SourceTables) (names : List (List ℕ)) (area : ℕ) (es : List (Value × ℕ)) (old : AreaBuilder) (left : List Value) (places : List ℕ)
+    (now : AreaBuilder)
     → length places < 1 → WordsPut w names area es old left places now → TakesWords w names area es old now
 no_places w names area es old left places now less h =
     words_all w names area es old left places now (ap (entries left) (nothing places less) ∙ none left) h
@@ -130,11 +137,13 @@ first_of [] some = absurd (omega arith)
 first_of (x ∷ xs) some = refl
 
 -- the words that are left begin with this one
-pub record WordNext (w : Whole) (names : List (List ℕ)) (area : ℕ) (es : List (Value × ℕ)) (old : AreaBuilder) (v : Value) (at : ℕ) (vs : List Value) (places : List ℕ) (now : AreaBuilder) : Type 0 where
+pub record WordNext (w : SourceTables) (names : List (List ℕ)) (area : ℕ) (es : List (Value × ℕ)) (old : AreaBuilder) (v : Value) (at : ℕ) (vs : List Value)
+    (places : List ℕ) (now : AreaBuilder) : Type 0 where
   pub left : WordsPut w names area es old (v ∷ vs) (at ∷ places) now
   pub stand : WordsCanStand w names (length now.bytes.items) area ((v, at) ∷ [])
 
-pub word_next : (w : Whole) (names : List (List ℕ)) (area : ℕ) (es : List (Value × ℕ)) (old : AreaBuilder) (left : List Value) (places : List ℕ) (v : Value) (at : ℕ) (now : AreaBuilder)
+pub word_next : (w : SourceTables) (names : List (List ℕ)) (area : ℕ) (es : List (Value × ℕ)) (old : AreaBuilder) (left : List Value) (places : List ℕ)
+    (v : Value) (at : ℕ) (now : AreaBuilder)
     → 1 ≤ length left → v ≡ get_or left 0 v → 1 ≤ length places → at ≡ get_or places 0 at → WordsPut w names area es old left places now
     → WordNext w names area es old v at (take (length left - 1) (drop 1 left)) (take (length places - 1) (drop 1 places)) now
 word_next w names area es old left places v at now some is more there h =
@@ -152,7 +161,8 @@ word_next w names area es old left places v at now some is more there h =
       };
     }
 
-pub word_put : (w : Whole) (names : List (List ℕ)) (area : ℕ) (es : List (Value × ℕ)) (old : AreaBuilder) (v : Value) (at : ℕ) (vs : List Value) (places : List ℕ) (now new : AreaBuilder)
+pub word_put : (w : SourceTables) (names : List (List ℕ)) (area : ℕ) (es : List (Value × ℕ)) (old : AreaBuilder) (v : Value) (at : ℕ) (vs : List Value)
+    (places : List ℕ) (now new : AreaBuilder)
     → WordNext w names area es old v at vs places now → length new.bytes.items ≡ length now.bytes.items → TakesWords w names area ((v, at) ∷ []) now new
     → WordsPut w names area es old vs places new
 word_put w names area es old v at vs places now new n same put =

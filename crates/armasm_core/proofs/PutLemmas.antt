@@ -6,8 +6,8 @@ use Rattle.thumb_isa.specs.declared.instr.ThumbInstr.{ThumbInstr}
 use Rattle.asm_instructions.specs.Fits.{AllFit, InstructionsFit, NamesRegisters, PseudoInstructionsFit}
 use Rattle.asm_instructions.specs.ThumbFits.{CodeFits, ThumbInstructionsFit, ThumbPseudoInstructionsFit}
 use Rattle.asm_model.specs.declared.arm_lines.ArmLine.{ArmLine}
-use Rattle.asm_model.specs.declared.directives.DirectiveLine.{DirectiveLine}
-use Rattle.asm_model.specs.declared.directives.DirectiveLine.TheVariants as line
+use Rattle.asm_model.specs.declared.directives.Held.{Held}
+use Rattle.asm_model.specs.declared.directives.Held.TheVariants as held
 use Rattle.asm_model.specs.declared.exprs.Expr.{Expr}
 use Rattle.asm_model.specs.declared.statements.PseudoLine.{PseudoLine}
 use Rattle.asm_model.specs.declared.statements.Statement.{Statement}
@@ -19,29 +19,31 @@ use Rattle.asm_model.specs.Kinds.{told_kind}
 use Rattle.asm_model.specs.LayoutKinds.{told_at}
 use Rattle.asm_layout.specs.Layout.{IsTold}
 use Rattle.sdt_fault.specs.declared.answer.Fault.{Fault}
-use Rattle.asm_model.specs.Says.{on_both, mapped}
 use Rattle.asm_layout.specs.declared.laid.LaidArea.{LaidArea}
 use Rattle.asm_layout.specs.declared.laid.LaidStatement.{LaidStatement}
 use Rattle.asm_units.specs.declared.tables.LineTables.{LineTables}
 use Rattle.asm_units.specs.declared.emitted.LineUnits.{LineUnits}
 use Rattle.asm_units.specs.Passing.{IsPassTwo}
+use Rattle.asm_model.specs.DataItems.{held_by}
 use Rattle.asm_model.specs.Extents.{value_there}
 use Rattle.asm_model.specs.Laid.{LaidLine, laid, pieces_of, taken}
 use Rattle.asm_model.specs.Marks.{datum_names}
+use Rattle.asm_model.specs.Occupied.{Occupied, Unplaced, Opening, Marking, Entering, Items, Zeroes, UpTo, Literals, occupied}
 use Rattle.asm_model.specs.Offsets.{area_size}
-use Rattle.said_model.specs.Said.{IsSaid, ArmSaid, PseudoSaid, ThumbSaid, WhatSaid}
+use Rattle.asm_model.specs.Readings.{and_then, mapped, on_both}
+use Rattle.asm_model.specs.Said.{IsSaid, ArmSaid, PseudoSaid, ThumbSaid, WhatSaid}
 use Rattle.source_model.specs.ArmForms.{arm_instruction}
-use Rattle.source_model.specs.Contexts.{Context, value_of, number_in, and_then}
+use Rattle.source_model.specs.Contexts.{Context, value_of, number_in}
 use Rattle.source_model.specs.Objects.{or_none, units_from}
 use Rattle.source_model.specs.PseudoForms.{pseudo_instructions}
 use Rattle.source_model.specs.ThumbForms.{thumb_instruction, thumb_pseudo}
 use Rattle.source_model.specs.declared.codes.ThumbCode.{ThumbCode}
 use Rattle.source_model.specs.declared.codes.ThumbCode.TheVariants.{One, Pair}
-use Rattle.source_model.specs.Units.{Emitted, Bytes, Word, Instruction, Half, Stored, stored, units, directive_units, word_units, half_units, byte_units, byte_operand, narrow, instruction_units, branch_symbol, link_symbol, code_unit, pseudo_units}
+use Rattle.source_model.specs.Units.{Emitted, Bytes, Word, Instruction, Half, Stored, stored, units, held_units, occupied_units, word_units, number_units, byte_units, byte_operand, narrow, instruction_units, branch_symbol, link_symbol, code_unit, pseudo_units}
 use Rattle.source_model.specs.Registers.{Named}
-use Rattle.armasm_core.specs.declared.whole.Whole.{Whole}
+use Rattle.armasm_core.specs.declared.source_tables.SourceTables.{SourceTables}
 use Rattle.armasm_core.specs.Putting.{UnitFits, AllUnitsFit, IsPut}
-use Rattle.armasm_core.specs.Whole.{IsHere, ShowsLine, context_there, kinds_at, word_there}
+use Rattle.armasm_core.specs.SourceTables.{IsHere, ShowsLine, context_there, kinds_at, word_there}
 use Rattle.armasm_core.proofs.ShowLemmas.{given_there}
 
 -- ---- instructions fit their rows
@@ -68,42 +70,29 @@ words_fit : (c : Context) (names : List (List ℕ)) (es : List Expr) → AllUnit
 words_fit c names [] = tt
 words_fit c names (e ∷ es) = with_next (λ (w : Stored). Word w) (λ w. tt) (stored c names (value_of c e)) (word_units c names es) (words_fit c names es)
 
-halves_fit : (c : Context) (es : List Expr) → AllUnitsFit (or_none (half_units c es))
-halves_fit c [] = tt
-halves_fit c (e ∷ es) = with_next (λ (b : List ℕ). Bytes b) (λ b. tt) (and_then (number_in c e) (narrow 2)) (half_units c es) (halves_fit c es)
+numbers_fit : (c : Context) (width : ℕ) (es : List Expr) → AllUnitsFit (or_none (number_units c width es))
+numbers_fit c width [] = tt
+numbers_fit c width (e ∷ es) =
+    with_next (λ (b : List ℕ). Bytes b) (λ b. tt) (and_then (number_in c e) (narrow width)) (number_units c width es) (numbers_fit c width es)
 
 bytes_fit : (c : Context) (s : Names) (es : List Expr) → AllUnitsFit (or_none (byte_units c s es))
 bytes_fit c s [] = tt
 bytes_fit c s (e ∷ es) = with_next (λ (b : List ℕ). Bytes b) (λ b. tt) (byte_operand (value_there s e) (value_of c e)) (byte_units c s es) (bytes_fit c s es)
 
-directive_fits : (c : Context) (names : List (List ℕ)) (s : Names) (d : DirectiveLine) → AllUnitsFit (or_none (directive_units c names s d))
-directive_fits c names s (line.Dcd es) = words_fit c names es
-directive_fits c names s (line.Dcdu es) = words_fit c names es
-directive_fits c names s (line.Dcw es) = halves_fit c es
-directive_fits c names s (line.Dcb es) = bytes_fit c s es
-directive_fits c names s (line.Area name a) = tt
-directive_fits c names s (line.Rn r) = tt
-directive_fits c names s line.Entry = tt
-directive_fits c names s line.End = tt
-directive_fits c names s (line.Export name) = tt
-directive_fits c names s (line.Import name weak) = tt
-directive_fits c names s (line.Extern name weak) = tt
-directive_fits c names s (line.Keep name) = tt
-directive_fits c names s (line.Equ v) = tt
-directive_fits c names s line.Rout = tt
-directive_fits c names s (line.Assert v) = tt
-directive_fits c names s line.Nofp = tt
-directive_fits c names s (line.Opt v) = tt
-directive_fits c names s line.Ttl = tt
-directive_fits c names s line.Subt = tt
-directive_fits c names s (line.Space v) = tt
-directive_fits c names s (line.Align b) = tt
-directive_fits c names s line.Ltorg = tt
-directive_fits c names s line.Data = tt
-directive_fits c names s (line.Map v) = tt
-directive_fits c names s (line.Field v) = tt
-directive_fits c names s line.Code16 = tt
-directive_fits c names s line.Code32 = tt
+held_fits : (c : Context) (names : List (List ℕ)) (s : Names) (h : Held) (es : List Expr) → AllUnitsFit (or_none (held_units c names s h es))
+held_fits c names s held.Relocatable es = words_fit c names es
+held_fits c names s (held.Fixed width) es = numbers_fit c width es
+held_fits c names s held.Strings es = bytes_fit c s es
+
+occupied_fits : (c : Context) (names : List (List ℕ)) (s : Names) (o : Occupied) → AllUnitsFit (or_none (occupied_units c names s o))
+occupied_fits c names s Unplaced = tt
+occupied_fits c names s (Opening a) = tt
+occupied_fits c names s Marking = tt
+occupied_fits c names s Entering = tt
+occupied_fits c names s (Items item es) = held_fits c names s (held_by item) es
+occupied_fits c names s (Zeroes e) = tt
+occupied_fits c names s (UpTo b) = tt
+occupied_fits c names s Literals = tt
 
 arm_fits : InstructionsFit → (c : Context) (l : ArmLine) (r : Result ArmInstr LineKind) → NamesRegisters c → ArmSaid l → arm_instruction c l ≡ r
     → AllUnitsFit (or_none (mapped (λ i. Instruction i (branch_symbol c l) ∷ []) r))
@@ -124,12 +113,14 @@ thumb_pseudo_fits : ThumbPseudoInstructionsFit → (c : Context) (word : Option 
 thumb_pseudo_fits law c word l (Ok i) e = (law c word l i e, tt)
 thumb_pseudo_fits law c word l (Err k) e = tt
 
-arm_pseudo_fits : PseudoInstructionsFit → (c : Context) (word : Option ℕ) (l : PseudoLine) (r : Result (List ArmInstr) LineKind) → NamesRegisters c → PseudoSaid l
+arm_pseudo_fits : PseudoInstructionsFit → (c : Context) (word : Option ℕ) (l : PseudoLine) (r : Result (List ArmInstr) LineKind) → NamesRegisters c
+    → PseudoSaid l
     → pseudo_instructions c word l ≡ r → AllUnitsFit (or_none (mapped instruction_units r))
 arm_pseudo_fits law c word l (Ok is) small said e = all_fit is (law c word l is small said e)
 arm_pseudo_fits law c word l (Err k) small said e = tt
 
-pseudo_fits : LinesFit → (thumb : Bool) (c : Context) (word : Option ℕ) (l : PseudoLine) → NamesRegisters c → PseudoSaid l → AllUnitsFit (or_none (pseudo_units thumb c word l))
+pseudo_fits : LinesFit → (thumb : Bool) (c : Context) (word : Option ℕ) (l : PseudoLine) → NamesRegisters c → PseudoSaid l
+    → AllUnitsFit (or_none (pseudo_units thumb c word l))
 pseudo_fits laws true c word l small said = thumb_pseudo_fits laws.thumb_pseudo c word l (thumb_pseudo c word l) refl
 pseudo_fits laws false c word l small said = arm_pseudo_fits laws.pseudo c word l (pseudo_instructions c word l) small said refl
 
@@ -139,7 +130,7 @@ units_fit laws c names s word what.Nothing small said = tt
 units_fit laws c names s word (what.Arm l) small said = arm_fits laws.arm c l (arm_instruction c l) small said refl
 units_fit laws c names s word (what.Thumb l) small said = thumb_fits laws.thumb c l (thumb_instruction c l) said refl
 units_fit laws c names s word (what.Pseudo l) small said = pseudo_fits laws c.line.thumb c word l small said
-units_fit laws c names s word (what.Directive d) small said = directive_fits c names s d
+units_fit laws c names s word (what.Directive d) small said = occupied_fits c names s (occupied d)
 
 -- ---- pass 2 of a line
 
@@ -148,10 +139,12 @@ PassesAt statements before rest l =
     IsPassTwo (context_there statements before l) (datum_names statements) (λ area. area_size area (pieces_of (laid statements))) l.seen (taken l.extent)
     (word_there before rest l)
 
-module _ (statements : List Statement) (areas : List LaidArea) (w : Whole) (known : List Named) (before rest : List LaidLine) (l : LaidLine) (x : LaidStatement)
+module _ (statements : List Statement) (areas : List LaidArea) (w : SourceTables) (known : List Named) (before rest : List LaidLine) (l : LaidLine)
+    (x : LaidStatement)
     (h : IsHere statements areas w known before rest l x) where
   pub put_there : LinesFit → (y : LineTables) (r : Result LineUnits LineKind) (u : LineUnits) → IsSaid x.statement
-      → ShowsLine statements before rest l y x.statement.what → r ≡ Ok u → PassesAt statements before rest l x.statement.what r → IsPut statements before rest l u
+      → ShowsLine statements before rest l y x.statement.what → r ≡ Ok u → PassesAt statements before rest l x.statement.what r
+      → IsPut statements before rest l u
   put_there laws y r u said shows is passed =
       let c = context_there statements before l in
       let put = subst (PassesAt statements before rest l x.statement.what) is passed in
@@ -167,5 +160,6 @@ module _ (statements : List Statement) (areas : List LaidArea) (w : Whole) (know
   pub told_there : (r : Result LineUnits LineKind) (k : LineKind) (f : Fault) → r ≡ Err k → PassesAt statements before rest l x.statement.what r
       → IsTold (Some (x.statement, k)) f → IsTold (told_at l.statement (told_kind (kinds_at statements before l rest))) f
   told_there r k f is passed told =
-      let here = subst (λ (s : Statement). PassesAt statements before rest l s.what (Err k)) h.line.statement (subst (PassesAt statements before rest l x.statement.what) is passed) in
+      let here = subst (λ (s : Statement). PassesAt statements before rest l s.what (Err k)) h.line.statement
+      (subst (PassesAt statements before rest l x.statement.what) is passed) in
       subst (λ o. IsTold o f) (ap (λ (s : Statement). Some (s, k)) h.line.statement ∙ sym (ap (told_at l.statement) here)) told

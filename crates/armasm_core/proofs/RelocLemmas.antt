@@ -9,7 +9,7 @@ use Rattle.std.proofs.lemmas.Bool.{cases_eq, eq-eqb, eqb-true, false_from_ne_tru
 use Rattle.aof_object.specs.declared.records.Reloc.{Reloc}
 use Rattle.asm_model.specs.Symbols.{symbols_of}
 use Rattle.source_model.specs.Objects.{Piece, Source, unit_bytes, relocs_of, word_relocs, branch_relocs, IsRelocOf, IsRising}
-use Rattle.source_model.specs.Units.{Target, Nothing, ByArea, BySymbol, Emitted, Bytes, Word, Instruction, Half, LinkPair}
+use Rattle.source_model.specs.Units.{RelocationTarget, Nothing, ByArea, BySymbol, Emitted, Bytes, Word, Instruction, Half, LinkPair}
 use Rattle.armasm_core.specs.Relocations.{word_relocation, branch_relocation, relocation, one_reloc, reloc_at, relocs_in, noted, relocs_listed}
 
 -- ---- tests of numbers
@@ -19,7 +19,7 @@ tests k q = grind arith
 
 -- ---- the relocation of a thing
 
-pub word_of_source : (s : Source) (at : ℕ) (t : Target) → one_reloc at (word_relocation (symbols_of s.names s.lines) t) ≡ word_relocs s at t
+pub word_of_source : (s : Source) (at : ℕ) (t : RelocationTarget) → one_reloc at (word_relocation (symbols_of s.names s.lines) t) ≡ word_relocs s at t
 word_of_source s at Nothing = refl
 word_of_source s at (ByArea area) = refl
 word_of_source s at (BySymbol name) = refl
@@ -90,7 +90,8 @@ listed_found [] r h = absurd (cc)
 listed_found (e ∷ es) r h = by_test (nat_eq r.offset e.0) refl (listed_found es r) (rw (tests r.offset e.0) at h)
   where
     by_test : (b : Bool) → nat_eq r.offset e.0 ≡ b
-        → (lookup (is_at (nat_cmp r.offset)) es ≡ Some r.word → IsRelocOf (relocs_listed es) r) → cond b (Some e.1) (lookup (is_at (nat_cmp r.offset)) es) ≡ Some r.word
+        → (lookup (is_at (nat_cmp r.offset)) es ≡ Some r.word → IsRelocOf (relocs_listed es) r)
+        → cond b (Some e.1) (lookup (is_at (nat_cmp r.offset)) es) ≡ Some r.word
         → (r ≡ record { offset = e.0; word = e.1 }) ⊎ IsRelocOf (relocs_listed es) r
     by_test true t go k = inl (reloc_eta r e.0 e.1 (sym (eqb-true r.offset e.0 t)) k)
     by_test false t go k = inr (go k)

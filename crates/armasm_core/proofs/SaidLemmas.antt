@@ -5,7 +5,7 @@ use Rattle.asm_model.specs.declared.statements.Statement.{Statement}
 use Rattle.asm_layout.specs.declared.laid.LaidStatement.{LaidStatement}
 use Rattle.asm_model.specs.declared.names.LaidName.{LaidName}
 use Rattle.asm_model.specs.Laid.{laid_of}
-use Rattle.said_model.specs.Said.{AllSaid, IsSaid}
+use Rattle.asm_model.specs.Said.{AllSaid, IsSaid}
 use Rattle.armasm_core.specs.Gathered.{AllLaidSaid}
 
 said_with : (xs : List LaidStatement) (y : LaidStatement) → AllLaidSaid xs → IsSaid y.statement → AllLaidSaid (xs ++ y ∷ [])

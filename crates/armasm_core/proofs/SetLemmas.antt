@@ -37,7 +37,8 @@ more_sets s before old new h k = record {
   weak = λ q. tested q _ _ old.weak new.weak (weak_in s.what) (weak_is q s.what) (h.weak q) k.weak;
 }
 
-between_more : (laid : List LaidStatement) (x : LaidStatement) (rest : List LaidStatement) (old new : Sets) → IsBetween laid (x ∷ rest) old → GainsAll old new x.statement
+between_more : (laid : List LaidStatement) (x : LaidStatement) (rest : List LaidStatement) (old new : Sets) → IsBetween laid (x ∷ rest) old
+    → GainsAll old new x.statement
     → IsBetween laid rest new
 between_more laid x rest old new h k = record {
   before = x.statement ∷ h.before;
@@ -67,7 +68,8 @@ said_with (l ∷ before) laid after h =
     last xs y = under xs after y
       where
         under : (xs : List LaidStatement) (after : List Statement) (y : LaidStatement)
-            → reversed (map (λ (z : LaidStatement). z.statement) (xs ++ y ∷ [])) after ≡ y.statement ∷ reversed (map (λ (z : LaidStatement). z.statement) xs) after
+            → reversed (map (λ (z : LaidStatement). z.statement) (xs ++ y ∷ [])) after ≡ y.statement
+            ∷ reversed (map (λ (z : LaidStatement). z.statement) xs) after
         under [] after y = refl
         under (x ∷ xs) after y = under xs (x.statement ∷ after) y
 

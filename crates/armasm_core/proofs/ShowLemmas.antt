@@ -8,7 +8,7 @@ use Rattle.asm_model.specs.Forms.{same}
 use Rattle.asm_instructions.specs.Lookups.{Shows}
 use Rattle.asm_instructions.specs.declared.lookups.Lookup.{Lookup}
 use Rattle.asm_laying.specs.Reading.{string_marks}
-use Rattle.asm_layout.specs.Lines.{IsLineOf}
+use Rattle.asm_layout.specs.PlacedLines.{IsLineOf}
 use Rattle.asm_model.specs.declared.exprs.Expr.{Expr}
 use Rattle.asm_model.specs.declared.statements.Statement.{Statement}
 use Rattle.asm_model.specs.declared.values.Value.{Value}
@@ -31,8 +31,8 @@ use Rattle.source_model.specs.SourceFaults.{word_of}
 use Rattle.asm_units.specs.Passing.{IsNumber}
 use Rattle.armasm_core.specs.Loaded as own
 use Rattle.armasm_core.specs.Giving.{gives}
-use Rattle.armasm_core.specs.Whole.{IsHere, ShowsLine, context_there}
-use Rattle.armasm_core.specs.declared.whole.Whole.{Whole}
+use Rattle.armasm_core.specs.SourceTables.{IsHere, ShowsLine, context_there}
+use Rattle.armasm_core.specs.declared.source_tables.SourceTables.{SourceTables}
 use Rattle.armasm_core.proofs.GivingLemmas.{small_there, gives_there}
 use Rattle.armasm_core.proofs.LiteralLemmas.{IsPlaced}
 use Rattle.armasm_core.proofs.LiteralLemmas as placed
@@ -41,13 +41,14 @@ use Rattle.armasm_core.proofs.SplitLemmas.{IsBehind, behind_there, split_there, 
 use Rattle.source_laws.proofs.WithinLemmas.{IsWithin, context_within}
 use Rattle.armasm_core.specs.Listing.{StandsThere}
 use Rattle.armasm_core.proofs.LoadLemmas.{area_there, areas_low, within_there, seen_there, loaded}
-use Rattle.asm_areas.proofs.LateLemmas.{joined_pieces, parts_extents}
+use Rattle.asm_checks.proofs.LateLemmas.{joined_pieces, parts_extents}
 use Rattle.asm_layout.proofs.FinishLemmas.{all_extents}
-use Rattle.said_model.proofs.SharedLemmas.{are_plain}
+use Rattle.asm_model.proofs.SaidLemmas.{are_plain}
 
 -- ---- sizes
 
-sized : (areas : List LaidArea) (i n : ℕ) → slice_get (map (λ (a : LaidArea). a.size) areas) i ≡ Some n → (a : LaidArea) × (slice_get areas i ≡ Some a) × (a.size ≡ n)
+sized : (areas : List LaidArea) (i n : ℕ) → slice_get (map (λ (a : LaidArea). a.size) areas) i ≡ Some n → (a : LaidArea) × (slice_get areas i ≡ Some a)
+    × (a.size ≡ n)
 sized [] i n e = absurd (cc)
 sized (a ∷ areas) zero n e = (a, refl, cc)
 sized (a ∷ areas) (suc i) n e = sized areas i n e
@@ -58,18 +59,21 @@ map_long (a ∷ areas) = ap suc (map_long areas)
 
 -- ---- areas of a layout
 
-stands : (statements : List Statement) (areas : List LaidArea) (w : Whole) (known : List Named) (before rest : List LaidLine) (l : LaidLine) (x : LaidStatement)
+stands : (statements : List Statement) (areas : List LaidArea) (w : SourceTables) (known : List Named) (before rest : List LaidLine) (l : LaidLine)
+    (x : LaidStatement)
     → IsHere statements areas w known before rest l x → StandsThere statements areas w before rest l x
 stands statements areas w known before rest l x h =
     record { said = h.said; sound = h.sound; laid_out = h.laid_out; whole = h.whole; parts = h.parts; line = h.line }
 
-pub record IsPlace (statements : List Statement) (areas : List LaidArea) (w : Whole) (known : List Named) (before rest : List LaidLine) (l : LaidLine) (x : LaidStatement) : Type 0 where
+pub record IsPlace (statements : List Statement) (areas : List LaidArea) (w : SourceTables) (known : List Named) (before rest : List LaidLine) (l : LaidLine)
+    (x : LaidStatement) : Type 0 where
   pub here : IsHere statements areas w known before rest l x
   pub behind : IsBehind (declared_names statements) l before
   pub there : StandsThere statements areas w before rest l x
   pub within : IsWithin (length areas) l.area
 
-pub place_of : (statements : List Statement) (areas : List LaidArea) (w : Whole) (known : List Named) (before rest : List LaidLine) (l : LaidLine) (x : LaidStatement)
+pub place_of : (statements : List Statement) (areas : List LaidArea) (w : SourceTables) (known : List Named) (before rest : List LaidLine) (l : LaidLine)
+    (x : LaidStatement)
     → IsHere statements areas w known before rest l x → IsPlace statements areas w known before rest l x
 place_of statements areas w known before rest l x h =
     let there = stands statements areas w known before rest l x h in
@@ -86,7 +90,7 @@ pub record Loads (areas : List LaidArea) (before rest : List LaidLine) (l : Laid
   pub word : own.word_in areas x.place.area x.literal ≡ word_of l.area (taken l.extent) (pieces_of (l ∷ before)) (pieces_of rest)
   pub literal : literal_in (taken l.extent) ≡ own.literal_in areas x.place.area x.literal
 
-word_is : ExtentsArePlaceable → LiteralsArePlaced → (statements : List Statement) (areas : List LaidArea) (w : Whole) (known : List Named)
+word_is : ExtentsArePlaceable → LiteralsArePlaced → (statements : List Statement) (areas : List LaidArea) (w : SourceTables) (known : List Named)
     (before rest : List LaidLine) (l : LaidLine) (x : LaidStatement) → IsPlace statements areas w known before rest l x
     → own.word_in areas x.place.area x.literal ≡ word_of l.area (taken l.extent) (pieces_of (l ∷ before)) (pieces_of rest)
 word_is fits law statements areas w known before rest l x p = by_area l.area refl
@@ -103,35 +107,38 @@ word_is fits law statements areas w known before rest l x p = by_area l.area ref
         let behind = pieces_of rest in
         let t = taken l.extent in
         let whole : pieces_of (laid statements) ≡ joined ((record { area = Some area; extent = t }) ∷ pieces) behind =
-        ap pieces_of p.here.parts ∙ sym (joined_pieces rest (l ∷ before)) ∙ ap (λ (o : Option ℕ). joined ((record { area = o; extent = t }) ∷ pieces) behind) e in
+        ap pieces_of p.here.parts ∙ sym (joined_pieces rest (l ∷ before)) ∙ ap (λ (o : Option ℕ). joined ((record { area = o; extent = t }) ∷ pieces) behind)
+        e in
         let settled_there : IsPlaced area (joined ((record { area = Some area; extent = t }) ∷ pieces) behind) a.0 =
         record { pools = is.pools ∙ ap (λ (ps : List Piece). flushed (start_in area ps Pool) (pools_behind area ps)) whole } in
-        let extents = parts_extents rest (l ∷ before) (subst (λ (ls : List LaidLine). AllExtents (pieces_of ls)) p.here.parts (all_extents fits (declared_names statements) statements)) in
+        let extents = parts_extents rest (l ∷ before) (subst (λ (ls : List LaidLine). AllExtents (pieces_of ls)) p.here.parts
+        (all_extents fits (declared_names statements) statements)) in
         let entry = p.here.line.literal ∙ ap (λ (o : Option ℕ). entry_behind o pieces t) e in
         ap (λ (o : Option ℕ). own.word_in areas o x.literal) (p.here.line.place.area ∙ e) ∙ ap (own.word_in areas (Some area)) entry
         ∙ placed.word_there law areas area a.0 pieces behind t a.1 settled_there extents.0.1 extents.0.0 extents.1
         ∙ ap (λ (o : Option ℕ). word_of o t ((record { area = o; extent = t }) ∷ pieces) behind) (sym e)
 
-pub loads : ExtentsArePlaceable → LiteralsArePlaced → PoolLaw → (statements : List Statement) (areas : List LaidArea) (w : Whole) (known : List Named)
+pub loads : ExtentsArePlaceable → LiteralsArePlaced → PoolLaw → (statements : List Statement) (areas : List LaidArea) (w : SourceTables) (known : List Named)
     (before rest : List LaidLine) (l : LaidLine) (x : LaidStatement) → IsPlace statements areas w known before rest l x → Loads areas before rest l x
 loads fits law pools statements areas w known before rest l x p =
     record { word = word_is fits law statements areas w known before rest l x p; literal = loaded pools statements areas w before rest l x p.there }
 
 -- ---- what is beside the line
 
-pub record IsLookup (w : Whole) (known : List Named) (x : LaidStatement) (z : Lookup) : Type 0 where
+pub record IsLookup (w : SourceTables) (known : List Named) (x : LaidStatement) (z : Lookup) : Type 0 where
   pub names : z.names.now ≡ w.names.now
   pub line : IsLineOf x z.line.now
   pub registers : z.registers.now ≡ known
 
-pub record AreTables (areas : List LaidArea) (w : Whole) (known : List Named) (x : LaidStatement) (y : LineTables) : Type 0 where
+pub record AreTables (areas : List LaidArea) (w : SourceTables) (known : List Named) (x : LaidStatement) (y : LineTables) : Type 0 where
   pub lookup : IsLookup w known x y.lookup
   pub labels : y.«data».now ≡ w.sets.«data»
   pub sizes : y.sizes.now ≡ w.sizes.items
   pub strings : y.strings.now ≡ x.strings
   pub word : y.word ≡ own.word_in areas x.place.area x.literal
 
-pub shows : (statements : List Statement) (areas : List LaidArea) (w : Whole) (known : List Named) (before rest : List LaidLine) (l : LaidLine) (x : LaidStatement) (z : Lookup)
+pub shows : (statements : List Statement) (areas : List LaidArea) (w : SourceTables) (known : List Named) (before rest : List LaidLine) (l : LaidLine)
+    (x : LaidStatement) (z : Lookup)
     → IsPlace statements areas w known before rest l x → IsLookup w known x z
     → Shows z (context_there statements before l)
 shows statements areas w known before rest l x z p b = record {
@@ -139,16 +146,20 @@ shows statements areas w known before rest l x z p b = record {
   line = seen_there statements areas w before rest l x z.line.now p.there b.line;
   registers = λ q. ap (register_in q) b.registers ∙ p.here.registers q;
   small = λ q n e.
-      small_there (declared_names statements) p.behind.ss p.behind.all q n (subst (λ (ls : List LaidLine). register_in q (registers_behind ls) ≡ Some n) p.behind.behind e);
+      small_there (declared_names statements) p.behind.ss p.behind.all q n (subst (λ (ls : List LaidLine). register_in q (registers_behind ls) ≡ Some n)
+      p.behind.behind e);
 }
 
-pub known_there : KnownValuesAreFinal → (statements : List Statement) (areas : List LaidArea) (w : Whole) (known : List Named) (before rest : List LaidLine) (l : LaidLine) (x : LaidStatement)
+pub known_there : KnownValuesAreFinal → (statements : List Statement) (areas : List LaidArea) (w : SourceTables) (known : List Named)
+    (before rest : List LaidLine) (l : LaidLine) (x : LaidStatement)
     → IsPlace statements areas w known before rest l x → (e : Expr) (v : Value) → value_there l.seen e ≡ Ok v
     → value_of (context_there statements before l) e ≡ Ok v
 known_there law statements areas w known before rest l x p e v h =
-    law statements (layout_sound statements p.here.sound) (are_plain statements p.here.said) (reversed rest []) before l (split_there (laid statements) rest l before p.here.parts) e v h
+    law statements (layout_sound statements p.here.sound) (are_plain statements p.here.said) (reversed rest []) before l
+    (split_there (laid statements) rest l before p.here.parts) e v h
 
-pub shows_tables : KnownValuesAreFinal → (statements : List Statement) (areas : List LaidArea) (w : Whole) (known : List Named) (before rest : List LaidLine) (l : LaidLine) (x : LaidStatement)
+pub shows_tables : KnownValuesAreFinal → (statements : List Statement) (areas : List LaidArea) (w : SourceTables) (known : List Named)
+    (before rest : List LaidLine) (l : LaidLine) (x : LaidStatement)
     (y : LineTables) → IsPlace statements areas w known before rest l x → Loads areas before rest l x → AreTables areas w known x y
     → ShowsLine statements before rest l y x.statement.what
 shows_tables law statements areas w known before rest l x y p o b =
@@ -169,7 +180,8 @@ shows_tables law statements areas w known before rest l x y p o b =
 
 -- ---- what RN gives
 
-pub given_there : (statements : List Statement) (areas : List LaidArea) (w : Whole) (known : List Named) (before rest : List LaidLine) (l : LaidLine) (x : LaidStatement) (y : LineTables)
+pub given_there : (statements : List Statement) (areas : List LaidArea) (w : SourceTables) (known : List Named) (before rest : List LaidLine) (l : LaidLine)
+    (x : LaidStatement) (y : LineTables)
     (n : Result ℕ LineKind) → IsHere statements areas w known before rest l x → ShowsLine statements before rest l y x.statement.what
     → IsNumber (context_there statements before l) x.statement.what n → named_by l.seen (defined_by l.statement) ≡ gives n (defined_by l.statement)
 given_there statements areas w known before rest l x y n h shows i =

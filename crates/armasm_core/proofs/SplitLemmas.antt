@@ -7,7 +7,7 @@ use Rattle.layout_laws.proofs.SoundLemmas.{or_none, told_none}
 use Rattle.asm_model.specs.declared.names.LaidName.{LaidName}
 use Rattle.asm_model.specs.Laid.{LaidLine, laid, laid_of, laid_behind, reversed}
 use Rattle.asm_model.specs.LayoutKinds.{layout_kinds, told_at, first_late, settled, equals_in}
-use Rattle.said_model.specs.Said.{IsSaid, AllSaid}
+use Rattle.asm_model.specs.Said.{IsSaid, AllSaid}
 use Rattle.source_model.specs.Registers.{register_names, register_kinds}
 use Rattle.source_model.specs.SourceFaults.{first_laid, layout_faults}
 use Rattle.object_laws.proofs.FaultLemmas.{layout_here}
@@ -30,7 +30,8 @@ head_of d (s ∷ ss) l before h e =
     let behind : laid_of d ss ≡ before = cc in
     record { s = s; ss = ss; line = sym line; behind = sym behind; said = h.0; all = h.1 }
 
-pub behind_there : (d : List LaidName) (ss : List Statement) (rest : List LaidLine) (l : LaidLine) (before : List LaidLine) → AllSaid ss → laid_of d ss ≡ reversed rest (l ∷ before)
+pub behind_there : (d : List LaidName) (ss : List Statement) (rest : List LaidLine) (l : LaidLine) (before : List LaidLine) → AllSaid ss
+    → laid_of d ss ≡ reversed rest (l ∷ before)
     → IsBehind d l before
 behind_there d ss [] l before h e = head_of d ss l before h e
 behind_there d ss (m ∷ rest) l before h e =
@@ -62,7 +63,8 @@ registers_there statements rest l before e parts =
     let kinds = layout_kinds fixed statements l before ++ register_kinds names l before in
     let whole = subst (λ (ls : List LaidLine). first_laid names fixed statements ls ≡ None) parts
     (or_none (first_laid names fixed statements (laid statements)) (first_late (laid statements) [] (reversed (laid statements) [])) e).0 in
-    let here = or_none (first_laid names fixed statements before) (told_at l.statement (told_kind kinds)) (first_before names fixed statements rest (l ∷ before) whole) in
+    let here = or_none (first_laid names fixed statements before) (told_at l.statement (told_kind kinds))
+    (first_before names fixed statements rest (l ∷ before) whole) in
     (both_empty (layout_kinds fixed statements l before) (register_kinds names l before) (told_none l.statement kinds here.1)).1
 
 pub layout_there : (statements : List Statement) (rest : List LaidLine) (l : LaidLine) (before : List LaidLine) → layout_faults statements ≡ None

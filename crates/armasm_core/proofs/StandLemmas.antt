@@ -9,9 +9,9 @@ use Rattle.layout_laws.proofs.SoundLemmas.{statements_kept}
 use Rattle.source_model.specs.Registers.{Named}
 use Rattle.armasm_core.specs.Writing.{AllCanStand, HasNumber, HasWord, SymbolHasNumber, TargetHasNumber}
 use Rattle.asm_units.specs.declared.emitted.LineUnits.{LineUnits}
-use Rattle.armasm_core.specs.declared.whole.Whole.{Whole}
+use Rattle.armasm_core.specs.declared.source_tables.SourceTables.{SourceTables}
 use Rattle.armasm_core.specs.Putting.{AllUnitsFit, IsPut, UnitFits}
-use Rattle.armasm_core.specs.Whole.{IsHere, IsWhole}
+use Rattle.armasm_core.specs.SourceTables.{IsHere, AreSourceTables}
 use Rattle.armasm_core.specs.Pools.{PoolsCanStand, Shares}
 use Rattle.source_laws.proofs.WithinLemmas.{IsWithin}
 use Rattle.asm_layout.specs.Layout.{IsArea}
@@ -38,7 +38,7 @@ use Rattle.source_laws.proofs.ZeroLemmas.{zero_areas_hold_nothing}
 use Rattle.source_model.specs.Objects.{Piece, Source, IsAmong, StandsIn, contents_of, is_kept, literal_stored, source_of, unit_bytes, units_from, word_piece, words_of}
 use Rattle.source_laws.specs.Laws.{AreOfState}
 use Rattle.source_model.specs.SourceFaults.{layout_faults}
-use Rattle.source_model.specs.Units.{Emitted, Bytes, Word, Instruction, Half, LinkPair, Stored, Target, Nothing, ByArea, BySymbol}
+use Rattle.source_model.specs.Units.{Emitted, Bytes, Word, Instruction, Half, LinkPair, Stored, RelocationTarget, Nothing, ByArea, BySymbol}
 use Rattle.armasm_core.specs.declared.building.AreaBuild.{AreaBuild}
 use Rattle.armasm_core.specs.Building.{Frame, LineCanStand, frame_of, frames, kept_size, marks_zeroes, pieces_put}
 use Rattle.armasm_core.specs.Emission.{GrowsOn, HasSource, HasSymbols, IsEmittable, things_so_far}
@@ -64,7 +64,8 @@ units_word at (u ∷ us) p h (inr k) = units_word (at + length (unit_bytes u)) u
 
 words_word : (s : Source) (area : ℕ) (es : List (Value × ℕ)) (p : Piece) → IsAmong p (words_of s area es) → HasWord p.1
 words_word s area [] p k = absurd k
-words_word s area (e ∷ es) p k = ⊎_elim (first (literal_stored s area e.0)) (words_word s area es p) (among_either p (word_piece e.1 (literal_stored s area e.0)) (words_of s area es) k)
+words_word s area (e ∷ es) p k =
+    ⊎_elim (first (literal_stored s area e.0)) (words_word s area es p) (among_either p (word_piece e.1 (literal_stored s area e.0)) (words_of s area es) k)
   where
     first : (r : Result Stored LineKind) → IsAmong p (word_piece e.1 r) → HasWord p.1
     first (Ok w) (inl is) = subst (λ (q : Piece). HasWord q.1) (sym is) tt
@@ -73,7 +74,7 @@ words_word s area (e ∷ es) p k = ⊎_elim (first (literal_stored s area e.0)) 
 
 -- ---- numbers
 
-target_number : (names : List (List ℕ)) (n : ℕ) (t : Target) → n < 2 ^ 24 → TargetListed names t → TargetBelow n t → TargetHasNumber names t
+target_number : (names : List (List ℕ)) (n : ℕ) (t : RelocationTarget) → n < 2 ^ 24 → TargetListed names t → TargetBelow n t → TargetHasNumber names t
 target_number names n Nothing few h k = tt
 target_number names n (ByArea area) few h k = let less : area < n = k in omega (arith, less, few)
 target_number names n (BySymbol name) few h k = h
@@ -97,7 +98,8 @@ thing_number : (l : Layout) (h : HasSource l) (names : List (List ℕ)) → name
 thing_number l h names listed area p x =
     let ss = h.statements in
     unit_number names (length (areas_behind ss)) p.1 (below (length (areas_behind ss)) (length ss) (areas_few ss) h.few)
-    (subst (λ (ns : List (List ℕ)). UnitListed ns p.1) (sym listed) (symbols_are_listed ss h.sound area p x)) (things_below ss (length (areas_behind ss)) (areas_kept ss) area p x)
+    (subst (λ (ns : List (List ℕ)). UnitListed ns p.1) (sym listed) (symbols_are_listed ss h.sound area p x))
+    (things_below ss (length (areas_behind ss)) (areas_kept ss) area p x)
 
 -- ---- room
 
@@ -107,7 +109,8 @@ not_kept (Some contents.Code) e = absurd (cc)
 not_kept (Some contents.Data) e = absurd (cc)
 not_kept (Some contents.Zeroes) e = refl
 
-thing_inside : (ss : List Statement) → layout_faults ss ≡ None → AreOfState ss → (area : ℕ) (a : LaidArea) → IsArea (laid ss) area a → (p : Piece) → StandsIn (source_of ss) area p
+thing_inside : (ss : List Statement) → layout_faults ss ≡ None → AreOfState ss → (area : ℕ) (a : LaidArea) → IsArea (laid ss) area a → (p : Piece)
+    → StandsIn (source_of ss) area p
     → p.0 + length (unit_bytes p.1) ≤ kept_size a.attributes a.size
 thing_inside ss sound states area a is p x = by_zeroes (marks_zeroes a.attributes) refl
   where
@@ -146,7 +149,8 @@ frame_got (x ∷ xs) zero a e = let is : x ≡ a = cc in ap (λ (y : LaidArea). 
 frame_got (x ∷ xs) (suc i) a e = frame_got xs i a e
 
 line_stands : (o : Layout) (h : HasSource o) (names : List (List ℕ)) → names ≡ symbols_of (source_of h.statements).names (laid h.statements)
-    → (areas : List LaidArea) (w : Whole) (before rest : List LaidLine) (l : LaidLine) (x : LaidStatement) → StandsThere h.statements areas w before rest l x
+    → (areas : List LaidArea) (w : SourceTables) (before rest : List LaidLine) (l : LaidLine) (x : LaidStatement)
+    → StandsThere h.statements areas w before rest l x
     → (gs : List AreaBuild) → frames gs ≡ map frame_of areas → (us : List Code) → own_things h.statements l before rest ≡ pieces_put x.place.offset us
     → AllUnitsFit (map emitted_of us) → LineCanStand names (frames gs) x.place.area (pieces_put x.place.offset us)
 line_stands o h names listed areas w before rest l x there gs same us puts fits = by_area x.place.area refl
@@ -171,19 +175,23 @@ line_stands o h names listed areas w before rest l x there gs same us puts fits 
           stand = things_stand o h names listed area a.0 is more
               (λ p k. (
                 stands_there ss area p (l ∷ before) rest there.parts
-                    (subst (IsAmong p) (sym (things_here ss area before rest l more here puts)) (among_behind p (things_so_far (source_of ss) before (l ∷ rest) area) more k)),
+                    (subst (IsAmong p) (sym (things_here ss area before rest l more here puts))
+                    (among_behind p (things_so_far (source_of ss) before (l ∷ rest) area) more k)),
                 units_word x.place.offset (map emitted_of us) p fits k,
               ));
         }
 
-pub emittable : (l : Layout) (w : Whole) (names : List (List ℕ)) (h : HasSymbols l w names) → IsEmittable h.source.statements l w
+pub emittable : (l : Layout) (w : SourceTables) (names : List (List ℕ)) (h : HasSymbols l w names) → IsEmittable h.source.statements l w
 emittable l w names h =
     let s = h.source in record { layout = s.layout; said = s.said; sound = s.sound; states = s.states; whole = h.whole }
 
 -- of the lines that are left the first can stand
-pub next_stands : (l : Layout) (w : Whole) (names : List (List ℕ)) (x : LaidStatement) (left : List LaidStatement) (known : List Named) (gs : List AreaBuild)
-    → 1 ≤ length left → x ≡ get_or left 0 x → (g : GrowsOn l w names left known gs) → frames gs ≡ map frame_of l.areas → (u : LineUnits) (us : List Code) → us ≡ u.units.items
-    → ((before rest : List LaidLine) (line : LaidLine) → IsHere g.source.source.statements l.areas w known before rest line x → IsPut g.source.source.statements before rest line u)
+pub next_stands : (l : Layout) (w : SourceTables) (names : List (List ℕ)) (x : LaidStatement) (left : List LaidStatement) (known : List Named)
+    (gs : List AreaBuild)
+    → 1 ≤ length left → x ≡ get_or left 0 x → (g : GrowsOn l w names left known gs) → frames gs ≡ map frame_of l.areas → (u : LineUnits) (us : List Code)
+    → us ≡ u.units.items
+    → ((before rest : List LaidLine) (line : LaidLine) → IsHere g.source.source.statements l.areas w known before rest line x
+    → IsPut g.source.source.statements before rest line u)
     → LineCanStand names (frames gs) x.place.area (pieces_put x.place.offset us)
 next_stands l w names x left known gs some at g same u us is put =
     let s = g.source.source in
@@ -198,14 +206,15 @@ next_stands l w names x left known gs some at g same u us is put =
 
 -- ---- the words of pools
 
-pub shares : (ss : List Statement) (areas : List LaidArea) (w : Whole) → IsWhole ss areas w → Shares w (source_of ss)
+pub shares : (ss : List Statement) (areas : List LaidArea) (w : SourceTables) → AreSourceTables ss areas w → Shares w (source_of ss)
 shares ss areas w h = record { names = h.names; labels = h.sets.data_names }
 
-pub pools_stand : (l : Layout) (w : Whole) (names : List (List ℕ)) → HasSymbols l w names → PoolsCanStand w names l.areas
+pub pools_stand : (l : Layout) (w : SourceTables) (names : List (List ℕ)) → HasSymbols l w names → PoolsCanStand w names l.areas
 pools_stand l w names h =
     let s = h.source in
     let ss = s.statements in
-    let count : length l.areas ≡ length (areas_behind ss) = s.layout.areas.count ∙ ap (λ (ss : List Statement). length (areas_behind ss)) (statements_kept (declared_names ss) ss) in
+    let count : length l.areas ≡ length (areas_behind ss) =
+    s.layout.areas.count ∙ ap (λ (ss : List Statement). length (areas_behind ss)) (statements_kept (declared_names ss) ss) in
     record {
       few = subst (λ (n : ℕ). n < 2 ^ 24) (sym count) (below (length (areas_behind ss)) (length ss) (areas_few ss) s.few);
       each = λ area a at. record {

@@ -10,8 +10,8 @@ use Rattle.asm_layout.specs.Front.{front_laid}
 use Rattle.asm_model.specs.declared.lines.Flat.{Flat}
 use Rattle.asm_model.specs.declared.statements.Statement.{Statement}
 use Rattle.asm_model.specs.Directives.{or_else}
-use Rattle.asm_reading.specs.declared.reading.Reading.{Reading}
-use Rattle.asm_reading.specs.declared.reading.Unread.{Unread}
+use Rattle.asm_reading.specs.declared.flat_lines.Reading.{Reading}
+use Rattle.asm_reading.specs.declared.flat_lines.Unread.{Unread}
 use Rattle.asm_reading.proofs.ReadLemmas.{few_read}
 use Rattle.asm_reading.specs.Laws.{AreFit, OneReading, ReadingsAreFit}
 use Rattle.asm_model.specs.Laid.{reversed}

@@ -20,9 +20,9 @@ use Rattle.asm_model.specs.Forms.{same}
 use Rattle.asm_model.specs.Kinds.{earlier}
 use Rattle.asm_model.specs.Laid.{reversed}
 use Rattle.asm_model.specs.Tokens.{is_called}
-use Rattle.asm_reading.specs.declared.reading.Reading.{Reading}
-use Rattle.asm_reading.specs.declared.reading.Unread.{Unread}
-use Rattle.asm_reading.specs.Reading.{IsReading}
+use Rattle.asm_reading.specs.declared.flat_lines.Reading.{Reading}
+use Rattle.asm_reading.specs.declared.flat_lines.Unread.{Unread}
+use Rattle.asm_reading.specs.FlatLines.{IsReading}
 use Rattle.expand_model.specs.Expands.{Outcome, Flats, FaultAt, MissingFile, Expands}
 use Rattle.expand_model.specs.Gets.{GetsFile}
 use Rattle.expand_model.specs.Steps.{Sources, visit_limit}

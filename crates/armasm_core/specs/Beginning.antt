@@ -8,8 +8,8 @@ use Rattle.asm_model.specs.declared.directives.DirectiveLine.TheVariants as line
 use Rattle.asm_model.specs.declared.lines.Flat.{Flat}
 use Rattle.asm_model.specs.declared.statements.What.TheVariants as what
 use Rattle.asm_model.specs.Laid.{LaidLine}
-use Rattle.asm_reading.specs.declared.reading.Reading.{Reading}
-use Rattle.asm_reading.specs.Reading.{IsReading}
+use Rattle.asm_reading.specs.declared.flat_lines.Reading.{Reading}
+use Rattle.asm_reading.specs.FlatLines.{IsReading}
 use Rattle.expand_model.specs.Expands.{Expands, Flats}
 use Rattle.expand_model.specs.Steps.{Sources, visit_limit}
 use Rattle.source_model.specs.Objects.{Source, At, source_of}

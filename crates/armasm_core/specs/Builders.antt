@@ -25,7 +25,8 @@ pub record BytesOfPieces (pieces : List Piece) (bytes : List ℕ) : Type 0 where
 pub record HasPieces (names : List (List ℕ)) (pieces : List Piece) (d : AreaBuilder) : Type 0 where
   pub held : BytesOfPieces pieces d.bytes.items
   pub relocated : (p : Piece) (r : Reloc) → IsAmong p pieces → IsRelocOf (relocs_in names p) r → get nat_cmp d.relocs r.offset ≡ Some r.word
-  pub no_others : (r : Reloc) → get nat_cmp d.relocs r.offset ≡ Some r.word → (p : Piece) × IsAmong p pieces × IsRelocOf (relocs_in names p) r
+  pub no_others : (r : Reloc) → get nat_cmp d.relocs r.offset ≡ Some r.word → (p : Piece) × IsAmong p pieces
+      × IsRelocOf (relocs_in names p) r
 
 -- the relocations of the things, in the order of their offsets
 pub record AreRelocs (names : List (List ℕ)) (pieces : List Piece) (relocs : List Reloc) : Type 0 where
@@ -35,4 +36,5 @@ pub record AreRelocs (names : List (List ℕ)) (pieces : List Piece) (relocs : L
 
 -- an area that is being built takes these things more
 abbrev pub TakesMore : List (List ℕ) → List Piece → AreaBuilder → AreaBuilder → Type 0
-TakesMore names more old new = (pieces : List Piece) → HasPieces names pieces old → MeetNone pieces more → HasPieces names (pieces ++ more) new
+TakesMore names more old new =
+    (pieces : List Piece) → HasPieces names pieces old → MeetNone pieces more → HasPieces names (pieces ++ more) new

@@ -2,8 +2,8 @@
 use Rattle.std.specs.Prelude.{◌≡◌, ℕ, ◌^◌, ◌<◌, List, ◌++◌, length, None, Result, Ok, Err}
 use Rattle.std.specs.Global.{Vec}
 use Rattle.sdt_fault.specs.declared.answer.Fault.{Fault}
-use Rattle.armasm_core.specs.declared.whole.Whole.{Whole}
-use Rattle.armasm_core.specs.Whole.{IsWhole}
+use Rattle.armasm_core.specs.declared.source_tables.SourceTables.{SourceTables}
+use Rattle.armasm_core.specs.SourceTables.{AreSourceTables}
 use Rattle.asm_layout.specs.Late.{AreOn}
 use Rattle.asm_layout.specs.Layout.{IsLayout, IsTold}
 use Rattle.asm_model.specs.declared.statements.Statement.{Statement}
@@ -11,8 +11,8 @@ use Rattle.asm_layout.specs.declared.laid.LaidStatement.{LaidStatement}
 use Rattle.asm_layout.specs.declared.laid.Layout.{Layout}
 use Rattle.asm_model.specs.Laid.{LaidLine, laid, final_names, reversed}
 use Rattle.asm_model.specs.Symbols.{symbols_of}
-use Rattle.said_model.specs.Fit.{AllFit}
-use Rattle.said_model.specs.Said.{AllSaid, AllHaveTexts}
+use Rattle.asm_model.specs.Fit.{AllFit}
+use Rattle.asm_model.specs.Said.{AllSaid, AllHaveTexts}
 use Rattle.source_laws.specs.Laws.{AreOfState}
 use Rattle.source_model.specs.Objects.{Piece, Source, source_of, things_behind, things_in}
 use Rattle.source_model.specs.Registers.{Named, register_in, registers_behind}
@@ -33,25 +33,26 @@ pub record HasSource (l : Layout) : Type 0 where
   pub few : length statements < 2 ^ 24
 
 -- and these are what its lines share and its symbols
-pub record HasSymbols (l : Layout) (w : Whole) (symbols : List (List ℕ)) : Type 0 where
+pub record HasSymbols (l : Layout) (w : SourceTables) (symbols : List (List ℕ)) : Type 0 where
   pub source : HasSource l
-  pub whole : IsWhole source.statements l.areas w
+  pub whole : AreSourceTables source.statements l.areas w
   pub listed : symbols ≡ symbols_of (final_names (laid source.statements)) (laid source.statements)
 
 -- the layout of statements without faults of their own, and what its lines share
-pub record IsEmittable (statements : List Statement) (l : Layout) (w : Whole) : Type 0 where
+pub record IsEmittable (statements : List Statement) (l : Layout) (w : SourceTables) : Type 0 where
   pub layout : IsLayout statements l
   pub said : AllSaid statements
   pub sound : layout_faults statements ≡ None
   pub states : AreOfState statements
-  pub whole : IsWhole statements l.areas w
+  pub whole : AreSourceTables statements l.areas w
 
 -- the words of an area's pools, and what these lines put there before those behind them
 abbrev pub things_so_far : Source → List LaidLine → List LaidLine → ℕ → List Piece
 things_so_far s before rest area = pooled_words s area ++ things_behind s area before rest
 
 -- of a source's lines these are left, none before has a fault of values, and in the areas stands what those before put there
-pub record IsGrown (statements : List Statement) (symbols : List (List ℕ)) (left : List LaidStatement) (known : List Named) (gs : List AreaBuild) : Type 0 where
+pub record IsGrown (statements : List Statement) (symbols : List (List ℕ)) (left : List LaidStatement) (known : List Named)
+    (gs : List AreaBuild) : Type 0 where
   pub before : List LaidLine
   pub rest : List LaidLine
   pub parts : laid statements ≡ reversed rest before
@@ -61,7 +62,8 @@ pub record IsGrown (statements : List Statement) (symbols : List (List ℕ)) (le
   pub builders : HavePieces symbols (things_so_far (source_of statements) before rest) gs
 
 -- of the lines of the layout's source these are left
-pub record GrowsOn (l : Layout) (w : Whole) (symbols : List (List ℕ)) (left : List LaidStatement) (known : List Named) (gs : List AreaBuild) : Type 0 where
+pub record GrowsOn (l : Layout) (w : SourceTables) (symbols : List (List ℕ)) (left : List LaidStatement) (known : List Named)
+    (gs : List AreaBuild) : Type 0 where
   pub source : HasSymbols l w symbols
   pub grown : IsGrown source.source.statements symbols left known gs
 

@@ -11,7 +11,7 @@ use Rattle.asm_sets.specs.Sets.{HaveSame}
 use Rattle.asm_model.specs.Laid.{reversed}
 use Rattle.asm_model.specs.LayoutKinds.{is_true}
 use Rattle.asm_model.specs.Marks.{datum_in, datum_names}
-use Rattle.said_model.specs.Said.{IsSaid}
+use Rattle.asm_model.specs.Said.{IsSaid}
 use Rattle.source_model.specs.Objects.{exports_name, is_weak_import}
 use Rattle.armasm_core.specs.declared.sets.Sets.{Sets}
 

@@ -18,4 +18,4 @@ pub mod Giving
 pub mod Loaded
 pub mod Pools
 pub mod Putting
-pub mod Whole
+pub mod SourceTables

@@ -8,18 +8,19 @@ use Rattle.asm_layout.specs.declared.laid.LaidStatement.{LaidStatement}
 use Rattle.asm_layout.specs.declared.laid.Layout.{Layout}
 use Rattle.asm_model.specs.Laid.{LaidLine, laid, taken, reversed, final_names}
 use Rattle.asm_model.specs.Symbols.{symbols_in, symbols_of}
-use Rattle.said_model.specs.Said.{AllSaid}
+use Rattle.asm_model.specs.Said.{AllSaid}
 use Rattle.source_model.specs.SourceFaults.{layout_faults}
-use Rattle.armasm_core.specs.declared.whole.Whole.{Whole}
-use Rattle.armasm_core.specs.Whole.{IsWhole}
+use Rattle.armasm_core.specs.declared.source_tables.SourceTables.{SourceTables}
+use Rattle.armasm_core.specs.SourceTables.{AreSourceTables}
 
 -- a statement is a line of a source whose layout has no fault, where these lines stand before it, the nearest first, and
 -- these behind it
-pub record StandsThere (statements : List Statement) (areas : List LaidArea) (w : Whole) (before rest : List LaidLine) (l : LaidLine) (x : LaidStatement) : Type 0 where
+pub record StandsThere (statements : List Statement) (areas : List LaidArea) (w : SourceTables) (before rest : List LaidLine) (l : LaidLine)
+    (x : LaidStatement) : Type 0 where
   pub said : AllSaid statements
   pub sound : layout_faults statements ≡ None
   pub laid_out : AreAreas (laid statements) areas
-  pub whole : IsWhole statements areas w
+  pub whole : AreSourceTables statements areas w
   pub parts : laid statements ≡ reversed rest (l ∷ before)
   pub line : IsStatement x l before
 
@@ -28,11 +29,11 @@ abbrev pub needed_by : List Statement → LaidLine → List (List ℕ)
 needed_by statements l = symbols_in (final_names (laid statements)) l.line (taken l.extent) l.statement.what
 
 -- the layout of statements without faults of their own, and what its lines share
-pub record IsListable (statements : List Statement) (l : Layout) (w : Whole) : Type 0 where
+pub record IsListable (statements : List Statement) (l : Layout) (w : SourceTables) : Type 0 where
   pub layout : IsLayout statements l
   pub said : AllSaid statements
   pub sound : layout_faults statements ≡ None
-  pub whole : IsWhole statements l.areas w
+  pub whole : AreSourceTables statements l.areas w
 
 -- of a source's lines these are left, and the symbols of those before are listed
 pub record IsListed (statements : List Statement) (left : List LaidStatement) (symbols : List (List ℕ)) : Type 0 where

@@ -8,8 +8,8 @@ use Rattle.asm_layout.specs.Layout.{IsLayout}
 use Rattle.asm_model.specs.declared.lines.Flat.{Flat}
 use Rattle.asm_model.specs.declared.statements.Statement.{Statement}
 use Rattle.asm_layout.specs.declared.laid.Layout.{Layout}
-use Rattle.asm_reading.specs.declared.reading.Reading.{Reading}
-use Rattle.asm_reading.specs.declared.reading.Unread.{Unread}
+use Rattle.asm_reading.specs.declared.flat_lines.Reading.{Reading}
+use Rattle.asm_reading.specs.declared.flat_lines.Unread.{Unread}
 use Rattle.source_model.specs.Objects.{IsObject}
 use Rattle.source_model.specs.SourceFaults.{layout_faults}
 use Rattle.armasm_core.specs.Assembling.{said_by, line_faults, reading_faults, source_faults, FlatsMake}

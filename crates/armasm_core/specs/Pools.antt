@@ -9,7 +9,7 @@ use Rattle.asm_sets.specs.Sets.{HaveSame}
 use Rattle.source_model.specs.Objects.{Piece, Source, words_of}
 use Rattle.armasm_core.specs.declared.building.AreaBuild.{AreaBuild}
 use Rattle.armasm_core.specs.declared.builders.AreaBuilder.{AreaBuilder}
-use Rattle.armasm_core.specs.declared.whole.Whole.{Whole}
+use Rattle.armasm_core.specs.declared.source_tables.SourceTables.{SourceTables}
 use Rattle.armasm_core.specs.Building.{HavePieces, kept_size}
 use Rattle.armasm_core.specs.Builders.{HasPieces, MeetNone}
 use Rattle.armasm_core.specs.Writing.{AllCanStand}
@@ -27,25 +27,27 @@ entries (v ∷ vs) [] = []
 entries (v ∷ vs) (at ∷ places) = (v, at) ∷ entries vs places
 
 -- all lines of a source share its names and its labels that are data
-pub record Shares (w : Whole) (s : Source) : Type 0 where
+pub record Shares (w : SourceTables) (s : Source) : Type 0 where
   pub names : w.names.now ≡ s.names
   pub labels : HaveSame w.sets.«data» (datum_names s.statements)
 
 -- the words of literals of an area can stand there
-pub record WordsCanStand (w : Whole) (names : List (List ℕ)) (room area : ℕ) (es : List (Value × ℕ)) : Type 0 where
+pub record WordsCanStand (w : SourceTables) (names : List (List ℕ)) (room area : ℕ) (es : List (Value × ℕ)) : Type 0 where
   pub source : Source
   pub shares : Shares w source
   pub stand : AllCanStand names room (words_of source area es)
 
 -- an area that is being built takes the words of these literals of an area
-abbrev pub TakesWords : Whole → List (List ℕ) → ℕ → List (Value × ℕ) → AreaBuilder → AreaBuilder → Type 0
+abbrev pub TakesWords : SourceTables → List (List ℕ) → ℕ → List (Value × ℕ) → AreaBuilder → AreaBuilder → Type 0
 TakesWords w names area es old new =
-    (s : Source) (pieces : List Piece) → Shares w s → HasPieces names pieces old → MeetNone (pieces ++ words_of s area es) (words_of s area es)
+    (s : Source) (pieces : List Piece) → Shares w s → HasPieces names pieces old
+    → MeetNone (pieces ++ words_of s area es) (words_of s area es)
     → HasPieces names (pieces ++ words_of s area es) new
 
 -- these words and nothing else stand in an area that is being built
-abbrev pub BeginsWith : Whole → List (List ℕ) → ℕ → List (Value × ℕ) → AreaBuilder → Type 0
-BeginsWith w names area es d = (s : Source) → Shares w s → MeetNone (words_of s area es) (words_of s area es) → HasPieces names (words_of s area es) d
+abbrev pub BeginsWith : SourceTables → List (List ℕ) → ℕ → List (Value × ℕ) → AreaBuilder → Type 0
+BeginsWith w names area es d =
+    (s : Source) → Shares w s → MeetNone (words_of s area es) (words_of s area es) → HasPieces names (words_of s area es) d
 
 -- ---- all areas
 
@@ -58,12 +60,13 @@ abbrev pub pool_words : Source → List LaidArea → ℕ → List Piece
 pool_words s areas area = words_in s area (slice_get areas area)
 
 -- the words of all pools can stand in their areas
-pub record PoolsCanStand (w : Whole) (names : List (List ℕ)) (areas : List LaidArea) : Type 0 where
+pub record PoolsCanStand (w : SourceTables) (names : List (List ℕ)) (areas : List LaidArea) : Type 0 where
   pub few : length areas < 2 ^ 24
   pub each : (area : ℕ) (a : LaidArea) → slice_get areas area ≡ Some a
       → WordsCanStand w names (kept_size a.attributes a.size) area a.pools.placed
 
 -- in each area the words of its pools stand and nothing else
-abbrev pub HoldPools : Whole → List (List ℕ) → List LaidArea → List AreaBuild → Type 0
+abbrev pub HoldPools : SourceTables → List (List ℕ) → List LaidArea → List AreaBuild → Type 0
 HoldPools w names areas gs =
-    (s : Source) → Shares w s → ((area : ℕ) → MeetNone (pool_words s areas area) (pool_words s areas area)) → HavePieces names (pool_words s areas) gs
+    (s : Source) → Shares w s → ((area : ℕ) → MeetNone (pool_words s areas area) (pool_words s areas area))
+    → HavePieces names (pool_words s areas) gs

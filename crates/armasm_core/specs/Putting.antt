@@ -16,7 +16,7 @@ use Rattle.source_model.specs.Objects.{pieces_in, units_from}
 use Rattle.source_model.specs.Registers.{named_by}
 use Rattle.source_model.specs.Units.{Emitted, Instruction, Half, LinkPair}
 use Rattle.armasm_core.specs.Giving.{gives}
-use Rattle.armasm_core.specs.Whole.{context_there, kinds_at, word_there}
+use Rattle.armasm_core.specs.SourceTables.{context_there, kinds_at, word_there}
 
 -- an instruction has a word, a half-word or two
 abbrev pub UnitFits : Emitted → Type 0

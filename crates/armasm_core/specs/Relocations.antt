@@ -4,9 +4,9 @@ use Rattle.std.specs.Prelude.{ℕ, ◌+◌, ◌*◌, ◌^◌, List, [], ◌∷�
 use Rattle.aof_object.specs.declared.records.Reloc.{Reloc}
 use Rattle.asm_model.specs.Before.{place_of}
 use Rattle.source_model.specs.Objects.{Piece}
-use Rattle.source_model.specs.Units.{Target, Nothing, ByArea, BySymbol, Emitted, Bytes, Word, Instruction, Half, LinkPair}
+use Rattle.source_model.specs.Units.{RelocationTarget, Nothing, ByArea, BySymbol, Emitted, Bytes, Word, Instruction, Half, LinkPair}
 
-abbrev pub word_relocation : List (List ℕ) → Target → Option ℕ
+abbrev pub word_relocation : List (List ℕ) → RelocationTarget → Option ℕ
 word_relocation names Nothing = None
 word_relocation names (ByArea area) = Some (2 ^ 31 + 2 * 2 ^ 24 + area)
 word_relocation names (BySymbol name) = Some (2 ^ 31 + 2 ^ 27 + 2 * 2 ^ 24 + place_of name names)

@@ -5,8 +5,8 @@ use Rattle.sdt_outside.specs.Files.{Files, content}
 use Rattle.aof_object.specs.declared.records.Object.{Object}
 use Rattle.aof_object.specs.Validity.{IsValid}
 use Rattle.asm_model.specs.declared.lines.Flat.{Flat}
-use Rattle.asm_reading.specs.declared.reading.Reading.{Reading}
-use Rattle.asm_reading.specs.Reading.{IsReading}
+use Rattle.asm_reading.specs.declared.flat_lines.Reading.{Reading}
+use Rattle.asm_reading.specs.FlatLines.{IsReading}
 use Rattle.expand_model.specs.Expands.{Expands, Flats}
 use Rattle.expand_model.specs.Steps.{Sources, visit_limit}
 use Rattle.patch_model.specs.Fields.{Values}

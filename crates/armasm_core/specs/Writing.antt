@@ -5,7 +5,7 @@ use Rattle.std.specs.Prelude.{◌≡◌, ℕ, ◌+◌, ◌^◌, ◌<◌, ◌≤�
 use Rattle.std.specs.List.{list_any}
 use Rattle.asm_model.specs.Forms.{same}
 use Rattle.source_model.specs.Objects.{Piece, unit_bytes}
-use Rattle.source_model.specs.Units.{Emitted, Bytes, Word, Instruction, Half, LinkPair, Target, Nothing, ByArea, BySymbol}
+use Rattle.source_model.specs.Units.{Emitted, Bytes, Word, Instruction, Half, LinkPair, RelocationTarget, Nothing, ByArea, BySymbol}
 use Rattle.asm_instructions.specs.Fits.{Fits}
 use Rattle.asm_instructions.specs.ThumbFits.{ThumbFits}
 
@@ -25,7 +25,7 @@ SymbolHasNumber names None = Unit {0}
 SymbolHasNumber names (Some name) = IsListed names name
 
 -- a relocation has 24 bits for an area's number
-abbrev pub TargetHasNumber : List (List ℕ) → Target → Type 0
+abbrev pub TargetHasNumber : List (List ℕ) → RelocationTarget → Type 0
 TargetHasNumber names Nothing = Unit {0}
 TargetHasNumber names (ByArea area) = area < 2 ^ 24
 TargetHasNumber names (BySymbol name) = IsListed names name

@@ -11,7 +11,7 @@ ghost use Rattle.armasm_core.specs.Passes.{IsToldAs};
 
 use asm_expr::kinds::earlier;
 use asm_model::{Flat, bad_line, is_called};
-use asm_variables::words::words_of;
+use asm_variables::line_fields::words_of;
 use sdt_fault::Text;
 use sdt_fault::answer::Fault;
 use sdt_fault::kinds::LineKind;

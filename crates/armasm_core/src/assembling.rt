@@ -3,8 +3,8 @@
 ghost use Rattle.std.specs.Prelude.{◌+◌, ◌<◌, ◌≡◌, ◌≤◌, ◌^◌, IfErr, IfOk, length};
 ghost use Rattle.aof_object.specs.Validity.{IsValid};
 ghost use Rattle.sdt_outside.specs.Counts.{Rose};
-ghost use Rattle.said_model.specs.Said.{AllSaid};
-ghost use Rattle.asm_laying.specs.Behind.{most_statements};
+ghost use Rattle.asm_model.specs.Said.{AllSaid};
+ghost use Rattle.asm_laying.specs.Carried.{most_statements};
 ghost use Rattle.asm_reading.specs.Laws.{AreFit};
 ghost use Rattle.expand_model.specs.Steps.{visit_limit};
 ghost use Rattle.armasm_core.specs.Assembling as assembling;
@@ -13,7 +13,7 @@ ghost use Rattle.armasm_core.specs.Standing.{StandsFrom};
 
 use crate::emit;
 use crate::laws::{objects_of_flats_are_valid, objects_of_flats_stand};
-use crate::reading::laid_out;
+use crate::source_layout::laid_out;
 use aof_object::Object;
 use asm_expand::expand;
 use asm_model::Flat;

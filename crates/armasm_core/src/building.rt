@@ -9,10 +9,10 @@ ghost use Rattle.armasm_core.specs.Building.{AreasTake, IsFinished, LineCanStand
 ghost use Rattle.armasm_core.specs.Pools.{BeginsWith, HoldPools, PoolsCanStand, WordsCanStand};
 
 use crate::pools::put_words;
-use crate::{AreaBuilder, Whole};
+use crate::{AreaBuilder, SourceTables};
 use aof_object::{Area, AreaFlags};
 use asm_layout::LaidArea;
-use asm_names::Place;
+use asm_names::StatementPlace;
 use asm_units::{Emitted, Symbols};
 use sdt_fault::{List, NoMemory, Text};
 use std::alloc::Global;
@@ -42,7 +42,7 @@ fn started(
     alloc: Global,
     laid: &LaidArea,
     number: u32,
-    whole: &Whole<'_>,
+    whole: &SourceTables<'_>,
     symbols: &Symbols,
 ) -> Result<AreaBuild, NoMemory>
     requires few { length symbols.now < 2 ^ 24 }
@@ -77,7 +77,7 @@ fn started(
 pub fn all_started(
     alloc: Global,
     areas: &[LaidArea],
-    whole: &Whole<'_>,
+    whole: &SourceTables<'_>,
     symbols: &Symbols,
 ) -> Result<Vec<AreaBuild>, NoMemory>
     requires few { length symbols.now < 2 ^ 24 }
@@ -114,7 +114,7 @@ fn grow(
 /// Puts into a line's area what the line puts there.
 pub fn put_line(
     builds: &mut Vec<AreaBuild>,
-    place: &Place,
+    place: &StatementPlace,
     units: &[Emitted],
     symbols: &Symbols,
 ) -> Result<(), NoMemory>

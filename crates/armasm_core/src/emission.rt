@@ -8,13 +8,13 @@ ghost use Rattle.asm_layout.specs.declared.laid.LaidArea.{LaidArea};
 ghost use Rattle.asm_model.specs.Laid.{laid, final_names};
 ghost use Rattle.asm_model.specs.PlacedLines.{AllNamed};
 ghost use Rattle.asm_model.specs.Symbols as needs;
-ghost use Rattle.said_model.specs.Named.{AllLoadsNamed};
-ghost use Rattle.said_model.specs.Said.{AllSaid};
+ghost use Rattle.asm_model.specs.Named.{AllLoadsNamed};
+ghost use Rattle.asm_model.specs.Said.{AllSaid};
 ghost use Rattle.source_laws.specs.Laws.{AreOfState};
 ghost use Rattle.source_model.specs.Objects.{source_of, symbol_records};
 ghost use Rattle.source_model.specs.SourceFaults.{layout_faults};
 ghost use Rattle.armasm_core.specs.Gathered.{AllLaidSaid};
-ghost use Rattle.armasm_core.specs.Whole.{IsWhole};
+ghost use Rattle.armasm_core.specs.SourceTables.{AreSourceTables};
 ghost use Rattle.armasm_core.specs.Building.{frame_of, frames};
 ghost use Rattle.armasm_core.specs.Emission.{AreGrown, HasSource, HasSymbols, IsEmittable};
 ghost use Rattle.armasm_core.specs.Emitted.{IsEmitted};
@@ -26,7 +26,7 @@ use crate::flags::code_of;
 use crate::records::records_of;
 use crate::second_pass::pass_line;
 use crate::symbols::symbols_of;
-use crate::{Whole, give, whole_of};
+use crate::{SourceTables, define_register, source_tables_of};
 use aof_object::{Object, Symbol};
 use asm_layout::Layout;
 use asm_sets::NameMap;
@@ -41,7 +41,7 @@ use std::alloc::Global;
 fn grown(
     alloc: Global,
     layout: &Layout,
-    whole: &Whole<'_>,
+    whole: &SourceTables<'_>,
     symbols: &Symbols,
 ) -> Result<Vec<AreaBuild>, Fault>
     requires said { AllLaidSaid layout.now.statements }
@@ -62,7 +62,7 @@ fn grown(
             [line, rest @ ..] => {
                 let LineUnits { units, number } = pass_line(alloc, areas, whole, &registers, line)?;
                 put_line(&mut builds, &line.place, units.as_slice(), symbols)?;
-                give(alloc, &mut registers, &line.statement, number)?;
+                define_register(alloc, &mut registers, &line.statement, number)?;
                 left = rest;
             }
         }
@@ -73,13 +73,13 @@ fn grown(
 fn few_records(
     alloc: Global,
     layout: &Layout,
-    whole: &Whole<'_>,
+    whole: &SourceTables<'_>,
     symbols: &Symbols,
 ) -> Result<List<Symbol>, NoMemory>
     ensures few { IfOk result (λ records. length records < 2 ^ 24) }
     ensures records { IfOk result (λ records. (statements : Items Statement)
         → IsLayout statements layout.now → layout_faults statements ≡ None
-        → IsWhole statements layout.now.areas whole.now → symbols.now
+        → AreSourceTables statements layout.now.areas whole.now → symbols.now
         ≡ needs.symbols_of (final_names (laid statements)) (laid statements) → records
         ≡ symbol_records (source_of statements)) }
 {
@@ -100,7 +100,7 @@ fn object_of(alloc: Global, layout: &Layout) -> Result<Object, Fault>
         → IsEmitted statements result }
     ensures few { IfOk result (λ o. length o.symbols < 2 ^ 24) }
 {
-    let whole = whole_of(alloc, layout)?;
+    let whole = source_tables_of(alloc, layout)?;
     let needed = symbols_of(alloc, layout, &whole)?;
     let symbols = few_records(alloc, layout, &whole, &needed)?;
     let builds = grown(alloc, layout, &whole, &needed)?;

@@ -6,11 +6,11 @@ ghost use Rattle.asm_model.specs.declared.statements.Statement.{Statement};
 ghost use Rattle.asm_layout.specs.declared.laid.LaidArea.{LaidArea as Area};
 ghost use Rattle.source_model.specs.Objects.{source_of};
 ghost use Rattle.source_model.specs.SourceFaults.{layout_faults};
-ghost use Rattle.armasm_core.specs.Whole.{IsWhole};
+ghost use Rattle.armasm_core.specs.SourceTables.{AreSourceTables};
 ghost use Rattle.asm_units.specs.Recording.{Shows};
 ghost use Rattle.armasm_core.specs.Gathering.{IsCode, marks_code};
 
-use crate::whole::Whole;
+use crate::source_tables::SourceTables;
 use aof_object::AreaFlags;
 use asm_layout::{LaidArea, Layout};
 use asm_units::SymbolFlags;
@@ -39,9 +39,9 @@ pub fn code_of(alloc: Global, layout: &Layout) -> Result<Vec<bool>, NoMemory>
 }
 
 /// What the records of symbols say of a layout whose lines share this.
-pub fn flags_of<'a>(whole: &'a Whole<'a>, code: &'a [bool]) -> SymbolFlags<'a>
+pub fn flags_of<'a>(whole: &'a SourceTables<'a>, code: &'a [bool]) -> SymbolFlags<'a>
     ensures { (statements : List Statement) (areas : List Area)
-        → IsWhole statements areas whole.now → IsCode statements code.now
+        → AreSourceTables statements areas whole.now → IsCode statements code.now
         → Shows result (source_of statements) }
 {
     SymbolFlags {

@@ -1,5 +1,8 @@
-//! One source to one object: its expansion, flat lines that are read and laid out, the first line whose values have a fault,
-//! and the object: areas with their bytes and relocations, symbols with their records, the entry.
+//! One source to one object: expansion, reading and layout, the first line whose values have a fault, and the object:
+//! areas with their bytes and relocations, symbols with their records, the entry. Public sources: the SDT 2.50
+//! Reference Guide, chapter on the assembler, and ARM Object Format. `sdt_toolkit` calls `assemble` over a store of
+//! files, whose contract has the object whole (`Assembles`), and the laws in `laws`; what else is public is for proofs
+//! and tests.
 #![tactic(auto)]
 
 mod area;
@@ -12,15 +15,15 @@ pub mod flags;
 pub mod laws;
 pub mod literals;
 mod pools;
-mod reading;
 pub mod records;
 pub mod registers;
 mod relocations;
 mod second_pass;
 pub mod sets;
+mod source_layout;
+pub mod source_tables;
 pub mod symbols;
 mod tables;
-pub mod whole;
 mod writing;
 
 pub use crate::assembling::{MOST_BYTES, assemble};
@@ -29,6 +32,6 @@ pub use crate::emission::emit;
 pub use crate::entry::entry_of;
 pub use crate::flags::{code_of, flags_of};
 pub use crate::records::records_of;
-pub use crate::registers::give;
+pub use crate::registers::define_register;
+pub use crate::source_tables::{SourceTables, source_tables_of};
 pub use crate::symbols::symbols_of;
-pub use crate::whole::{Whole, whole_of};

@@ -5,7 +5,7 @@ ghost use Rattle.source_model.specs.Units as model;
 ghost use Rattle.asm_units.specs.Emitting.{emitted_of, stored_of};
 ghost use Rattle.armasm_core.specs.Pools.{TakesWords, WordsCanStand, entries};
 
-use crate::{AreaBuilder, Whole};
+use crate::{AreaBuilder, SourceTables};
 use asm_model::Value;
 use asm_units::{Emitted, Stored, Symbols, literal_stored};
 use sdt_fault::NoMemory;
@@ -24,7 +24,7 @@ fn word_unit(word: Stored) -> Emitted
 fn put_word(
     alloc: Global,
     builder: &mut AreaBuilder,
-    whole: &Whole<'_>,
+    whole: &SourceTables<'_>,
     area: u32,
     literal: &Value,
     at: u32,
@@ -49,7 +49,7 @@ fn put_word(
 pub fn put_words(
     alloc: Global,
     builder: &mut AreaBuilder,
-    whole: &Whole<'_>,
+    whole: &SourceTables<'_>,
     area: u32,
     literals: &[Value],
     offsets: &[u32],

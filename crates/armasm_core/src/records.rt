@@ -6,12 +6,12 @@ ghost use Rattle.asm_layout.specs.declared.laid.LaidArea.{LaidArea};
 ghost use Rattle.asm_model.specs.Laid.{laid, final_names};
 ghost use Rattle.asm_model.specs.Symbols.{symbols_of};
 ghost use Rattle.source_model.specs.Objects.{Source, source_of, symbol_records, symbol_named};
-ghost use Rattle.armasm_core.specs.Whole.{IsWhole};
+ghost use Rattle.armasm_core.specs.SourceTables.{AreSourceTables};
 ghost use Rattle.asm_units.specs.Recording.{Shows};
 ghost use Rattle.armasm_core.specs.Gathering.{IsCode};
 
 use crate::flags::flags_of;
-use crate::whole::Whole;
+use crate::source_tables::SourceTables;
 use aof_object::Symbol;
 use asm_units::{SymbolFlags, Symbols, record_of};
 use sdt_fault::{List, NoMemory, Text};
@@ -36,11 +36,11 @@ fn records_with(
 pub fn records_of(
     alloc: Global,
     symbols: &Symbols,
-    whole: &Whole<'_>,
+    whole: &SourceTables<'_>,
     code: &[bool],
 ) -> Result<List<Symbol>, NoMemory>
     ensures { IfOk result (λ records. (statements : Items Statement) (areas : Items LaidArea)
-        → IsWhole statements areas whole.now → IsCode statements code.now → symbols.now
+        → AreSourceTables statements areas whole.now → IsCode statements code.now → symbols.now
         ≡ symbols_of (final_names (laid statements)) (laid statements) → records
         ≡ symbol_records (source_of statements)) }
 {

@@ -13,7 +13,7 @@ use sdt_fault::kinds::LineKind;
 use std::alloc::Global;
 
 /// From now on the name that a statement gives a register stands for it.
-pub fn give(
+pub fn define_register(
     alloc: Global,
     known: &mut NameMap<u8>,
     statement: &Statement,

@@ -12,7 +12,7 @@ ghost use Rattle.armasm_core.specs.Relocations.{noted, relocs_listed};
 ghost use Rattle.armasm_core.specs.Writing.{HasNumber, IsListed, SymbolHasNumber, TargetHasNumber};
 
 use aof_object::Reloc;
-use asm_units::{Emitted, Symbols, Target};
+use asm_units::{Emitted, RelocationTarget, Symbols};
 use sdt_fault::{NoMemory, Text};
 use std::alloc::Global;
 use std::collections::BTreeMap;
@@ -35,15 +35,17 @@ fn number_of(symbols: &Symbols, name: &Text) -> u32
     listed_at(symbols, name)
 }
 
-fn word_relocation(symbols: &Symbols, target: &Target) -> Option<u32>
+fn word_relocation(symbols: &Symbols, target: &RelocationTarget) -> Option<u32>
     requires few { length symbols.now < 2 ^ 24 }
     requires number { TargetHasNumber symbols.now (target_of target.now) }
     ensures { result ≡ model.word_relocation symbols.now (target_of target.now) }
 {
     match target {
-        Target::Nothing => None,
-        Target::Area(area) => Some(Reloc::word_by_area(0, *area).word),
-        Target::Symbol(name) => Some(Reloc::word_by_symbol(0, number_of(symbols, name)).word),
+        RelocationTarget::Nothing => None,
+        RelocationTarget::Area(area) => Some(Reloc::word_by_area(0, *area).word),
+        RelocationTarget::Symbol(name) => Some(
+            Reloc::word_by_symbol(0, number_of(symbols, name)).word,
+        ),
     }
 }
 

@@ -3,17 +3,17 @@
 ghost use Rattle.std.specs.Prelude.{List};
 ghost use Rattle.asm_model.specs.declared.statements.Statement.{Statement};
 ghost use Rattle.asm_model.specs.Laid.{LaidLine};
-ghost use Rattle.said_model.specs.Said.{IsSaid};
+ghost use Rattle.asm_model.specs.Said.{IsSaid};
 ghost use Rattle.armasm_core.specs.Putting.{IsPassed};
-ghost use Rattle.armasm_core.specs.Whole.{IsHere};
+ghost use Rattle.armasm_core.specs.SourceTables.{IsHere};
 
+use crate::source_tables::SourceTables;
 use crate::tables::{loaded_of, tables_of};
-use crate::whole::Whole;
 use asm_instructions::laws::{
     instructions_fit, pseudo_instructions_fit, thumb_instructions_fit,
     thumb_pseudo_instructions_fit,
 };
-use asm_layout::lines::line_of;
+use asm_layout::placed_lines::line_of;
 use asm_layout::telling::told_of;
 use asm_layout::{LaidArea, LaidStatement};
 use asm_sets::NameMap;
@@ -26,7 +26,7 @@ use std::alloc::Global;
 pub fn pass_line(
     alloc: Global,
     areas: &[LaidArea],
-    whole: &Whole<'_>,
+    whole: &SourceTables<'_>,
     registers: &NameMap<u8>,
     laid: &LaidStatement,
 ) -> Result<LineUnits, Fault>

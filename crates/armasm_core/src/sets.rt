@@ -2,11 +2,12 @@
 
 ghost use Rattle.std.specs.Prelude.{◌≡◌, ◌++◌, IfOk, OnOk};
 ghost use Rattle.std.specs.Option.{option_copied};
-ghost use Rattle.asm_model.specs.LayoutKinds.{is_true, listed};
+ghost use Rattle.asm_model.specs.LayoutKinds.{listed};
 ghost use Rattle.asm_model.specs.Marks as marks;
 ghost use Rattle.asm_sets.specs.Sets.{HaveSame};
 ghost use Rattle.armasm_core.specs.Gathered.{GainsAll, AreSets, exported_in, name_where, said_in, weak_in};
 
+use asm_instructions::is_true;
 use asm_layout::LaidStatement;
 use asm_model::{DirectiveLine, Statement, What};
 use asm_sets::NameRefs;
@@ -67,23 +68,13 @@ fn name_if(holds: bool, name: &Text) -> Option<&Text>
     None
 }
 
-/// Whether a mark is WEAK.
-fn is_weak(weak: Option<bool>) -> bool
-    ensures { result ≡ is_true weak }
-{
-    match weak {
-        Some(weak) => weak,
-        None => false,
-    }
-}
-
 /// The name that is imported as weak.
 fn weak_name(what: &What) -> Option<&Text>
     ensures { listed (option_copied result) ≡ weak_in what.now }
 {
     match what {
-        What::Directive(DirectiveLine::Import { name, weak }) => name_if(is_weak(*weak), name),
-        What::Directive(DirectiveLine::Extern { name, weak }) => name_if(is_weak(*weak), name),
+        What::Directive(DirectiveLine::Import { name, weak }) => name_if(is_true(*weak), name),
+        What::Directive(DirectiveLine::Extern { name, weak }) => name_if(is_true(*weak), name),
         _ => None,
     }
 }

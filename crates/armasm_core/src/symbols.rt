@@ -6,16 +6,16 @@ ghost use Rattle.asm_model.specs.declared.statements.Statement.{Statement};
 ghost use Rattle.asm_model.specs.Laid as model;
 ghost use Rattle.asm_model.specs.Laid.{LaidLine};
 ghost use Rattle.asm_model.specs.Symbols as needs;
-ghost use Rattle.said_model.specs.Said.{AllSaid, IsSaid};
+ghost use Rattle.asm_model.specs.Said.{AllSaid, IsSaid};
 ghost use Rattle.source_model.specs.SourceFaults.{layout_faults};
 ghost use Rattle.armasm_core.specs.Gathered.{AllLaidSaid};
-ghost use Rattle.armasm_core.specs.Whole.{IsWhole};
+ghost use Rattle.armasm_core.specs.SourceTables.{AreSourceTables};
 ghost use Rattle.armasm_core.specs.Listing.{StandsThere, needed_by};
 
 use crate::literals::literal_of;
-use crate::whole::Whole;
+use crate::source_tables::SourceTables;
 use asm_instructions::Lookup;
-use asm_layout::lines::line_of;
+use asm_layout::placed_lines::line_of;
 use asm_layout::{LaidArea, LaidStatement, Layout};
 use asm_pool::pool_law;
 use asm_sets::NameMap;
@@ -28,7 +28,7 @@ fn add_line_of(
     alloc: Global,
     symbols: &mut Symbols,
     areas: &[LaidArea],
-    whole: &Whole<'_>,
+    whole: &SourceTables<'_>,
     registers: &NameMap<u8>,
     laid: &LaidStatement,
 ) -> Result<(), NoMemory>
@@ -51,11 +51,15 @@ fn add_line_of(
 }
 
 /// The symbols of a layout whose lines share this, in order of the first line that names or needs them.
-pub fn symbols_of(alloc: Global, layout: &Layout, whole: &Whole<'_>) -> Result<Symbols, NoMemory>
+pub fn symbols_of(
+    alloc: Global,
+    layout: &Layout,
+    whole: &SourceTables<'_>,
+) -> Result<Symbols, NoMemory>
     requires said { AllLaidSaid layout.now.statements }
     ensures { IfOk result (λ symbols. (statements : List Statement)
         → IsLayout statements layout.now → AllSaid statements → layout_faults statements ≡ None
-        → IsWhole statements layout.now.areas whole.now → symbols
+        → AreSourceTables statements layout.now.areas whole.now → symbols
         ≡ needs.symbols_of (model.final_names (model.laid statements)) (model.laid statements)) }
 {
     let areas = layout.areas.as_slice();

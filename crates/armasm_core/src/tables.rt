@@ -2,16 +2,16 @@
 
 ghost use Rattle.std.specs.Prelude.{◌≡◌, List};
 ghost use Rattle.std.specs.Option.{option_copied};
-ghost use Rattle.asm_layout.specs.Lines.{IsLineOf};
+ghost use Rattle.asm_layout.specs.PlacedLines.{IsLineOf};
 ghost use Rattle.asm_model.specs.declared.statements.Statement.{Statement};
 ghost use Rattle.asm_model.specs.Laid.{LaidLine, taken};
 ghost use Rattle.asm_units.specs.Literals as loads;
 ghost use Rattle.source_model.specs.Registers.{Named};
-ghost use Rattle.armasm_core.specs.declared.whole.Whole.{Whole as Shared};
-ghost use Rattle.armasm_core.specs.Whole.{IsHere, ShowsLine};
+ghost use Rattle.armasm_core.specs.declared.source_tables.SourceTables.{SourceTables as Shared};
+ghost use Rattle.armasm_core.specs.SourceTables.{IsHere, ShowsLine};
 
 use crate::literals::{literal_of, word_of};
-use crate::whole::Whole;
+use crate::source_tables::SourceTables;
 use asm_instructions::Lookup;
 use asm_layout::{LaidArea, LaidStatement};
 use asm_model::Value;
@@ -25,7 +25,7 @@ use layout_laws::laws::known_values_are_final;
 /// What pass 2 looks up for a line.
 pub fn tables_of<'a>(
     areas: &[LaidArea],
-    whole: &'a Whole<'a>,
+    whole: &'a SourceTables<'a>,
     registers: &'a NameMap<u8>,
     laid: &'a LaidStatement,
     line: &'a PlacedLine<'a>,

@@ -11,13 +11,13 @@ use Rattle.asm_model.specs.Directives.{row_of, or_else}
 use Rattle.asm_model.specs.Forms.{same}
 use Rattle.asm_model.specs.Tokens.{is_called}
 use Rattle.asm_model.proofs.WordLemmas.{same_refl, same_true}
-use Rattle.asm_arm.specs.declared.words.Mnemonic.{Mnemonic}
-use Rattle.asm_arm.specs.declared.words.Mnemonic.TheVariants as mnemonic
-use Rattle.asm_arm.specs.declared.words.Stem.{Stem}
-use Rattle.asm_arm.specs.declared.words.Stem.TheVariants as stem
+use Rattle.asm_arm.specs.declared.mnemonics.Mnemonic.{Mnemonic}
+use Rattle.asm_arm.specs.declared.mnemonics.Mnemonic.TheVariants as mnemonic
+use Rattle.asm_arm.specs.declared.mnemonics.Stem.{Stem}
+use Rattle.asm_arm.specs.declared.mnemonics.Stem.TheVariants as stem
 use Rattle.asm_arm.specs.Stems.{begun, by_rows}
 use Rattle.asm_arm.specs.Stems as stems
-use Rattle.asm_arm.specs.Words.{ending, conditioned, stemmed, data_suffix, multiply_suffix, long_suffix, transfer_suffix, block_suffix, swap_suffix, bare_suffix, float_suffix, float_block_suffix, block_named, block_stem, branch_named, branch_stem, data_named, data_stem, float_arithmetic, float_block, float_compare, float_functions, float_named, float_stem, float_transfers, idle_named, idle_word, long_address_named, long_address_stem, long_named, long_stem, moving_named, multiply_named, multiply_stem, operation_named, other_named, plain_named, plain_stem, short_branch_stem, swap_named, swap_stem, transfer_named, transfer_stem}
+use Rattle.asm_arm.specs.Mnemonics.{ending, conditioned, stemmed, data_suffix, multiply_suffix, long_suffix, transfer_suffix, block_suffix, swap_suffix, bare_suffix, float_suffix, float_block_suffix, block_named, block_stem, branch_named, branch_stem, data_named, data_stem, float_arithmetic, float_block, float_compare, float_functions, float_named, float_stem, float_transfers, idle_named, idle_word, long_address_named, long_address_stem, long_named, long_stem, moving_named, multiply_named, multiply_stem, operation_named, other_named, plain_named, plain_stem, short_branch_stem, swap_named, swap_stem, transfer_named, transfer_stem}
 
 abbrev lower : List ℕ → List ℕ
 lower s = map to_ascii_lowercase s
@@ -73,7 +73,8 @@ one_name a b word e h =
 begun_false : (word : List ℕ) (n : ℕ) (row : List ℕ × Stem) → length row.0 ≡ n → is_called row.0 (take n word) ≡ false → begun word row ≡ None
 begun_false word n row e h = rw (e, h) refl
 
-begun_true : (word : List ℕ) (n : ℕ) (row : List ℕ × Stem) → length row.0 ≡ n → is_called row.0 (take n word) ≡ true → begun word row ≡ stems.stemmed row.1 (drop n word)
+begun_true : (word : List ℕ) (n : ℕ) (row : List ℕ × Stem) → length row.0 ≡ n → is_called row.0 (take n word) ≡ true
+    → begun word row ≡ stems.stemmed row.1 (drop n word)
 begun_true word n row e h = rw (e, h) refl
 
 or_false : (a b : Bool) → (a || b) ≡ false → (a ≡ false) × (b ≡ false)
@@ -122,7 +123,8 @@ family k f n (row ∷ rows) word h p =
     chosen false e behind =
         or_both _ None _ _ (begun_false word n (row.0, k row.1) long e) (behind more.1)
 
-joined : (word : List ℕ) (xs ys : List (List ℕ × Stem)) (a b : Option (Mnemonic × Condition)) → by_rows word xs ≡ a → by_rows word ys ≡ b → by_rows word (xs ++ ys) ≡ or_else a b
+joined : (word : List ℕ) (xs ys : List (List ℕ × Stem)) (a b : Option (Mnemonic × Condition)) → by_rows word xs ≡ a → by_rows word ys ≡ b
+    → by_rows word (xs ++ ys) ≡ or_else a b
 joined word xs ys a b e h = appended word xs ys ∙ or_both _ a _ b e h
 
 -- ---- the tables
@@ -316,7 +318,8 @@ idle_is word = or_none _ ∙ alone word
     longer false y z true = refl
     longer false y z false = refl
 
-    alone : (word : List ℕ) → begun word (codes "NOP", stem.Alone mnemonic.NoOperation) ≡ conditioned condition.Al (row_of word ((codes "NOP", mnemonic.NoOperation) ∷ []))
+    alone : (word : List ℕ) → begun word (codes "NOP", stem.Alone mnemonic.NoOperation) ≡ conditioned condition.Al
+        (row_of word ((codes "NOP", mnemonic.NoOperation) ∷ []))
     alone [] = refl
     alone (a ∷ []) = moved (is_called (codes "NOP") (a ∷ []))
     alone (a ∷ b ∷ []) = moved (is_called (codes "NOP") (a ∷ b ∷ []))

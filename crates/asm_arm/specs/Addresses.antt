@@ -15,13 +15,14 @@ use Rattle.asm_model.specs.declared.operands.Indexing.TheVariants as indexing_is
 use Rattle.asm_model.specs.declared.operands.HalfOffset.{HalfOffset}
 use Rattle.asm_model.specs.declared.operands.HalfOffset.TheVariants as half
 use Rattle.asm_model.specs.Operands.{operands}
-use Rattle.asm_model.specs.Says.{on_both, mapped, Expression}
+use Rattle.asm_model.specs.Readings.{and_then, mapped, on_both}
+use Rattle.asm_model.specs.Says.{Expression}
 use Rattle.asm_arm.specs.declared.operands.Scale.{Scale}
 use Rattle.asm_arm.specs.declared.operands.Scale.TheVariants as scale
 use Rattle.asm_arm.specs.declared.addresses.Offset.{Offset}
 use Rattle.asm_arm.specs.declared.addresses.Offset.TheVariants as offset_is
 use Rattle.asm_arm.specs.declared.addresses.Addressed.{Addressed}
-use Rattle.asm_arm.specs.Operands.{Cuts, one, two, three, cut, followed, without_first, marked, between, register, ReadsScale}
+use Rattle.asm_arm.specs.Operands.{Cuts, one, two, three, cut, without_first, marked, between, register, ReadsScale}
 
 -- the number that an offset is which isn't written
 abbrev pub zero : Expr
@@ -50,7 +51,7 @@ abbrev pub ReadsOffset : List ℕ → List Token → Option (List Token) → Res
 ReadsOffset text x None r = ReadsPlainOffset text x (without_first text (codes "#") x) r
 ReadsOffset text x (Some s) r =
     (sh : Result Scale LineKind) × ReadsScale text s sh
-    × (r ≡ on_both (λ p x. offset_is.Register p.0 p.1 x) (signed_register text x) (followed sh number_shift))
+    × (r ≡ on_both (λ p x. offset_is.Register p.0 p.1 x) (signed_register text x) (and_then sh number_shift))
 
 -- an address
 abbrev pub at : Indexing → Register → Offset → Addressed

@@ -1,8 +1,8 @@
 -- What the clauses of the crate cite.
 pub mod Addresses
-pub mod Lines
+pub mod LineForms
 pub mod Lists
+pub mod Mnemonics
 pub mod Operands
 pub mod Stems
 pub mod Steps
-pub mod Words

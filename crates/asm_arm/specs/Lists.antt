@@ -17,7 +17,7 @@ use Rattle.asm_model.specs.Directives.{row_of}
 use Rattle.asm_model.specs.Forms.{same}
 use Rattle.asm_model.specs.Operands.{operands_at}
 use Rattle.asm_model.specs.Parts.{piece}
-use Rattle.asm_model.specs.Says.{on_both, mapped}
+use Rattle.asm_model.specs.Readings.{mapped, on_both}
 use Rattle.asm_arm.specs.Operands.{marked, between, register, register_of}
 
 -- a base, and whether `!` stands behind it

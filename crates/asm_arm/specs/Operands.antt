@@ -16,8 +16,9 @@ use Rattle.asm_model.specs.declared.operands.Shift.TheVariants as shift
 use Rattle.asm_model.specs.Directives.{row_of}
 use Rattle.asm_model.specs.Forms.{same}
 use Rattle.asm_model.specs.Parts.{piece}
+use Rattle.asm_model.specs.Readings.{both, mapped, on_both}
 use Rattle.asm_model.specs.Registers.{register_named}
-use Rattle.asm_model.specs.Says.{on_both, mapped, between_bars, Expression}
+use Rattle.asm_model.specs.Says.{between_bars, Expression}
 use Rattle.asm_model.specs.Tokens.{is_called}
 use Rattle.asm_arm.specs.declared.operands.Scale.{Scale}
 use Rattle.asm_arm.specs.declared.operands.Scale.TheVariants as scale
@@ -40,15 +41,6 @@ cut (a ∷ b ∷ []) = two a b
 cut (a ∷ b ∷ c ∷ []) = three a b c
 cut (a ∷ b ∷ c ∷ d ∷ []) = four a b c d
 cut (a ∷ b ∷ c ∷ d ∷ e ∷ os) = more
-
--- two readings of one line, of which the fault that is told counts
-abbrev pub both : {A B : Type 0} → Result A LineKind → Result B LineKind → Result (A × B) LineKind
-both a b = on_both (λ x y. (x, y)) a b
-
--- a reading of a reading
-abbrev pub followed : {A B : Type 0} → Result A LineKind → (A → Result B LineKind) → Result B LineKind
-followed (Ok a) f = f a
-followed (Err k) f = Err k
 
 -- the tokens behind a sign that stands in front
 abbrev pub without_first : List ℕ → List ℕ → List Token → Option (List Token)

@@ -5,10 +5,10 @@ use Rattle.sdt_word.specs.declared.codes.Condition.{Condition}
 use Rattle.sdt_word.specs.declared.codes.Condition.TheVariants as condition
 use Rattle.asm_model.specs.Directives.{or_else}
 use Rattle.asm_model.specs.Tokens.{is_called}
-use Rattle.asm_arm.specs.declared.words.Mnemonic.{Mnemonic}
-use Rattle.asm_arm.specs.declared.words.Stem.{Stem}
-use Rattle.asm_arm.specs.declared.words.Stem.TheVariants as stem
-use Rattle.asm_arm.specs.Words.{ending, conditioned, data_suffix, multiply_suffix, long_suffix, transfer_suffix, block_suffix, swap_of, byte_suffix, bare_suffix, float_suffix, float_mode}
+use Rattle.asm_arm.specs.declared.mnemonics.Mnemonic.{Mnemonic}
+use Rattle.asm_arm.specs.declared.mnemonics.Stem.{Stem}
+use Rattle.asm_arm.specs.declared.mnemonics.Stem.TheVariants as stem
+use Rattle.asm_arm.specs.Mnemonics.{ending, conditioned, data_suffix, multiply_suffix, long_suffix, transfer_suffix, block_suffix, swap_of, byte_suffix, bare_suffix, float_suffix, float_mode}
 
 -- a stem and what stands behind it
 abbrev pub stemmed : Stem → List ℕ → Option (Mnemonic × Condition)

@@ -4,6 +4,7 @@ ghost use Rattle.std.specs.Prelude.{◌≡◌, IfOk, Some, None, Result};
 ghost use Rattle.std.specs.Option.{option_copied};
 ghost use Rattle.sdt_fault.specs.declared.kinds.LineKind.{LineKind};
 ghost use Rattle.asm_model.specs.Operands as model;
+ghost use Rattle.asm_model.specs.Readings as readings;
 ghost use Rattle.asm_model.specs.Says as says;
 ghost use Rattle.asm_model.specs.declared.operands.Indexing.TheVariants as indexing_is;
 ghost use Rattle.asm_arm.specs.Addresses as addresses;
@@ -13,8 +14,10 @@ ghost use Rattle.asm_arm.specs.declared.addresses.Offset.TheVariants as offset_i
 ghost use Rattle.asm_arm.specs.declared.operands.Scale.{Scale};
 
 use crate::operands::{
-    Cut, Scale, between, both, cut_operands, marked, register, shift_of, with_second, without_first,
+    Cut, Scale, between, cut_operands, marked, register, shift_of, with_second, without_first,
 };
+use asm_expr::kinds::both;
+use asm_expr::or_kind;
 use asm_expr::read::expression;
 use asm_model::{Expr, ExprItem, HalfOffset, Indexing, Register, Shift, Token, Value};
 use sdt_fault::kinds::LineKind;
@@ -63,12 +66,10 @@ fn with_sign(
     tokens: &[Token],
 ) -> Result<Result<(bool, Register), LineKind>, NoMemory>
     ensures { IfOk result (λ signed. signed
-        ≡ says.mapped (λ rm. (subtract, rm)) (operands.register text.now tokens.now)) }
+        ≡ readings.mapped (λ rm. (subtract, rm)) (operands.register text.now tokens.now)) }
 {
-    match register(alloc, text, tokens)? {
-        Ok(rm) => Ok(Ok((subtract, rm))),
-        Err(kind) => Ok(Err(kind)),
-    }
+    let rm = or_kind!(register(alloc, text, tokens)?);
+    Ok(Ok((subtract, rm)))
 }
 
 /// A register, before which a minus may stand.
@@ -87,7 +88,7 @@ fn signed_register(
 
 /// A shift of an offset, which has no register.
 fn number_shift(scale: Result<Scale, LineKind>) -> Result<Shift, LineKind>
-    ensures { result ≡ operands.followed scale addresses.number_shift }
+    ensures { result ≡ readings.and_then scale addresses.number_shift }
 {
     match scale {
         Ok(Scale::By { kind, amount }) => Ok(Shift::By { kind, amount }),
@@ -106,10 +107,8 @@ fn number_offset(
     ensures { IfOk result
         (λ offset. says.Expression text.now (λ v. offset_is.Number v) tokens.now offset) }
 {
-    match expression(alloc, text, tokens)? {
-        Ok(value) => Ok(Ok(Offset::Number(value))),
-        Err(kind) => Ok(Err(kind)),
-    }
+    let value = or_kind!(expression(alloc, text, tokens)?);
+    Ok(Ok(Offset::Number(value)))
 }
 
 /// An offset without a shift.
@@ -123,14 +122,12 @@ fn plain_offset(
     if let Some(number) = without_first(text, b"#", tokens) {
         return number_offset(alloc, text, number);
     }
-    match signed_register(alloc, text, tokens)? {
-        Ok((subtract, rm)) => Ok(Ok(Offset::Register {
-            subtract,
-            rm,
-            shift: Shift::Unshifted,
-        })),
-        Err(kind) => Ok(Err(kind)),
-    }
+    let (subtract, rm) = or_kind!(signed_register(alloc, text, tokens)?);
+    Ok(Ok(Offset::Register {
+        subtract,
+        rm,
+        shift: Shift::Unshifted,
+    }))
 }
 
 /// A shift of an offset.
@@ -141,7 +138,7 @@ fn offset_shift(
 ) -> Result<Result<Shift, LineKind>, NoMemory>
     ensures { IfOk result (λ read. (scale : Result Scale LineKind)
         × operands.ReadsScale text.now tokens.now scale
-        × (read ≡ operands.followed scale addresses.number_shift)) }
+        × (read ≡ readings.and_then scale addresses.number_shift)) }
 {
     let scale = shift_of(alloc, text, tokens)?;
     Ok(number_shift(scale))
@@ -161,14 +158,12 @@ fn any_offset(
         return plain_offset(alloc, text, tokens);
     };
     let signed = signed_register(alloc, text, tokens)?;
-    match with_second(signed, offset_shift(alloc, text, shift))? {
-        Ok(((subtract, rm), shift)) => Ok(Ok(Offset::Register {
-            subtract,
-            rm,
-            shift,
-        })),
-        Err(kind) => Ok(Err(kind)),
-    }
+    let ((subtract, rm), shift) = or_kind!(with_second(signed, offset_shift(alloc, text, shift))?);
+    Ok(Ok(Offset::Register {
+        subtract,
+        rm,
+        shift,
+    }))
 }
 
 /// A base and an offset.
@@ -186,14 +181,12 @@ fn at(
 {
     let offset = any_offset(alloc, text, tokens, shift)?;
     let rn = register(alloc, text, base)?;
-    match both(rn, offset) {
-        Ok((rn, offset)) => Ok(Ok(Addressed {
-            rn,
-            indexing,
-            offset,
-        })),
-        Err(kind) => Ok(Err(kind)),
-    }
+    let (rn, offset) = or_kind!(both(rn, offset));
+    Ok(Ok(Addressed {
+        rn,
+        indexing,
+        offset,
+    }))
 }
 
 /// A base alone.
@@ -204,17 +197,15 @@ fn bare_base(
     base: &[Token],
 ) -> Result<Result<Addressed, LineKind>, NoMemory>
     ensures { IfOk result (λ address. address
-        ≡ says.mapped (λ rn. addresses.at indexing rn offset_is.Absent)
+        ≡ readings.mapped (λ rn. addresses.at indexing rn offset_is.Absent)
         (operands.register text.now base.now)) }
 {
-    match register(alloc, text, base)? {
-        Ok(rn) => Ok(Ok(Addressed {
-            rn,
-            indexing,
-            offset: Offset::Absent,
-        })),
-        Err(kind) => Ok(Err(kind)),
-    }
+    let rn = or_kind!(register(alloc, text, base)?);
+    Ok(Ok(Addressed {
+        rn,
+        indexing,
+        offset: Offset::Absent,
+    }))
 }
 
 /// A base and an offset with a shift, where offsets have one.
@@ -337,16 +328,14 @@ fn translated_of(
     indexing: Indexing,
     address: Result<Addressed, LineKind>,
 ) -> Result<Addressed, LineKind>
-    ensures { result ≡ says.mapped (addresses.translated_of indexing) address }
+    ensures { result ≡ readings.mapped (addresses.translated_of indexing) address }
 {
-    match address {
-        Ok(Addressed { rn, offset, .. }) => Ok(Addressed {
-            rn,
-            indexing,
-            offset,
-        }),
-        Err(kind) => Err(kind),
-    }
+    let Addressed { rn, offset, .. } = address?;
+    Ok(Addressed {
+        rn,
+        indexing,
+        offset,
+    })
 }
 
 /// Whether brackets hold a base alone.

@@ -3,13 +3,15 @@
 ghost use Rattle.std.specs.Prelude.{◌≡◌, ◌∷◌, ◌++◌, [], IfOk, Some, None, length, ◌<◌, ◌≤◌, ◌^◌};
 ghost use Rattle.std.specs.Option.{option_copied};
 ghost use Rattle.asm_model.specs.Operands as model;
-ghost use Rattle.asm_model.specs.Says as says;
+ghost use Rattle.asm_model.specs.Readings as readings;
 ghost use Rattle.asm_arm.specs.Lists as lists;
 
-use crate::operands::{between, marked, register, register_of, with_second};
-use crate::words::{begin, behind, row_of};
-use asm_expr::kinds::earlier;
+use crate::mnemonics::{begin, behind};
+use crate::operands::{between, marked, register, register_of};
+use asm_expr::kinds::both;
 use asm_expr::operands::{first_operand, is, piece_of};
+use asm_expr::or_kind;
+use asm_expr::rows::row_of;
 use asm_model::{ListItem, Register, Token, TokenKind};
 use sdt_fault::kinds::LineKind;
 use sdt_fault::{List, NoMemory};
@@ -30,10 +32,8 @@ pub fn base(
     ensures { IfOk result (λ base. base ≡ lists.base text.now tokens.now) }
 {
     let (tokens, mark) = marked(text, b"!", tokens);
-    match register(alloc, text, tokens)? {
-        Ok(rn) => Ok(Ok((rn, mark))),
-        Err(kind) => Ok(Err(kind)),
-    }
+    let rn = or_kind!(register(alloc, text, tokens)?);
+    Ok(Ok((rn, mark)))
 }
 
 /// A register of a list.
@@ -44,10 +44,19 @@ fn one_register(
 ) -> Result<Result<ListItem, LineKind>, NoMemory>
     ensures { IfOk result (λ item. item ≡ lists.item text.now (token ∷ [])) }
 {
-    match register_of(alloc, token.kind, piece_of(text, token))? {
-        Ok(register) => Ok(Ok(ListItem::One(register))),
-        Err(kind) => Ok(Err(kind)),
-    }
+    let register = or_kind!(register_of(alloc, token.kind, piece_of(text, token))?);
+    Ok(Ok(ListItem::One(register)))
+}
+
+/// All registers from one to another, where both are read.
+fn range_of(
+    first: Result<Register, LineKind>,
+    last: Result<Register, LineKind>,
+) -> Result<ListItem, LineKind>
+    ensures { result ≡ lists.range_of first last }
+{
+    let (first, last) = both(first, last)?;
+    Ok(ListItem::Range { first, last })
 }
 
 /// All registers from one to another.
@@ -64,11 +73,8 @@ fn register_range(
         return Ok(Err(LineKind::Syntax));
     }
     let first = register_of(alloc, first.kind, piece_of(text, first))?;
-    let last = register_of(alloc, last.kind, piece_of(text, last));
-    match with_second(first, last)? {
-        Ok((first, last)) => Ok(Ok(ListItem::Range { first, last })),
-        Err(kind) => Ok(Err(kind)),
-    }
+    let last = register_of(alloc, last.kind, piece_of(text, last))?;
+    Ok(range_of(first, last))
 }
 
 /// An entry of a list.
@@ -93,18 +99,12 @@ fn with_one_more(
     so_far: Result<List<ListItem>, LineKind>,
     reading: Result<ListItem, LineKind>,
 ) -> Result<Result<List<ListItem>, LineKind>, NoMemory>
-    ensures { IfOk result (λ all. all ≡ says.on_both (λ es e. es ++ e ∷ []) so_far reading) }
+    ensures { IfOk result (λ all. all ≡ readings.on_both (λ es e. es ++ e ∷ []) so_far reading) }
 {
-    match (so_far, reading) {
-        (Ok(list), Ok(item)) => {
-            let mut items = list.into_vec();
-            items.push(item)?;
-            Ok(Ok(List::from_vec(items)))
-        }
-        (Ok(_), Err(kind)) => Ok(Err(kind)),
-        (Err(kind), Ok(_)) => Ok(Err(kind)),
-        (Err(kind), Err(other)) => Ok(Err(earlier(kind, other))),
-    }
+    let (list, item) = or_kind!(both(so_far, reading));
+    let mut items = list.into_vec();
+    items.push(item)?;
+    Ok(Ok(List::from_vec(items)))
 }
 
 /// The entries of a list.
@@ -175,10 +175,8 @@ pub fn register_list(
     ensures { IfOk result (λ list. list ≡ lists.register_list text.now tokens.now) }
 {
     let (tokens, mark) = marked(text, b"^", tokens);
-    match list(alloc, text, tokens)? {
-        Ok(list) => Ok(Ok((list, mark))),
-        Err(kind) => Ok(Err(kind)),
-    }
+    let list = or_kind!(list(alloc, text, tokens)?);
+    Ok(Ok((list, mark)))
 }
 
 /// A token as a status register, or as a word that names none.

@@ -4,6 +4,7 @@ ghost use Rattle.std.specs.Prelude.{◌≡◌, ◌∷◌, [], IfOk, length, take
 ghost use Rattle.std.specs.Option.{option_copied};
 ghost use Rattle.sdt_fault.specs.declared.kinds.LineKind.{LineKind};
 ghost use Rattle.asm_model.specs.Operands as model;
+ghost use Rattle.asm_model.specs.Readings as readings;
 ghost use Rattle.asm_model.specs.Registers as registers;
 ghost use Rattle.asm_model.specs.Says as says;
 ghost use Rattle.asm_arm.specs.Operands as operands;
@@ -11,12 +12,12 @@ ghost use Rattle.asm_arm.specs.Steps.{cut_of};
 ghost use Rattle.asm_arm.specs.declared.operands.Scale.TheVariants as scale;
 ghost use Rattle.asm_arm.specs.declared.operands.Second.TheVariants as second;
 
-use crate::words::row_of;
-use asm_expr::kinds::earlier;
+use asm_expr::kinds::both;
 use asm_expr::operands::{first_operand, is, piece_of};
 use asm_expr::parts::inside;
 use asm_expr::read::expression;
-use asm_expr::register_named;
+use asm_expr::rows::row_of;
+use asm_expr::{or_kind, register_named};
 use asm_model::{Expr, Register, Shift, Token, TokenKind, is_called};
 use sdt_fault::kinds::LineKind;
 use sdt_fault::{NoMemory, Text};
@@ -132,21 +133,6 @@ fn with_three<'a>(
     }
 }
 
-/// Two readings of one line, of which the fault that is told counts.
-pub fn both<A: Drop, B: Drop>(
-    a: Result<A, LineKind>,
-    b: Result<B, LineKind>,
-) -> Result<(A, B), LineKind>
-    ensures { result ≡ operands.both a b }
-{
-    match (a, b) {
-        (Ok(a), Ok(b)) => Ok((a, b)),
-        (Ok(_), Err(kind)) => Err(kind),
-        (Err(kind), Ok(_)) => Err(kind),
-        (Err(kind), Err(other)) => Err(earlier(kind, other)),
-    }
-}
-
 /// A reading, and a second one of the same line. It is generic, so that the proof of the exit where memory runs out does
 /// not go through every form of the first.
 pub fn with_second<A: Drop, B: Drop>(
@@ -154,7 +140,7 @@ pub fn with_second<A: Drop, B: Drop>(
     b: Result<Result<B, LineKind>, NoMemory>,
 ) -> Result<Result<(A, B), LineKind>, NoMemory>
     ensures { IfOk result
-        (λ read. (other : Result B LineKind) × (b ≡ Ok other) × (read ≡ operands.both a other)) }
+        (λ read. (other : Result B LineKind) × (b ≡ Ok other) × (read ≡ readings.both a other)) }
 {
     let b = b?;
     Ok(both(a, b))
@@ -299,6 +285,23 @@ pub fn three_registers(
     with_second(two, register(alloc, text, third))
 }
 
+/// Four registers.
+pub fn four_registers(
+    alloc: Global,
+    text: &[u8],
+    first: &[Token],
+    second: &[Token],
+    third: &[Token],
+    fourth: &[Token],
+) -> Result<Result<((Register, Register), (Register, Register)), LineKind>, NoMemory>
+    ensures { IfOk result (λ four. four
+        ≡ readings.both (operands.two_registers text.now first.now second.now)
+        (operands.two_registers text.now third.now fourth.now)) }
+{
+    let two = two_registers(alloc, text, first, second)?;
+    with_second(two, two_registers(alloc, text, third, fourth))
+}
+
 /// RRX, which stands alone.
 fn extended(word: &[u8]) -> Result<Scale, LineKind>
     ensures { result ≡ operands.extended word.now }
@@ -319,10 +322,8 @@ fn amount(
     ensures { IfOk result
         (λ shift. says.Expression text.now (λ a. scale.By kind a) tokens.now shift) }
 {
-    match expression(alloc, text, tokens)? {
-        Ok(amount) => Ok(Ok(Scale::By { kind, amount })),
-        Err(fault) => Ok(Err(fault)),
-    }
+    let amount = or_kind!(expression(alloc, text, tokens)?);
+    Ok(Ok(Scale::By { kind, amount }))
 }
 
 /// A register as the amount of a shift.
@@ -333,12 +334,10 @@ fn register_amount(
     tokens: &[Token],
 ) -> Result<Result<Scale, LineKind>, NoMemory>
     ensures { IfOk result (λ shift. shift
-        ≡ says.mapped (λ rs. scale.Register kind rs) (operands.register text.now tokens.now)) }
+        ≡ readings.mapped (λ rs. scale.Register kind rs) (operands.register text.now tokens.now)) }
 {
-    match register(alloc, text, tokens)? {
-        Ok(rs) => Ok(Ok(Scale::Register { kind, rs })),
-        Err(fault) => Ok(Err(fault)),
-    }
+    let rs = or_kind!(register(alloc, text, tokens)?);
+    Ok(Ok(Scale::Register { kind, rs }))
 }
 
 /// The amount of a shift.
@@ -404,10 +403,8 @@ fn number_operand(
     ensures { IfOk result
         (λ operand. says.Expression text.now (λ v. second.Number v) tokens.now operand) }
 {
-    match expression(alloc, text, tokens)? {
-        Ok(value) => Ok(Ok(Second::Number(value))),
-        Err(kind) => Ok(Err(kind)),
-    }
+    let value = or_kind!(expression(alloc, text, tokens)?);
+    Ok(Ok(Second::Number(value)))
 }
 
 /// A number, or a register without a shift.
@@ -421,13 +418,11 @@ fn plain_operand(
     if let Some(number) = without_first(text, b"#", tokens) {
         return number_operand(alloc, text, number);
     }
-    match register(alloc, text, tokens)? {
-        Ok(rm) => Ok(Ok(Second::Shifted {
-            rm,
-            shift: Shift::Unshifted,
-        })),
-        Err(kind) => Ok(Err(kind)),
-    }
+    let rm = or_kind!(register(alloc, text, tokens)?);
+    Ok(Ok(Second::Shifted {
+        rm,
+        shift: Shift::Unshifted,
+    }))
 }
 
 /// The second operand of data processing.
@@ -445,8 +440,6 @@ pub fn second_operand(
     };
     let shift = shift_of(alloc, text, shift)?;
     let rm = register(alloc, text, tokens)?;
-    match both(rm, shift) {
-        Ok((rm, shift)) => Ok(Ok(scaled(rm, shift))),
-        Err(kind) => Ok(Err(kind)),
-    }
+    let (rm, shift) = or_kind!(both(rm, shift));
+    Ok(Ok(scaled(rm, shift)))
 }

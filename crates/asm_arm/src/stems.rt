@@ -1,6 +1,6 @@
 //! The stems of operation words, their conditions and their suffixes.
 
-use crate::words::{Mnemonic, Stem};
+use crate::mnemonics::{Mnemonic, Stem};
 use arm_isa::{HalfKind, Operation};
 use asm_model::BlockMode;
 use sdt_word::Condition;

@@ -1,23 +1,23 @@
 //! What the tokens behind the word of a transfer say.
 
-ghost use Rattle.std.specs.Prelude.{◌≡◌, IfOk, ◌&&◌, false};
+ghost use Rattle.std.specs.Prelude.{◌≡◌, IfOk, ◌&&◌, false, true};
 ghost use Rattle.std.specs.Option.{option_copied};
-ghost use Rattle.asm_model.specs.Says as says;
 ghost use Rattle.asm_model.specs.declared.arm_lines.ArmLine.TheVariants as line;
 ghost use Rattle.asm_model.specs.declared.operands.Address.TheVariants as address;
-ghost use Rattle.asm_model.specs.declared.statements.PseudoLine.TheVariants as pseudo;
 ghost use Rattle.asm_model.specs.declared.statements.What.TheVariants as what;
-ghost use Rattle.asm_arm.specs.Lines as lines;
+ghost use Rattle.asm_arm.specs.LineForms as lines;
 ghost use Rattle.asm_arm.specs.Operands as operands;
 ghost use Rattle.asm_arm.specs.Steps.{cut_of};
 
 use crate::addresses::{Addressed, Offset, after, after_as, before, before_as, half_offset, zero};
 use crate::lists;
-use crate::operands::{Cut, both, register, with_second, without_first};
+use crate::operands::{Cut, register, without_first};
 use arm_isa::HalfKind;
+use asm_expr::kinds::both;
+use asm_expr::or_kind;
 use asm_expr::read::expression;
 use asm_model::{
-    Address, ArmLine, BlockMode, Expr, ListItem, PseudoLine, Register, RegisterList, Token, What,
+    Address, ArmLine, BlockMode, ListItem, PseudoLine, Register, RegisterList, Token, What,
 };
 use sdt_fault::kinds::LineKind;
 use sdt_fault::{List, NoMemory};
@@ -25,7 +25,7 @@ use sdt_word::Condition;
 use std::alloc::Global;
 
 /// The outcome of a reading: what is said or the kind of its fault, or want of memory.
-type Said = Result<Result<What, LineKind>, NoMemory>;
+type ParsedOperation = Result<Result<What, LineKind>, NoMemory>;
 
 /// A transfer of a word or a byte as its word says it.
 #[derive(Clone, Copy, Debug)]
@@ -108,37 +108,44 @@ fn transferred(
     word: Transfer,
     rd: &[Token],
     address: Result<Addressed, LineKind>,
-) -> Said
+) -> ParsedOperation
     ensures { IfOk result (λ said. said
         ≡ lines.transferred text.now word.condition word.load word.byte rd.now address) }
 {
     let rd = register(alloc, text, rd)?;
-    match both(rd, address) {
-        Ok((rd, address)) => Ok(Ok(transfer_line(alloc, word, rd, address)?)),
-        Err(kind) => Ok(Err(kind)),
-    }
-}
-
-fn constant_line(
-    condition: Condition,
-    rd: Result<Register, LineKind>,
-    value: Result<Expr, LineKind>,
-) -> Result<What, LineKind>
-    ensures { result ≡ says.on_both
-        (λ rd x. what.Pseudo (pseudo.LoadConstant condition rd x)) rd value }
-{
-    match both(rd, value) {
-        Ok((rd, value)) => Ok(What::Pseudo(PseudoLine::LoadConstant {
-            condition,
-            rd,
-            value,
-        })),
-        Err(kind) => Err(kind),
-    }
+    let (rd, address) = or_kind!(both(rd, address));
+    Ok(Ok(transfer_line(alloc, word, rd, address)?))
 }
 
 /// A number that is loaded.
-fn constant(alloc: Global, text: &[u8], word: Transfer, rd: &[Token], tokens: &[Token]) -> Said
+fn loaded_constant(
+    alloc: Global,
+    text: &[u8],
+    condition: Condition,
+    rd: &[Token],
+    tokens: &[Token],
+) -> ParsedOperation
+    ensures { IfOk result
+        (λ said. lines.ReadsConstant text.now condition true rd.now tokens.now said) }
+{
+    let value = expression(alloc, text, tokens)?;
+    let rd = register(alloc, text, rd)?;
+    let (rd, value) = or_kind!(both(rd, value));
+    Ok(Ok(What::Pseudo(PseudoLine::LoadConstant {
+        condition,
+        rd,
+        value,
+    })))
+}
+
+/// A number behind an equals sign, for LDR alone.
+fn constant(
+    alloc: Global,
+    text: &[u8],
+    word: Transfer,
+    rd: &[Token],
+    tokens: &[Token],
+) -> ParsedOperation
     ensures { IfOk result
         (λ said. lines.ReadsConstant text.now word.condition
         (word.load && lines.is_plain word.byte word.translated) rd.now tokens.now said) }
@@ -152,13 +159,17 @@ fn constant(alloc: Global, text: &[u8], word: Transfer, rd: &[Token], tokens: &[
     if word.translated {
         return Ok(Err(LineKind::Syntax));
     }
-    let value = expression(alloc, text, tokens)?;
-    let rd = register(alloc, text, rd)?;
-    Ok(constant_line(word.condition, rd, value))
+    loaded_constant(alloc, text, word.condition, rd, tokens)
 }
 
 /// A label that is loaded from or stored to.
-fn label(alloc: Global, text: &[u8], word: Transfer, rd: &[Token], tokens: &[Token]) -> Said
+fn label(
+    alloc: Global,
+    text: &[u8],
+    word: Transfer,
+    rd: &[Token],
+    tokens: &[Token],
+) -> ParsedOperation
     ensures { IfOk result
         (λ said. lines.ReadsLabel text.now word.condition word.load
         (lines.is_plain word.byte word.translated) rd.now tokens.now said) }
@@ -171,20 +182,24 @@ fn label(alloc: Global, text: &[u8], word: Transfer, rd: &[Token], tokens: &[Tok
     }
     let target = expression(alloc, text, tokens)?;
     let rd = register(alloc, text, rd)?;
-    match both(rd, target) {
-        Ok((rd, target)) => Ok(Ok(What::Arm(ArmLine::TransferImmediate {
-            condition: word.condition,
-            load: word.load,
-            byte: false,
-            rd,
-            address: Address::Label { target },
-        }))),
-        Err(kind) => Ok(Err(kind)),
-    }
+    let (rd, target) = or_kind!(both(rd, target));
+    Ok(Ok(What::Arm(ArmLine::TransferImmediate {
+        condition: word.condition,
+        load: word.load,
+        byte: false,
+        rd,
+        address: Address::Label { target },
+    })))
 }
 
 /// A transfer with one operand behind Rd, in brackets.
-fn in_brackets(alloc: Global, text: &[u8], word: Transfer, rd: &[Token], tokens: &[Token]) -> Said
+fn in_brackets(
+    alloc: Global,
+    text: &[u8],
+    word: Transfer,
+    rd: &[Token],
+    tokens: &[Token],
+) -> ParsedOperation
     ensures { IfOk result
         (λ said. lines.ReadsBased text.now word.condition word.load word.byte word.translated rd.now
         tokens.now said) }
@@ -201,7 +216,7 @@ fn constant_or_label(
     word: Transfer,
     rd: &[Token],
     tokens: &[Token],
-) -> Said
+) -> ParsedOperation
     ensures { IfOk result
         (λ said. lines.ReadsOther text.now word.condition word.load word.byte word.translated rd.now
         tokens.now (operands.without_first text.now lines.equals tokens.now) said) }
@@ -213,7 +228,13 @@ fn constant_or_label(
 }
 
 /// A transfer with one operand behind Rd.
-fn place(alloc: Global, text: &[u8], word: Transfer, rd: &[Token], tokens: &[Token]) -> Said
+fn place(
+    alloc: Global,
+    text: &[u8],
+    word: Transfer,
+    rd: &[Token],
+    tokens: &[Token],
+) -> ParsedOperation
     ensures { IfOk result
         (λ said. lines.ReadsPlace text.now word.condition word.load word.byte word.translated rd.now
         tokens.now (operands.without_first text.now lines.bracket tokens.now) said) }
@@ -232,7 +253,7 @@ fn moved(
     rd: &[Token],
     brackets: &[Token],
     offset: (&[Token], Option<&[Token]>),
-) -> Said
+) -> ParsedOperation
     ensures { IfOk result
         (λ said. lines.ReadsMoved text.now word.condition word.load word.byte word.translated rd.now
         brackets.now offset.entry.0.now (option_copied offset.entry.1) said) }
@@ -242,7 +263,7 @@ fn moved(
     transferred(alloc, text, word, rd, address)
 }
 
-pub fn word_transfer(alloc: Global, text: &[u8], word: Transfer, cut: Cut<'_>) -> Said
+pub fn word_transfer(alloc: Global, text: &[u8], word: Transfer, cut: Cut<'_>) -> ParsedOperation
     ensures { IfOk result
         (λ said. lines.ReadsTransfer text.now word.condition word.load word.byte word.translated
         (cut_of cut.entry) said) }
@@ -266,7 +287,7 @@ pub struct HalfTransfer {
 }
 
 /// A transfer of a half-word or a signed byte, from its address.
-fn half_line(alloc: Global, word: HalfTransfer, rd: Register, address: Addressed) -> Said
+fn half_line(alloc: Global, word: HalfTransfer, rd: Register, address: Addressed) -> ParsedOperation
     ensures { IfOk result (λ said. said
         ≡ lines.half_line word.condition word.load word.kind rd address) }
 {
@@ -275,18 +296,16 @@ fn half_line(alloc: Global, word: HalfTransfer, rd: Register, address: Addressed
         indexing,
         offset,
     } = address;
-    match half_offset(alloc, offset)? {
-        Ok(offset) => Ok(Ok(What::Arm(ArmLine::TransferHalf {
-            condition: word.condition,
-            load: word.load,
-            kind: word.kind,
-            rd,
-            rn,
-            indexing,
-            offset,
-        }))),
-        Err(kind) => Ok(Err(kind)),
-    }
+    let offset = or_kind!(half_offset(alloc, offset)?);
+    Ok(Ok(What::Arm(ArmLine::TransferHalf {
+        condition: word.condition,
+        load: word.load,
+        kind: word.kind,
+        rd,
+        rn,
+        indexing,
+        offset,
+    })))
 }
 
 fn half_moved(
@@ -295,15 +314,13 @@ fn half_moved(
     word: HalfTransfer,
     rd: &[Token],
     address: Result<Addressed, LineKind>,
-) -> Said
+) -> ParsedOperation
     ensures { IfOk result (λ said. said
         ≡ lines.half_moved text.now word.condition word.load word.kind rd.now address) }
 {
     let rd = register(alloc, text, rd)?;
-    match both(rd, address) {
-        Ok((rd, address)) => half_line(alloc, word, rd, address),
-        Err(kind) => Ok(Err(kind)),
-    }
+    let (rd, address) = or_kind!(both(rd, address));
+    half_line(alloc, word, rd, address)
 }
 
 fn half_before(
@@ -312,7 +329,7 @@ fn half_before(
     word: HalfTransfer,
     rd: &[Token],
     tokens: &[Token],
-) -> Said
+) -> ParsedOperation
     ensures { IfOk result
         (λ said. lines.ReadsHalf text.now word.condition word.load word.kind
         (operands.two rd.now tokens.now) said) }
@@ -328,7 +345,7 @@ fn half_after(
     rd: &[Token],
     brackets: &[Token],
     tokens: &[Token],
-) -> Said
+) -> ParsedOperation
     ensures { IfOk result
         (λ said. lines.ReadsHalf text.now word.condition word.load word.kind
         (operands.three rd.now brackets.now tokens.now) said) }
@@ -337,7 +354,12 @@ fn half_after(
     half_moved(alloc, text, word, rd, address)
 }
 
-pub fn transfer_half(alloc: Global, text: &[u8], word: HalfTransfer, cut: Cut<'_>) -> Said
+pub fn transfer_half(
+    alloc: Global,
+    text: &[u8],
+    word: HalfTransfer,
+    cut: Cut<'_>,
+) -> ParsedOperation
     ensures { IfOk result
         (λ said. lines.ReadsHalf text.now word.condition word.load word.kind
         (cut_of cut.entry) said) }
@@ -356,28 +378,24 @@ pub fn block(
     load: bool,
     mode: BlockMode,
     cut: Cut<'_>,
-) -> Said
+) -> ParsedOperation
     ensures { IfOk result (λ said. said
         ≡ lines.block text.now condition load mode (cut_of cut.entry)) }
 {
     match cut {
         Cut::Two(base, list) => {
             let base = lists::base(alloc, text, base)?;
-            let list = lists::register_list(alloc, text, list);
-            match with_second(base, list)? {
-                Ok(((rn, write_back), (items, user))) => Ok(Ok(What::Arm(
-                    ArmLine::TransferBlock {
-                        condition,
-                        load,
-                        mode,
-                        rn,
-                        write_back,
-                        list: RegisterList { items },
-                        user,
-                    },
-                ))),
-                Err(kind) => Ok(Err(kind)),
-            }
+            let list = lists::register_list(alloc, text, list)?;
+            let ((rn, write_back), (items, user)) = or_kind!(both(base, list));
+            Ok(Ok(What::Arm(ArmLine::TransferBlock {
+                condition,
+                load,
+                mode,
+                rn,
+                write_back,
+                list: RegisterList { items },
+                user,
+            })))
         }
         _ => Ok(Err(LineKind::Syntax)),
     }

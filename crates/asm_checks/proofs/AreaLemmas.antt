@@ -21,7 +21,8 @@ use Rattle.base_lemmas.proofs.BaseLemmas.{both_true}
 -- ---- the map
 
 -- what is there for a name is there
-as_it_was : (areas : Areas) (name : List ℕ) (o : Option AreaMarks) → o ≡ marks_in areas name → (q : List ℕ) → marks_in areas q ≡ cond (same q name) o (marks_in areas q)
+as_it_was : (areas : Areas) (name : List ℕ) (o : Option AreaMarks) → o ≡ marks_in areas name → (q : List ℕ)
+    → marks_in areas q ≡ cond (same q name) o (marks_in areas q)
 as_it_was areas name o e q = by_test (same q name) refl
   where
     by_test : (b : Bool) → same q name ≡ b → marks_in areas q ≡ cond b o (marks_in areas q)

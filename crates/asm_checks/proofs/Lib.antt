@@ -1,4 +1,6 @@
 mod AreaLemmas
+pub mod LateLemmas
 mod LineLemmas
 mod NameLemmas
+pub mod StartLemmas
 pub mod ToldLemmas

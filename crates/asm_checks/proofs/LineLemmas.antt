@@ -23,7 +23,8 @@ names_told s before repeated second had o e f g h =
     h ∙ ap (λ (b : Bool). told_kind (kind_if (b || second) DuplicateName)) e
     ∙ ap (λ (b : Bool). told_kind (kind_if (is_repeated (names_behind before) (names_in s) || b) DuplicateName)) (f ∙ ap (λ (b : Bool). is_entry s.what && b) g)
 
-pub line_told : (settled : List (List ℕ)) (all : List Statement) (s : Statement) (area : Option ℕ) (thumb thumb_area : Bool) (x : Result ℕ LineKind) (circular : Bool)
+pub line_told : (settled : List (List ℕ)) (all : List Statement) (s : Statement) (area : Option ℕ) (thumb thumb_area : Bool) (x : Result ℕ LineKind)
+    (circular : Bool)
     (l : LaidLine) (before : List LaidLine)
     (old : Checks) (contents : Option Contents) (here attributes defined state own : Option LineKind) (nowhere allowed repeated unsettled : Option LineKind)
     → IsChecked before old → IsLine s area thumb thumb_area x circular settled all l before
@@ -36,11 +37,13 @@ pub line_told : (settled : List (List ℕ)) (all : List Statement) (s : Statemen
     → here ≡ first_told nowhere allowed → defined ≡ first_told repeated unsettled → state ≡ told_kind (state_kinds area thumb s.what all)
     → own ≡ told_kind (own_kinds s)
     → first_told (first_told (first_told here (first_told attributes defined)) state) own ≡ told_kind (checked_kinds settled all l before)
-line_told settled all s area thumb thumb_area x circular l before old contents here attributes defined state own nowhere allowed repeated unsettled k i inside a b c d e f g h j =
+line_told settled all s area thumb thumb_area x circular l before old contents here attributes defined state own nowhere allowed repeated unsettled k i inside a
+    b c d e f g h j =
     rw (i.said, i.stands, i.state, h, j)
     (told_of_seven here attributes defined
     (no_area_kinds area (defined_by s) s.what) (contents_kinds (contents_behind (s ∷ statements_of before)) thumb s.what) (area_kinds l.seen s.what before)
-    (name_kinds s (statements_of before)) (settled_kinds settled (first_equal (defined_by s) (statements_of before))) (state_kinds area thumb s.what all) (own_kinds s)
+    (name_kinds s (statements_of before)) (settled_kinds settled (first_equal (defined_by s) (statements_of before))) (state_kinds area thumb s.what all)
+    (own_kinds s)
     (f ∙ ap (λ o. first_told o allowed) a
     ∙ ap (first_told (told_kind (no_area_kinds area (defined_by s) s.what)))
     (b ∙ ap (λ o. told_kind (contents_kinds o thumb s.what)) (inside ∙ ap (contents_from s.what) k.contents)))

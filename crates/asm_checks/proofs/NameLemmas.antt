@@ -17,7 +17,8 @@ or_both false true c = refl
 or_both false false c = refl
 
 repeated : (list : List (List ℕ)) (o i : Option (List ℕ)) (old mid : List (List ℕ)) → HaveSame old list → HaveSame mid (listed o ++ old)
-    → (list_any (λ (n : List ℕ). list_any (same n) old) (listed o) || list_any (λ (n : List ℕ). list_any (same n) mid) (listed i)) ≡ is_repeated list (listed o ++ listed i)
+    → (list_any (λ (n : List ℕ). list_any (same n) old) (listed o) || list_any (λ (n : List ℕ). list_any (same n) mid) (listed i)) ≡ is_repeated list
+    (listed o ++ listed i)
 repeated list None None old mid set more = refl
 repeated list None (Some m) old mid set more = ap (λ b. b || false) (more m ∙ set m)
 repeated list (Some n) None old mid set more = or_false (list_any (same n) old || false) ∙ ap (λ b. b || false) (set n)

@@ -7,13 +7,21 @@ use Rattle.asm_model.proofs.FaultLemmas.{first_assoc, told_by_parts}
 
 pub told_of_seven : (here attributes defined : Option LineKind) (ks ls ms ns os ps qs : List LineKind)
     → here ≡ first_told (told_kind ks) (told_kind ls) → attributes ≡ told_kind ms → defined ≡ first_told (told_kind ns) (told_kind os)
-    → first_told (first_told (first_told here (first_told attributes defined)) (told_kind ps)) (told_kind qs) ≡ told_kind (ks ++ ls ++ ms ++ ns ++ os ++ ps ++ qs)
+    → first_told (first_told (first_told here (first_told attributes defined)) (told_kind ps)) (told_kind qs) ≡ told_kind
+    (ks ++ ls ++ ms ++ ns ++ os ++ ps ++ qs)
 told_of_seven here attributes defined ks ls ms ns os ps qs e f g =
     rw (e, f, g)
     (ap (λ (o : Option LineKind). first_told (first_told o (told_kind ps)) (told_kind qs))
     (first_assoc (first_told (told_kind ks) (told_kind ls)) (told_kind ms) (first_told (told_kind ns) (told_kind os))
     ∙ first_assoc (first_told (first_told (told_kind ks) (told_kind ls)) (told_kind ms)) (told_kind ns) (told_kind os))
-    ∙ sym (rw (told_by_parts (((((ks ++ ls) ++ ms) ++ ns) ++ os) ++ ps) qs, told_by_parts ((((ks ++ ls) ++ ms) ++ ns) ++ os) ps, told_by_parts (((ks ++ ls) ++ ms) ++ ns) os, told_by_parts ((ks ++ ls) ++ ms) ns, told_by_parts (ks ++ ls) ms, told_by_parts ks ls) refl))
+    ∙ sym (rw (
+      told_by_parts (((((ks ++ ls) ++ ms) ++ ns) ++ os) ++ ps) qs,
+      told_by_parts ((((ks ++ ls) ++ ms) ++ ns) ++ os) ps,
+      told_by_parts (((ks ++ ls) ++ ms) ++ ns) os,
+      told_by_parts ((ks ++ ls) ++ ms) ns,
+      told_by_parts (ks ++ ls) ms,
+      told_by_parts ks ls,
+    ) refl))
 
 -- where nothing is told, nothing is told of a part
 pub none_first : (a b : Option LineKind) → first_told a b ≡ None → a ≡ None

@@ -47,7 +47,8 @@ noted a (Ok n) (Some m) = Some m
 noted a (Err k) o = o
 
 abbrev pub IsNoted : List ℕ → AreaAttributes → Result ℕ LineKind → Areas → Areas → Type 0
-IsNoted name a x before after = (q : List ℕ) → marks_in after q ≡ (if same q name then noted a x (marks_in before name) else marks_in before q)
+IsNoted name a x before after =
+    (q : List ℕ) → marks_in after q ≡ (if same q name then noted a x (marks_in before name) else marks_in before q)
 
 -- the map tells of any attributes whether lines name the area otherwise
 abbrev pub AreAreasOf : List LaidLine → Areas → Type 0

@@ -22,7 +22,8 @@ checked_kinds settled all l before =
     no_area_kinds l.area (defined_by l.statement) l.statement.what
     ++ contents_kinds (contents_behind (l.statement ∷ statements_of before)) l.thumb l.statement.what
     ++ area_kinds l.seen l.statement.what before ++ name_kinds l.statement (statements_of before)
-    ++ settled_kinds settled (first_equal (defined_by l.statement) (statements_of before)) ++ state_kinds l.area l.thumb l.statement.what all
+    ++ settled_kinds settled (first_equal (defined_by l.statement) (statements_of before))
+    ++ state_kinds l.area l.thumb l.statement.what all
     ++ own_kinds l.statement
 
 -- what is kept of lines of which none has such a kind

@@ -2,3 +2,6 @@
 pub mod Areas
 pub mod Checked
 pub mod Large
+pub mod Late
+pub mod Starts
+pub mod States

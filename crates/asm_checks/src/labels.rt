@@ -1,6 +1,6 @@
 //! What statements define.
 
-ghost use Rattle.std.specs.Prelude.{◌≡◌};
+ghost use Rattle.std.specs.Prelude.{◌≡◌, ℕ, List};
 ghost use Rattle.std.specs.List.{list_any};
 ghost use Rattle.std.specs.Option.{option_copied};
 ghost use Rattle.asm_model.specs.Labels as defined;
@@ -9,22 +9,47 @@ ghost use Rattle.asm_model.specs.LayoutKinds as layout;
 use asm_model::{DirectiveLine, Expr, ExprItem, Statement, What};
 use sdt_fault::Text;
 
+/// Whether a label on a directive is one of its place.
+fn is_place(line: &DirectiveLine) -> bool
+    ensures { (name : List ℕ) → result
+        ≡ layout.has_place (defined.directive_defines name line.now) }
+{
+    match line {
+        DirectiveLine::Equ { .. }
+        | DirectiveLine::Rn { .. }
+        | DirectiveLine::Field { .. }
+        | DirectiveLine::Rout => false,
+        DirectiveLine::Area { .. }
+        | DirectiveLine::Entry
+        | DirectiveLine::End
+        | DirectiveLine::Export { .. }
+        | DirectiveLine::Import { .. }
+        | DirectiveLine::Extern { .. }
+        | DirectiveLine::Keep { .. }
+        | DirectiveLine::Assert { .. }
+        | DirectiveLine::Nofp
+        | DirectiveLine::Opt { .. }
+        | DirectiveLine::Ttl
+        | DirectiveLine::Subt
+        | DirectiveLine::Constants { .. }
+        | DirectiveLine::Space { .. }
+        | DirectiveLine::Align { .. }
+        | DirectiveLine::Ltorg
+        | DirectiveLine::Data
+        | DirectiveLine::Map { .. }
+        | DirectiveLine::Code16
+        | DirectiveLine::Code32 => true,
+    }
+}
+
 /// Whether a statement has a label of its place.
 pub fn has_place(statement: &Statement) -> bool
     ensures { result ≡ layout.has_place (defined.defined_by statement.now) }
 {
     match (&statement.label, &statement.what) {
         (None, _) => false,
-        (
-            Some(_),
-            What::Directive(
-                DirectiveLine::Equ { .. }
-                | DirectiveLine::Rn { .. }
-                | DirectiveLine::Field { .. }
-                | DirectiveLine::Rout,
-            ),
-        ) => false,
-        (Some(_), _) => true,
+        (Some(_), What::Directive(line)) => is_place(line),
+        (Some(_), What::Nothing | What::Arm(_) | What::Thumb(_) | What::Pseudo(_)) => true,
     }
 }
 
@@ -37,17 +62,6 @@ pub fn own_name(statement: &Statement) -> Option<&Text>
         (None, _) => None,
         (Some(_), What::Directive(DirectiveLine::Rout)) => None,
         (Some(label), _) => Some(label),
-    }
-}
-
-/// The name that a statement imports.
-pub fn imported_name(statement: &Statement) -> Option<&Text>
-    ensures { option_copied result ≡ defined.imported_in statement.now.what }
-{
-    match &statement.what {
-        What::Directive(DirectiveLine::Import { name, .. }) => Some(name),
-        What::Directive(DirectiveLine::Extern { name, .. }) => Some(name),
-        _ => None,
     }
 }
 

@@ -44,7 +44,7 @@ fn in_shift(shift: &Shift) -> bool
 {
     match shift {
         Shift::By { amount, .. } => in_expression(amount),
-        _ => false,
+        Shift::Unshifted | Shift::Extended => false,
     }
 }
 
@@ -78,7 +78,14 @@ fn in_arm(line: &ArmLine) -> bool
         ArmLine::TransferHalf { offset, .. } => in_half(offset),
         ArmLine::Branch { target, .. } => in_expression(target),
         ArmLine::SoftwareInterrupt { number, .. } => in_expression(number),
-        _ => false,
+        ArmLine::DataRegisterShifted { .. }
+        | ArmLine::Multiply { .. }
+        | ArmLine::MultiplyLong { .. }
+        | ArmLine::Swap { .. }
+        | ArmLine::BranchExchange { .. }
+        | ArmLine::ReadStatus { .. }
+        | ArmLine::WriteStatus { .. }
+        | ArmLine::TransferBlock { .. } => false,
     }
 }
 
@@ -117,7 +124,12 @@ fn in_thumb(line: &ThumbLine) -> bool
         | ThumbLine::Branch { target }
         | ThumbLine::BranchLink { target } => in_expression(target),
         ThumbLine::SoftwareInterrupt { number } => in_expression(number),
-        _ => false,
+        ThumbLine::DataRegister { .. }
+        | ThumbLine::HighRegister { .. }
+        | ThumbLine::TransferRegister { .. }
+        | ThumbLine::TransferSigned { .. }
+        | ThumbLine::PushPop { .. }
+        | ThumbLine::TransferMultiple { .. } => false,
     }
 }
 
@@ -161,13 +173,23 @@ fn in_directive(line: &DirectiveLine) -> bool
         DirectiveLine::Rn { register } => in_register(register),
         DirectiveLine::Assert { condition } => in_expression(condition),
         DirectiveLine::Opt { options } => in_expression(options),
-        DirectiveLine::Dcd { values }
-        | DirectiveLine::Dcdu { values }
-        | DirectiveLine::Dcw { values }
-        | DirectiveLine::Dcb { values } => in_expressions(values.as_slice()),
+        DirectiveLine::Constants { values, .. } => in_expressions(values.as_slice()),
         DirectiveLine::Space { size } | DirectiveLine::Field { size } => in_expression(size),
         DirectiveLine::Align { boundary } => in_boundary(boundary),
-        _ => false,
+        DirectiveLine::Entry
+        | DirectiveLine::End
+        | DirectiveLine::Export { .. }
+        | DirectiveLine::Import { .. }
+        | DirectiveLine::Extern { .. }
+        | DirectiveLine::Keep { .. }
+        | DirectiveLine::Rout
+        | DirectiveLine::Nofp
+        | DirectiveLine::Ttl
+        | DirectiveLine::Subt
+        | DirectiveLine::Ltorg
+        | DirectiveLine::Data
+        | DirectiveLine::Code16
+        | DirectiveLine::Code32 => false,
     }
 }
 

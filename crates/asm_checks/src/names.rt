@@ -8,8 +8,8 @@ ghost use Rattle.asm_model.specs.Forms.{same};
 ghost use Rattle.asm_model.specs.LayoutKinds as layout;
 ghost use Rattle.asm_sets.specs.Sets.{HaveSame};
 
-use crate::labels::{imported_name, own_name};
-use asm_model::Statement;
+use crate::labels::own_name;
+use asm_model::{Statement, imported_name};
 use asm_sets::NameSet;
 use sdt_fault::{NoMemory, Text};
 use std::alloc::Global;
@@ -49,6 +49,6 @@ pub fn is_repeated(
         → HaveSame names.new (layout.names_behind (statement.now ∷ before))) }
 {
     let own = is_again(alloc, names, own_name(statement))?;
-    let imported = is_again(alloc, names, imported_name(statement))?;
+    let imported = is_again(alloc, names, imported_name(&statement.what))?;
     Ok(own || imported)
 }

@@ -38,7 +38,17 @@ fn is_bad_arm(line: &ArmLine) -> bool
         }
         ArmLine::TransferImmediate { address, .. } => is_bad_address(address),
         ArmLine::TransferShifted { indexing, .. } => is_bad_index(*indexing),
-        _ => false,
+        ArmLine::DataImmediate { .. }
+        | ArmLine::DataShifted { .. }
+        | ArmLine::DataRegisterShifted { .. }
+        | ArmLine::Multiply { .. }
+        | ArmLine::MultiplyLong { .. }
+        | ArmLine::Swap { .. }
+        | ArmLine::BranchExchange { .. }
+        | ArmLine::TransferHalf { .. }
+        | ArmLine::TransferBlock { .. }
+        | ArmLine::Branch { .. }
+        | ArmLine::SoftwareInterrupt { .. } => false,
     }
 }
 
@@ -49,7 +59,27 @@ fn is_bad_directive(line: &DirectiveLine) -> bool
     match line {
         DirectiveLine::Area { attributes, .. } => attributes.has_bad_word,
         DirectiveLine::Import { weak, .. } | DirectiveLine::Extern { weak, .. } => weak.is_none(),
-        _ => false,
+        DirectiveLine::Entry
+        | DirectiveLine::End
+        | DirectiveLine::Export { .. }
+        | DirectiveLine::Keep { .. }
+        | DirectiveLine::Equ { .. }
+        | DirectiveLine::Rn { .. }
+        | DirectiveLine::Rout
+        | DirectiveLine::Assert { .. }
+        | DirectiveLine::Nofp
+        | DirectiveLine::Opt { .. }
+        | DirectiveLine::Ttl
+        | DirectiveLine::Subt
+        | DirectiveLine::Constants { .. }
+        | DirectiveLine::Space { .. }
+        | DirectiveLine::Align { .. }
+        | DirectiveLine::Ltorg
+        | DirectiveLine::Data
+        | DirectiveLine::Map { .. }
+        | DirectiveLine::Field { .. }
+        | DirectiveLine::Code16
+        | DirectiveLine::Code32 => false,
     }
 }
 
@@ -60,7 +90,7 @@ fn has_bad_word(what: &What) -> bool
     match what {
         What::Arm(line) => is_bad_arm(line),
         What::Directive(line) => is_bad_directive(line),
-        _ => false,
+        What::Nothing | What::Thumb(_) | What::Pseudo(_) => false,
     }
 }
 

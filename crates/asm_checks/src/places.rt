@@ -6,28 +6,26 @@ ghost use Rattle.asm_model.specs.declared.statements.Statement.{Statement};
 ghost use Rattle.asm_model.specs.Kinds.{told_kind};
 ghost use Rattle.asm_model.specs.Labels.{defined_by};
 ghost use Rattle.asm_model.specs.LayoutKinds as layout;
+ghost use Rattle.asm_model.specs.OccupiedCode.{occupied_of_code};
 
 use crate::labels::{has_place, names_here};
 use asm_expr::told::kind_if;
-use asm_model::{Contents, DirectiveLine, Statement, What};
+use asm_model::{Contents, DirectiveLine, Occupied, Statement, What, occupied_by};
 use sdt_fault::kinds::LineKind;
 
-/// Whether a directive takes up nothing in an area.
-fn is_free_directive(line: &DirectiveLine) -> bool
-    ensures { result ≡ layout.is_free_directive line.now }
+/// Whether it may stand before the first AREA.
+fn is_unplaced(occupied: Occupied<'_>) -> bool
+    ensures { result ≡ layout.is_unplaced (occupied_of_code occupied.entry) }
 {
-    match line {
-        DirectiveLine::Area { .. }
-        | DirectiveLine::Entry
-        | DirectiveLine::Dcd { .. }
-        | DirectiveLine::Dcdu { .. }
-        | DirectiveLine::Dcw { .. }
-        | DirectiveLine::Dcb { .. }
-        | DirectiveLine::Space { .. }
-        | DirectiveLine::Align { .. }
-        | DirectiveLine::Ltorg
-        | DirectiveLine::Data => false,
-        _ => true,
+    match occupied {
+        Occupied::Unplaced => true,
+        Occupied::Opening(_)
+        | Occupied::Marking
+        | Occupied::Entering
+        | Occupied::Items(_, _)
+        | Occupied::Zeroes(_)
+        | Occupied::UpTo(_)
+        | Occupied::Literals => false,
     }
 }
 
@@ -35,8 +33,8 @@ fn is_free(what: &What) -> bool
     ensures { result ≡ layout.is_free what.now }
 {
     match what {
-        What::Directive(line) => is_free_directive(line),
-        _ => false,
+        What::Nothing | What::Arm(_) | What::Thumb(_) | What::Pseudo(_) => false,
+        What::Directive(line) => is_unplaced(occupied_by(line)),
     }
 }
 
@@ -57,16 +55,24 @@ pub fn no_area_kind(area: Option<u32>, statement: &Statement) -> Option<LineKind
     kind_if(names_here(statement), LineKind::NoArea)
 }
 
-/// Whether a statement may stand among data that is zero.
+/// Whether it may stand among data that is zero.
+fn is_zero(occupied: Occupied<'_>) -> bool
+    ensures { result ≡ layout.is_zero (occupied_of_code occupied.entry) }
+{
+    match occupied {
+        Occupied::Unplaced | Occupied::Opening(_) | Occupied::Zeroes(_) | Occupied::UpTo(_) => true,
+        Occupied::Marking | Occupied::Entering | Occupied::Items(_, _) | Occupied::Literals =>
+            false,
+    }
+}
+
 fn is_zero_statement(what: &What) -> bool
     ensures { result ≡ layout.is_zero_statement what.now }
 {
     match what {
         What::Nothing => true,
-        What::Directive(
-            DirectiveLine::Area { .. } | DirectiveLine::Space { .. } | DirectiveLine::Align { .. },
-        ) => true,
-        _ => is_free(what),
+        What::Arm(_) | What::Thumb(_) | What::Pseudo(_) => false,
+        What::Directive(line) => is_zero(occupied_by(line)),
     }
 }
 
@@ -76,7 +82,7 @@ fn is_thumb_instruction(thumb: bool, what: &What) -> bool
     match what {
         What::Thumb(_) => true,
         What::Pseudo(_) => thumb,
-        _ => false,
+        What::Nothing | What::Arm(_) | What::Directive(_) => false,
     }
 }
 

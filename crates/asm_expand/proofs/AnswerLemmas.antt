@@ -20,7 +20,7 @@ use Rattle.expand_model.specs.Steps.{Sources, Context, Stop, Go, Under, got, vis
 use Rattle.expand_model.specs.Steps as model
 use Rattle.asm_expand.specs.declared.engine.Engine.{Engine}
 use Rattle.asm_variables.specs.declared.expansion.Expansion.{Expansion}
-use Rattle.asm_expand.specs.declared.places.Place.{Place}
+use Rattle.asm_expand.specs.declared.line_cursors.LineCursor.{LineCursor}
 use Rattle.asm_expand.specs.declared.steps.End.{End}
 use Rattle.asm_expand.specs.declared.steps.End.TheVariants as end
 use Rattle.asm_expand.specs.declared.steps.Frame.{Frame}
@@ -28,7 +28,7 @@ use Rattle.asm_expand.specs.declared.steps.Next.{Next}
 use Rattle.asm_expand.specs.declared.steps.Next.TheVariants as next
 use Rattle.asm_variables.specs.Expanding.{Represents}
 use Rattle.asm_expand.specs.Leading.{IsBadAt, IsFault, IsLed, Caused, Gets, IsReadOf, IsRefusal, LedOn, IsToldBy, OfFiles, OutermostEnd, RunsTo, Starts, StepsTo, GetsFrom}
-use Rattle.asm_expand.specs.Places.{place_lines}
+use Rattle.asm_expand.specs.LineCursors.{cursor_lines}
 use Rattle.asm_expand.specs.Saying.{IsBad, IsEnd, IsFirst, Shows, most_flats}
 use Rattle.asm_expand.specs.Unwinding.{Leads}
 use Rattle.asm_expand.proofs.UnwindingLemmas.{leads_from}
@@ -64,10 +64,10 @@ ended_end c (Unclosed l) h = absurd h
 ended_end c (Bad name n k) h = absurd h
 ended_end c (model.Missing name) h = absurd h
 
-abbrev Unpaired : Place → model.End → Type 0
+abbrev Unpaired : LineCursor → model.End → Type 0
 Unpaired p m = (l : Line) × IsFirst p l × (FaultAt l.source l.number Nesting ≡ outcome_of m)
 
-closed_end : (c : Expansion) (o : Operation) (p : Place) (m : model.End) → IsEnd c (end.Closed o p) m → Unpaired p m
+closed_end : (c : Expansion) (o : Operation) (p : LineCursor) (m : model.End) → IsEnd c (end.Closed o p) m → Unpaired p m
 closed_end c o p (Over s) h = absurd h
 closed_end c o p (Closed q l s ls) h = (l, (ls, h.1), refl)
 closed_end c o p (Left l s) h = absurd h
@@ -77,7 +77,7 @@ closed_end c o p (Unclosed l) h = absurd h
 closed_end c o p (Bad name n k) h = absurd h
 closed_end c o p (model.Missing name) h = absurd h
 
-left_end : (c : Expansion) (p : Place) (m : model.End) → IsEnd c (end.Left p) m → Unpaired p m
+left_end : (c : Expansion) (p : LineCursor) (m : model.End) → IsEnd c (end.Left p) m → Unpaired p m
 left_end c p (Over s) h = absurd h
 left_end c p (Closed q l s ls) h = absurd h
 left_end c p (Left l s) h = (l, h.0, refl)
@@ -87,7 +87,7 @@ left_end c p (Unclosed l) h = absurd h
 left_end c p (Bad name n k) h = absurd h
 left_end c p (model.Missing name) h = absurd h
 
-unclosed_end : (c : Expansion) (p : Place) (m : model.End) → IsEnd c (end.Unclosed p) m → Unpaired p m
+unclosed_end : (c : Expansion) (p : LineCursor) (m : model.End) → IsEnd c (end.Unclosed p) m → Unpaired p m
 unclosed_end c p (Over s) h = absurd h
 unclosed_end c p (Closed q l s ls) h = absurd h
 unclosed_end c p (Left l s) h = absurd h
@@ -97,7 +97,7 @@ unclosed_end c p (Unclosed l) h = (l, h, refl)
 unclosed_end c p (Bad name n k) h = absurd h
 unclosed_end c p (model.Missing name) h = absurd h
 
-cut_end : (c : Expansion) (p : Place) (m : model.End) → IsEnd c (end.Cut p) m → Unpaired p m
+cut_end : (c : Expansion) (p : LineCursor) (m : model.End) → IsEnd c (end.Cut p) m → Unpaired p m
 cut_end c p (Over s) h = absurd h
 cut_end c p (Closed q l s ls) h = absurd h
 cut_end c p (Left l s) h = absurd h
@@ -112,7 +112,7 @@ module _ (sources : Sources) (start : model.Next) where
       → RunsTo sources start (Flats h.state.flats.items)
   done g h m same run e = (m, run, ap (λ (c : Expansion). Flats c.flats.items) same ∙ e)
 
-  refused : (p : Place) (m : model.End) (e : Fault) → Unpaired p m → Run sources outermost start m → IsBadAt p Nesting e → IsFault e (RunsTo sources start)
+  refused : (p : LineCursor) (m : model.End) (e : Fault) → Unpaired p m → Run sources outermost start m → IsBadAt p Nesting e → IsFault e (RunsTo sources start)
   refused p m e u run bad = told_by sources start u.0.source u.0.number Nesting e (bad u.0 u.1) (m, run, u.2)
 
   pub outermost_end : (g h : Engine) (e : End) (r : Result (Option Next) Fault) → g.frames.items ≡ [] → h.state ≡ g.state → OutermostEnd e r
@@ -138,7 +138,8 @@ module _ (sources : Sources) (start : model.Next) where
 
   -- ---- a fault of a line
 
-  bad_told : (cs : List Context) (at : model.Next) (p : Place) (k : LineKind) (e : Fault) (m : model.End) → IsBad p k m → at ≡ Stop m → Leads sources start cs at
+  bad_told : (cs : List Context) (at : model.Next) (p : LineCursor) (k : LineKind) (e : Fault) (m : model.End) → IsBad p k m → at ≡ Stop m
+      → Leads sources start cs at
       → IsBadAt p k e → IsFault e (RunsTo sources start)
   bad_told cs at p k e (Bad name n j) h is leads bad =
       let l = h.1.0 in
@@ -153,32 +154,35 @@ module _ (sources : Sources) (start : model.Next) where
   bad_told cs at p k e (Unclosed l) h is leads bad = absurd h
   bad_told cs at p k e (model.Missing name) h is leads bad = absurd h
 
-  pub led_bad : (g : Engine) (p : Place) (k : LineKind) (e : Fault) → IsBadAt p k e → IsLed sources start g (next.Bad p k) → IsFault e (RunsTo sources start)
+  pub led_bad : (g : Engine) (p : LineCursor) (k : LineKind) (e : Fault) → IsBadAt p k e → IsLed sources start g (next.Bad p k)
+      → IsFault e (RunsTo sources start)
   led_bad g p k e bad led =
       let x = faulty sources g.state p k led.at led.shown in
       bad_told led.contexts led.at p k e x.0 x.1 x.2 led.leads bad
 
   -- ---- a file
 
-  gotten : (c : Expansion) (name : List ℕ) (p : Place) (m : model.Next) → Shows sources c (next.Get name p) m
-      → (s : State) × Represents c s × (m ≡ got name s (place_lines p) (sources name))
+  gotten : (c : Expansion) (name : List ℕ) (p : LineCursor) (m : model.Next) → Shows sources c (next.Get name p) m
+      → (s : State) × Represents c s × (m ≡ got name s (cursor_lines p) (sources name))
   gotten c name p (Go s ls) h = h
   gotten c name p (Stop e) h = h
   gotten c name p (Under d s ls) h = h
 
-  pub led_get : (g : Engine) (name : List ℕ) (p : Place) (n : Next) → GetsFrom sources name p (Ok n) → IsLed sources start g (next.Get name p) → IsLed sources start g n
+  pub led_get : (g : Engine) (name : List ℕ) (p : LineCursor) (n : Next) → GetsFrom sources name p (Ok n) → IsLed sources start g (next.Get name p)
+      → IsLed sources start g n
   led_get g name p n gets led =
       let x = gotten g.state name p led.at led.shown in
       record {
         contexts = led.contexts;
         frames = led.frames;
         depth = led.depth;
-        at = got name x.0 (place_lines p) (sources name);
+        at = got name x.0 (cursor_lines p) (sources name);
         shown = gets g x.0 x.1;
         leads = subst (λ (m : model.Next). Leads sources start led.contexts m) x.2 led.leads;
       }
 
-  refusal_told : (g : Engine) (name : List ℕ) (p : Place) (r : Refusal) → GetsFrom sources name p (Err (fault.Refused r)) → IsLed sources start g (next.Get name p)
+  refusal_told : (g : Engine) (name : List ℕ) (p : LineCursor) (r : Refusal) → GetsFrom sources name p (Err (fault.Refused r))
+      → IsLed sources start g (next.Get name p)
       → IsFault (fault.Refused r) (RunsTo sources start)
   refusal_told g name p (refusal.BadLine source n k) gets led =
       let x = gotten g.state name p led.at led.shown in
@@ -188,7 +192,7 @@ module _ (sources : Sources) (start : model.Next) where
       (MissingFile q, missing_runs sources start led.contexts led.at q (x.2 ∙ gets x.0) led.leads, refl)
   refusal_told g name p r gets led = absurd gets
 
-  pub get_told : (g : Engine) (name : List ℕ) (p : Place) (e : Fault) → GetsFrom sources name p (Err e) → IsLed sources start g (next.Get name p)
+  pub get_told : (g : Engine) (name : List ℕ) (p : LineCursor) (e : Fault) → GetsFrom sources name p (Err e) → IsLed sources start g (next.Get name p)
       → IsFault e (RunsTo sources start)
   get_told g name p (fault.Refused r) gets led = refusal_told g name p r gets led
   get_told g name p (fault.ReadFault q) gets led = tt
@@ -200,7 +204,8 @@ abbrev as_step : Result Next Fault → Result (Option Next) Fault
 as_step (Ok n) = Ok (Some n)
 as_step (Err e) = Err e
 
-pub get_led : (told : Option Files) (g : Engine) (name : List ℕ) (p : Place) (r : Result Next Fault) → Gets name p told r → LedOn told g (next.Get name p) g (as_step r)
+pub get_led : (told : Option Files) (g : Engine) (name : List ℕ) (p : LineCursor) (r : Result Next Fault) → Gets name p told r
+    → LedOn told g (next.Get name p) g (as_step r)
 get_led None g name p r h = tt
 get_led (Some files) g name p (Ok n) h = λ sources start alike is_led. led_get sources start g name p n (h sources alike) is_led
 get_led (Some files) g name p (Err e) h = λ sources start alike is_led. get_told sources start g name p e (h sources alike) is_led
@@ -241,14 +246,14 @@ few_started g s =
     let all : g.state.visits ≡ visit_limit = s.0.visits in
     rw none (rw all (omega arith))
 
-pub led_start : (sources : Sources) (g : Engine) (p : Place) → Starts g → IsLed sources (Go (started visit_limit) (place_lines p)) g (next.Go p)
+pub led_start : (sources : Sources) (g : Engine) (p : LineCursor) → Starts g → IsLed sources (Go (started visit_limit) (cursor_lines p)) g (next.Go p)
 led_start sources g p s = record {
   contexts = [];
   frames = rw s.1 tt;
   depth = s.2;
-  at = Go (started visit_limit) (place_lines p);
+  at = Go (started visit_limit) (cursor_lines p);
   shown = (s.0, refl);
-  leads = leads_from sources (Go (started visit_limit) (place_lines p));
+  leads = leads_from sources (Go (started visit_limit) (cursor_lines p));
 }
 
 pub split_refused : (sources : Sources) (name text : List ℕ) (e : Fault) → GivesFault (split name text) e

@@ -16,11 +16,11 @@ use Rattle.expand_model.specs.States.{State}
 use Rattle.expand_model.specs.Steps.{Sources, defined_as, with_visits}
 use Rattle.asm_variables.specs.declared.expansion.Definition.{Definition}
 use Rattle.asm_variables.specs.declared.expansion.Expansion.{Expansion}
-use Rattle.asm_expand.specs.declared.places.Place.{Place}
+use Rattle.asm_expand.specs.declared.line_cursors.LineCursor.{LineCursor}
 use Rattle.asm_expand.specs.declared.steps.Next.TheVariants as next
 use Rattle.asm_expand.specs.Defining.{names_of}
 use Rattle.asm_variables.specs.Expanding.{Becomes, Represents, macro_of, maybe_macro, with_macro}
-use Rattle.asm_expand.specs.Places.{place_lines}
+use Rattle.asm_expand.specs.LineCursors.{cursor_lines}
 use Rattle.asm_expand.specs.Saying.{Shows}
 
 or_false : (b : Bool) → (b || false) ≡ b
@@ -34,9 +34,11 @@ long_parameters (p ∷ ps) = ap (λ (b : Bool). is_long p.name || b) (long_param
 pub long_names : (p : Prototype) → list_any is_long (parameter_names p) ≡ (list_any is_long (listed p.label) || list_any (λ q. is_long q.name) p.parameters)
 long_names p = by p.label
   where
-    by : (o : Option (List ℕ)) → list_any is_long (listed o ++ map (λ q. q.name) p.parameters) ≡ (list_any is_long (listed o) || list_any (λ q. is_long q.name) p.parameters)
+    by : (o : Option (List ℕ)) → list_any is_long (listed o ++ map (λ q. q.name) p.parameters)
+        ≡ (list_any is_long (listed o) || list_any (λ q. is_long q.name) p.parameters)
     by None = long_parameters p.parameters
-    by (Some n) = ap (λ (b : Bool). is_long n || b) (long_parameters p.parameters) ∙ ap (λ (b : Bool). b || list_any (λ q. is_long q.name) p.parameters) (sym (or_false (is_long n)))
+    by (Some n) = ap (λ (b : Bool). is_long n || b) (long_parameters p.parameters)
+        ∙ ap (λ (b : Bool). b || list_any (λ q. is_long q.name) p.parameters) (sym (or_false (is_long n)))
 
 -- a macro has the name
 pub is_macro_some : (name : List ℕ) (macros : List Macro) → is_macro macros name ≡ is_some (macro_named name macros)
@@ -64,7 +66,8 @@ repeated_label p n e h =
 repeated_behind : (k : ℕ) (ps : List Parameter) → is_repeated (names_of (drop k ps)) ≡ true → is_repeated (names_of ps) ≡ true
 repeated_behind zero ps h = h
 repeated_behind (suc k) [] h = h
-repeated_behind (suc k) (p ∷ ps) h = ap (λ (b : Bool). list_any (same p.name) (names_of ps) || b) (repeated_behind k ps h) ∙ or_true (list_any (same p.name) (names_of ps))
+repeated_behind (suc k) (p ∷ ps) h =
+    ap (λ (b : Bool). list_any (same p.name) (names_of ps) || b) (repeated_behind k ps h) ∙ or_true (list_any (same p.name) (names_of ps))
   where
     or_true : (b : Bool) → (b || true) ≡ true
     or_true true = refl
@@ -83,7 +86,8 @@ twice_here ps i p a b e h =
     ∙ ap (λ (t : Bool). t || is_repeated (names_of (drop i ps))) (sym (any_back p.name (names_of (drop i ps))) ∙ h))
 
 pub once_here : (ps : List Parameter) (i : ℕ) (p : Parameter) → 0 < i → i ≤ length ps → p ≡ get_or ps (i - 1) p
-    → list_any (λ n. same n p.name) (names_of (drop i ps)) ≡ false → is_repeated (names_of (drop i ps)) ≡ false → is_repeated (names_of (drop (i - 1) ps)) ≡ false
+    → list_any (λ n. same n p.name) (names_of (drop i ps)) ≡ false → is_repeated (names_of (drop i ps)) ≡ false
+    → is_repeated (names_of (drop (i - 1) ps)) ≡ false
 once_here ps i p a b e h g =
     ap (λ (xs : List Parameter). is_repeated (names_of xs)) (from_here ps i p a b e)
     ∙ ap (λ (t : Bool). t || is_repeated (names_of (drop i ps))) (sym (any_back p.name (names_of (drop i ps))) ∙ h) ∙ g
@@ -105,16 +109,18 @@ known_macro o name macros h = sym (some_macro o) ∙ ap (λ (x : Option Macro). 
 
 -- ---- a macro that is defined
 
-pub whole_defined : (sources : Sources) (c0 c1 c2 c3 : Expansion) (p : Prototype) (l : Line) (s : State) (given body : List Line) (count : ℕ) (d : Definition) (place : Place)
+pub whole_defined : (sources : Sources) (c0 c1 c2 c3 : Expansion) (p : Prototype) (l : Line) (s : State) (given body : List Line) (count : ℕ) (d : Definition)
+    (place : LineCursor)
     → Represents c0 s → given ≡ body → taken c0.visits given ≡ Whole (take count given) (c0.visits - (count + 1)) (drop (count + 1) given)
     → macro_of d ≡ record { prototype = p; body = take count body }
     → Becomes c0 c1 (with_macro (macro_of d)) → Becomes c1 c2 (λ t. with_visits (t.visits - count) t) → Becomes c2 c3 (λ t. with_visits (t.visits - 1) t)
-    → place_lines place ≡ drop 1 (drop count body)
+    → cursor_lines place ≡ drop 1 (drop count body)
     → Shows sources c3 (next.Go place) (defined_as p l s (taken s.visits body))
 whole_defined sources c0 c1 c2 c3 p l s given body count d place r e h m f g k at =
     let t : taken s.visits body ≡ Whole (take count body) (s.visits - (count + 1)) (drop (count + 1) body) = rw (r.visits, e) at h in
     let fewer : s.visits - count - 1 ≡ s.visits - (count + 1) = omega arith in
     let last = k _ (g _ (f s r)) in
     let is : State = record s { visits = s.visits - (count + 1); macros = record { prototype = p; body = take count body } ∷ s.macros } in
-    let same : (record s { visits = s.visits - count - 1; macros = macro_of d ∷ s.macros }) ≡ is = λ i. record s { visits = fewer i; macros = m i ∷ s.macros } in
+    let same : (record s { visits = s.visits - count - 1; macros = macro_of d ∷ s.macros }) ≡ is =
+    λ i. record s { visits = fewer i; macros = m i ∷ s.macros } in
     rw t (subst (λ (x : State). Represents c3 x) same last, at ∙ drop-drop 1 count body)

@@ -3,7 +3,7 @@ use Rattle.std.proofs.Common.{◌≡◌, ℕ, ◌-◌, ◌==◌, ◌||◌, Bool,
 use Rattle.std.specs.List.{list_any}
 use Rattle.std.specs.Prelude.{Result, Ok}
 use Rattle.sdt_fault.specs.declared.kinds.LineKind.{LineKind}
-use Rattle.asm_model.specs.Says.{mapped}
+use Rattle.asm_model.specs.Readings.{mapped}
 use Rattle.expand_model.specs.declared.standing.Standing.{Standing}
 use Rattle.expand_model.specs.declared.standing.Standing.TheVariants.{Open}
 use Rattle.expand_model.specs.Standing.{standing, standing_from, begun_at}
@@ -18,7 +18,8 @@ put_one : (c : ℕ) (cs : List ℕ) (r : Result (List ℕ) LineKind) → r ≡ O
 put_one c cs r e = rw e refl
 
 -- bytes without dollars become themselves
-without_dollar : (texts : List ℕ → Option (List ℕ)) (st : Standing) (n : ℕ) (cs : List ℕ) → list_any (λ c. c == 36) cs ≡ false → substituted_from texts 0 (standing_from st n cs) ≡ Ok cs
+without_dollar : (texts : List ℕ → Option (List ℕ)) (st : Standing) (n : ℕ) (cs : List ℕ) → list_any (λ c. c == 36) cs ≡ false
+    → substituted_from texts 0 (standing_from st n cs) ≡ Ok cs
 without_dollar texts st n [] e = refl
 without_dollar texts st zero (c ∷ cs) e =
     let parts = no_first (c == 36) (list_any (λ d. d == 36) cs) e in

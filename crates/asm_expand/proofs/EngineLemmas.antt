@@ -11,15 +11,15 @@ use Rattle.expand_model.specs.Steps.{Sources, Context, Condition, Alternative, L
 use Rattle.expand_model.specs.Steps as model
 use Rattle.asm_expand.specs.declared.engine.Engine.{Engine}
 use Rattle.asm_variables.specs.declared.expansion.Expansion.{Expansion}
-use Rattle.asm_expand.specs.declared.places.Place.{Place}
+use Rattle.asm_expand.specs.declared.line_cursors.LineCursor.{LineCursor}
 use Rattle.asm_expand.specs.declared.steps.End.{End}
 use Rattle.asm_expand.specs.declared.steps.Frame.{Frame}
 use Rattle.asm_expand.specs.declared.steps.Next.{Next}
 use Rattle.asm_expand.specs.declared.steps.Next.TheVariants as next
 use Rattle.asm_variables.specs.Expanding.{Represents}
 use Rattle.asm_expand.specs.Leading.{AreFrames, IsFault, IsLed, IsShallower, Opens, RunsTo}
-use Rattle.asm_expand.specs.Places.{place_lines}
-use Rattle.asm_expand.specs.Reading.{Reads}
+use Rattle.asm_expand.specs.LineCursors.{cursor_lines}
+use Rattle.asm_expand.specs.FirstLines.{Reads}
 use Rattle.asm_expand.specs.Saying.{IsBad, IsEnd, IsFrame, Shows, depth_of}
 use Rattle.asm_expand.specs.Turning.{Turns}
 use Rattle.asm_expand.specs.Unwinding.{Leads, Unwound, depth_under}
@@ -27,14 +27,14 @@ use Rattle.asm_expand.proofs.UnwindingLemmas.{leads_read, leads_under, leads_beh
 
 -- ---- what is shown
 
-went_on : (sources : Sources) (c : Expansion) (p : Place) (n : model.Next) → Shows sources c (next.Go p) n
-    → (s : State) × Represents c s × (n ≡ Go s (place_lines p))
+went_on : (sources : Sources) (c : Expansion) (p : LineCursor) (n : model.Next) → Shows sources c (next.Go p) n
+    → (s : State) × Represents c s × (n ≡ Go s (cursor_lines p))
 went_on sources c p (Go s ls) h = (s, h.0, ap (λ (xs : List Line). Go s xs) (sym h.1))
 went_on sources c p (Stop e) h = absurd h
 went_on sources c p (Under m s ls) h = absurd h
 
-opened : (sources : Sources) (c : Expansion) (f : Frame) (p : Place) (n : model.Next) → Shows sources c (next.Under f p) n
-    → (m : Context) × (s : State) × IsFrame f m × Represents c s × (n ≡ Under m s (place_lines p))
+opened : (sources : Sources) (c : Expansion) (f : Frame) (p : LineCursor) (n : model.Next) → Shows sources c (next.Under f p) n
+    → (m : Context) × (s : State) × IsFrame f m × Represents c s × (n ≡ Under m s (cursor_lines p))
 opened sources c f p (Go s ls) h = absurd h
 opened sources c f p (Stop e) h = absurd h
 opened sources c f p (Under m s ls) h = (m, s, h.0, h.1, ap (λ (xs : List Line). Under m s xs) (sym h.2))
@@ -45,7 +45,7 @@ stopped sources c e (Go s ls) h = absurd h
 stopped sources c e (Stop m) h = (m, h, refl)
 stopped sources c e (Under m s ls) h = absurd h
 
-pub faulty : (sources : Sources) (c : Expansion) (p : Place) (k : LineKind) (n : model.Next) → Shows sources c (next.Bad p k) n
+pub faulty : (sources : Sources) (c : Expansion) (p : LineCursor) (k : LineKind) (n : model.Next) → Shows sources c (next.Bad p k) n
     → (m : model.End) × IsBad p k m × (n ≡ Stop m)
 faulty sources c p k (Go s ls) h = absurd h
 faulty sources c p k (Stop m) h = (m, h, refl)
@@ -54,7 +54,7 @@ faulty sources c p k (Under m s ls) h = absurd h
 module _ (sources : Sources) (start : model.Next) where
   -- ---- a line is read, and a construct is opened
 
-  pub led_read : (g : Engine) (c : Expansion) (p : Place) (n : Next) → Reads p (depth_of g.depth) g.state c n
+  pub led_read : (g : Engine) (c : Expansion) (p : LineCursor) (n : Next) → Reads p (depth_of g.depth) g.state c n
       → IsLed sources start g (next.Go p) → IsLed sources start (record g { state = c }) n
   led_read g c p n reads is_led =
       let went = went_on sources g.state p is_led.at is_led.shown in
@@ -63,12 +63,13 @@ module _ (sources : Sources) (start : model.Next) where
         contexts = is_led.contexts;
         frames = is_led.frames;
         depth = is_led.depth;
-        at = first_line sources (depth_under is_led.contexts) went.0 (place_lines p) x.0;
-        shown = subst (λ (d : model.Depth). Shows sources c n (first_line sources d went.0 (place_lines p) x.0)) is_led.depth x.2;
-        leads = leads_read sources start is_led.contexts went.0 (place_lines p) x.0 x.1 (subst (λ (m : model.Next). Leads sources start is_led.contexts m) went.2 is_led.leads);
+        at = first_line sources (depth_under is_led.contexts) went.0 (cursor_lines p) x.0;
+        shown = subst (λ (d : model.Depth). Shows sources c n (first_line sources d went.0 (cursor_lines p) x.0)) is_led.depth x.2;
+        leads = leads_read sources start is_led.contexts went.0 (cursor_lines p) x.0 x.1
+            (subst (λ (m : model.Next). Leads sources start is_led.contexts m) went.2 is_led.leads);
       }
 
-  pub led_open : (g h : Engine) (f : Frame) (p : Place) → Opens f g h → reverse h.frames.items ≡ f ∷ reverse g.frames.items
+  pub led_open : (g h : Engine) (f : Frame) (p : LineCursor) → Opens f g h → reverse h.frames.items ≡ f ∷ reverse g.frames.items
       → IsLed sources start g (next.Under f p) → IsLed sources start h (next.Go p)
   led_open g h f p opens back is_led =
       let x = opened sources g.state f p is_led.at is_led.shown in
@@ -76,9 +77,10 @@ module _ (sources : Sources) (start : model.Next) where
         contexts = x.0 ∷ is_led.contexts;
         frames = rw back (x.2, is_led.frames);
         depth = opens.2 x.0 x.2 ∙ ap (λ (d : model.Depth). deeper x.0 d) is_led.depth;
-        at = Go x.1 (place_lines p);
+        at = Go x.1 (cursor_lines p);
         shown = (subst (λ (c : Expansion). Represents c x.1) (sym opens.0) x.3, refl);
-        leads = leads_under sources start is_led.contexts x.0 x.1 (place_lines p) (subst (λ (m : model.Next). Leads sources start is_led.contexts m) x.4 is_led.leads);
+        leads = leads_under sources start is_led.contexts x.0 x.1 (cursor_lines p)
+            (subst (λ (m : model.Next). Leads sources start is_led.contexts m) x.4 is_led.leads);
       }
 
   -- ---- lines ended
@@ -152,13 +154,21 @@ module _ (sources : Sources) (start : model.Next) where
 
   pub bad_runs : (cs : List Context) (at : model.Next) (name : List ℕ) (n : ℕ) (k : LineKind) → at ≡ Stop (model.Bad name n k)
       → Leads sources start cs at → RunsTo sources start (FaultAt name n k)
-  bad_runs cs at name n k e leads =
-      (model.Bad name n k, leads.to (model.Bad name n k) (subst (λ (m : model.Next). Unwound sources cs m (model.Bad name n k)) (sym e) (bad_unwound cs name n k)), refl)
+  bad_runs cs at name n k e leads = (
+    model.Bad name n k,
+    leads.to (model.Bad name n k) (subst (λ (m : model.Next). Unwound sources cs m (model.Bad name n k)) (sym e)
+        (bad_unwound cs name n k)),
+    refl,
+  )
 
   pub missing_runs : (cs : List Context) (at : model.Next) (name : List ℕ) → at ≡ Stop (model.Missing name)
       → Leads sources start cs at → RunsTo sources start (MissingFile name)
-  missing_runs cs at name e leads =
-      (model.Missing name, leads.to (model.Missing name) (subst (λ (m : model.Next). Unwound sources cs m (model.Missing name)) (sym e) (missing_unwound cs name)), refl)
+  missing_runs cs at name e leads = (
+    model.Missing name,
+    leads.to (model.Missing name) (subst (λ (m : model.Next). Unwound sources cs m (model.Missing name)) (sym e)
+        (missing_unwound cs name)),
+    refl,
+  )
 
   -- ---- refusals of lines
 

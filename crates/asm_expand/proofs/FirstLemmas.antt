@@ -13,12 +13,12 @@ use Rattle.expand_model.specs.Steps.{Sources, Depth, Reads, ReadsText, defined_a
 use Rattle.expand_model.specs.Substitution.{substituted}
 use Rattle.expand_model.specs.Words.{raw_words_of}
 use Rattle.asm_variables.specs.declared.expansion.Expansion.{Expansion}
-use Rattle.asm_expand.specs.declared.places.Place.{Place}
+use Rattle.asm_expand.specs.declared.line_cursors.LineCursor.{LineCursor}
 use Rattle.asm_expand.specs.declared.steps.End.TheVariants as end
 use Rattle.asm_expand.specs.declared.steps.Next.{Next}
 use Rattle.asm_expand.specs.declared.steps.Next.TheVariants as next
 use Rattle.asm_variables.specs.Expanding.{Represents}
-use Rattle.asm_expand.specs.Places.{place_lines}
+use Rattle.asm_expand.specs.LineCursors.{cursor_lines}
 use Rattle.asm_expand.specs.Saying.{Shows}
 use Rattle.asm_expand.proofs.ReadingLemmas.{some_operand}
 use Rattle.asm_expand.proofs.SayingLemmas.{shows_bad}
@@ -38,8 +38,8 @@ unfolding first_line
 over_at sources d c s [] e r = (Err Syntax, refl, r)
 over_at sources d c s (l ∷ ls) e r = absurd (cc)
 
-pub zero_at : (sources : Sources) (d : Depth) (c : Expansion) (at : Place) (s : State) (ls : List Line) (l : Line) (rest : List Line)
-    → place_lines at ≡ ls → ls ≡ l ∷ rest → (s.visits == 0) ≡ true → Reading sources d c (next.Bad at TooMany) s ls
+pub zero_at : (sources : Sources) (d : Depth) (c : Expansion) (at : LineCursor) (s : State) (ls : List Line) (l : Line) (rest : List Line)
+    → cursor_lines at ≡ ls → ls ≡ l ∷ rest → (s.visits == 0) ≡ true → Reading sources d c (next.Bad at TooMany) s ls
 unfolding first_line
 zero_at sources d c at s [] l rest h e z = absurd (cc)
 zero_at sources d c at s (m ∷ ms) l rest h e z =
@@ -52,10 +52,12 @@ visited_text : (s : State) (text : List ℕ) → substituted (visited s) text �
 unfolding substituted
 visited_text s text = refl
 
-pub line_at : (sources : Sources) (d : Depth) (c : Expansion) (n : Next) (at : Place) (s : State) (text : List ℕ) (ls : List Line) (l : Line) (rest : List Line)
-    → place_lines at ≡ ls → ls ≡ l ∷ rest → (s.visits == 0) ≡ false → text ≡ l.text
-    → ((m : Line) (ms : List Line) → place_lines at ≡ m ∷ ms
-    → (x : Operand) × ReadsText s.macros (substituted (visited s) text) x × Shows sources c n (said_text sources d m x (visited s) ms (substituted (visited s) text)))
+pub line_at : (sources : Sources) (d : Depth) (c : Expansion) (n : Next) (at : LineCursor) (s : State) (text : List ℕ) (ls : List Line) (l : Line)
+    (rest : List Line)
+    → cursor_lines at ≡ ls → ls ≡ l ∷ rest → (s.visits == 0) ≡ false → text ≡ l.text
+    → ((m : Line) (ms : List Line) → cursor_lines at ≡ m ∷ ms
+    → (x : Operand) × ReadsText s.macros (substituted (visited s) text) x × Shows sources c n
+    (said_text sources d m x (visited s) ms (substituted (visited s) text)))
     → Reading sources d c n s ls
 unfolding first_line
 line_at sources d c n at s text [] l rest h e z t reads = absurd (cc)

@@ -12,7 +12,7 @@ use Rattle.expand_model.specs.Gets.{without}
 use Rattle.expand_model.specs.Steps.{Sources}
 use Rattle.expand_model.specs.Steps as model
 use Rattle.asm_expand.specs.declared.engine.Engine.{Engine}
-use Rattle.asm_expand.specs.declared.places.Place.{Place}
+use Rattle.asm_expand.specs.declared.line_cursors.LineCursor.{LineCursor}
 use Rattle.asm_expand.specs.declared.steps.Next.{Next}
 use Rattle.asm_expand.specs.declared.steps.Next.TheVariants as next
 use Rattle.asm_expand.specs.Leading.{IsGetOf, IsLed, IsLedWithout, IsReadOf, LedOn, OfFiles, ReadsAlike, RunsTo, RunsToGet}
@@ -37,7 +37,7 @@ kept : (file name : List ℕ) (sources : Sources) → same file name ≡ false �
 kept file name sources e = rw e refl
 
 -- a file that isn't there ends the run
-missing_get : (sources : Sources) (start : model.Next) (file : List ℕ) (g : Engine) (p : Place)
+missing_get : (sources : Sources) (start : model.Next) (file : List ℕ) (g : Engine) (p : LineCursor)
     → IsLed (without file sources) start g (next.Get file p) → RunsToGet sources start file
 missing_get sources start file g p led =
     let x = get_told (without file sources) start g file p (fault.Refused (Missing file)) (λ s. rw (gone file sources) refl) led in
@@ -56,7 +56,8 @@ without_next files start g h (next.Bad p k) after file on (inr led) = inr (on (w
 without_next files start g h (next.Get name p) after file on (inr led) = by (same file name) refl
   where
     by : (b : Bool) → same file name ≡ b → GotOrLed files start h after file
-    by true e = inl (missing_get (content files) start file g p (subst (λ (q : List ℕ). IsLed (without file (content files)) start g (next.Get q p)) (sym (same_true file name e)) led))
+    by true e = inl (missing_get (content files) start file g p (subst (λ (q : List ℕ). IsLed (without file (content files)) start g (next.Get q p))
+        (sym (same_true file name e)) led))
     by false e = inr (on (without file (content files)) start (kept file name (content files) e) led)
 
 pub led_without : (told : Option Files) (start : model.Next) (g h : Engine) (n after : Next) → LedOn told g n h (Ok (Some after))

@@ -11,7 +11,8 @@ pub or_first : (a b : Bool) → (a || b) ≡ ((a || false) || b)
 or_first true b = refl
 or_first false b = refl
 
-pub labels_listed : (q : List ℕ) (o : Option (List ℕ)) (ns : List (List ℕ)) → list_any (λ n. same n q) (listed o ++ ns) ≡ (list_any (λ n. same n q) (listed o) || list_any (λ n. same n q) ns)
+pub labels_listed : (q : List ℕ) (o : Option (List ℕ)) (ns : List (List ℕ))
+    → list_any (λ n. same n q) (listed o ++ ns) ≡ (list_any (λ n. same n q) (listed o) || list_any (λ n. same n q) ns)
 labels_listed q None ns = refl
 labels_listed q (Some n) ns = by (same n q) (list_any (λ m. same m q) ns)
   where
@@ -28,7 +29,8 @@ number_known get n q k h = by (get q) refl (same n q) refl
     by None e false f = refl
     by None e true f = let x = same_true n q f in let y = rw x at h in absurd (let z : is_some (get q) ≡ false = rw e refl in cc)
 
-pub number_new : (get : List ℕ → Option ℕ) (n q : List ℕ) (k : ℕ) → is_some (get n) ≡ false → cond (same n q) (Some k) (get q) ≡ or_else (get q) (cond (same n q) (Some k) None)
+pub number_new : (get : List ℕ → Option ℕ) (n q : List ℕ) (k : ℕ) → is_some (get n) ≡ false
+    → cond (same n q) (Some k) (get q) ≡ or_else (get q) (cond (same n q) (Some k) None)
 number_new get n q k h = by (get q) refl (same n q) refl
   where
     by : (o : Option ℕ) → get q ≡ o → (b : Bool) → same n q ≡ b → cond b (Some k) o ≡ or_else o (cond b (Some k) None)

@@ -23,7 +23,7 @@ use Rattle.expand_model.specs.Substitution.{substituted}
 use Rattle.expand_model.specs.Words.{Words, words_of}
 use Rattle.asm_variables.specs.declared.expansion.Expansion.{Expansion}
 use Rattle.asm_expand.specs.declared.steps.Next.{Next}
-use Rattle.asm_expand.specs.Reading.{said_by}
+use Rattle.asm_expand.specs.FirstLines.{said_by}
 use Rattle.asm_expand.specs.Saying.{Shows}
 use Rattle.asm_expand.proofs.ScanningLemmas.{some_scan}
 
@@ -70,7 +70,8 @@ said_is sources d l text x s ls (Called m) = refl
 said_is sources d l text x s ls Plain = refl
 
 -- what a line says with its words and the operand that is read
-pub text_said : (sources : Sources) (d : Depth) (c : Expansion) (n : Next) (s : State) (l : Line) (ls : List Line) (text : List ℕ) (w : Words) (k : Kind) (x : Operand)
+pub text_said : (sources : Sources) (d : Depth) (c : Expansion) (n : Next) (s : State) (l : Line) (ls : List Line) (text : List ℕ) (w : Words) (k : Kind)
+    (x : Operand)
     → nat_lt line_bytes (length text) ≡ false → k ≡ kind_of s.macros w → w ≡ words_of text
     → MatchBool (takes_expression k w.operation) (ReadsExpression text x) (x ≡ Err Syntax)
     → Shows sources c n (said_by sources d l text w x s ls k)

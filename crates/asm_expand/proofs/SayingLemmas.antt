@@ -8,12 +8,12 @@ use Rattle.asm_model.specs.Kinds.{earliest, earlier, told_kind}
 use Rattle.asm_model.proofs.FaultLemmas.{told_by_parts}
 use Rattle.expand_model.specs.Steps.{Sources, Next, bad, judged, valued}
 use Rattle.asm_variables.specs.declared.expansion.Expansion.{Expansion}
-use Rattle.asm_expand.specs.declared.places.Place.{Place}
+use Rattle.asm_expand.specs.declared.line_cursors.LineCursor.{LineCursor}
 use Rattle.asm_expand.specs.declared.steps.Next.TheVariants as next
-use Rattle.asm_expand.specs.Places.{place_lines}
+use Rattle.asm_expand.specs.LineCursors.{cursor_lines}
 use Rattle.asm_expand.specs.Saying.{Shows, settled}
 
-pub shows_bad : (sources : Sources) (c : Expansion) (at : Place) (k : LineKind) (l : Line) (ls : List Line) → place_lines at ≡ l ∷ ls
+pub shows_bad : (sources : Sources) (c : Expansion) (at : LineCursor) (k : LineKind) (l : Line) (ls : List Line) → cursor_lines at ≡ l ∷ ls
     → Shows sources c (next.Bad at k) (bad l k)
 shows_bad sources c at k l ls h = (refl, (l, (ls, h), refl, refl))
 
@@ -38,7 +38,8 @@ valued_settled l kinds (Err k) f (Some j) e =
     ap (λ (i : LineKind). bad l i) g
 
 -- a fault is told
-pub valued_bad : {A : Type 0} (l : Line) (kinds : List LineKind) (r : Result A LineKind) (f : A → Next) (o : Option LineKind) (given : Result A LineKind) (k : LineKind)
+pub valued_bad : {A : Type 0} (l : Line) (kinds : List LineKind) (r : Result A LineKind) (f : A → Next) (o : Option LineKind) (given : Result A LineKind)
+    (k : LineKind)
     → o ≡ told_kind kinds → given ≡ r → Err k ≡ settled o given → valued l kinds r f ≡ bad l k
 valued_bad l kinds r f o given k told same h =
     valued_settled l kinds r f o (sym told) ∙ ap (after l f) (ap (λ x. settled o x) (sym same) ∙ sym h)

@@ -48,7 +48,8 @@ no_tokens : (due : Due) (place : ℕ) (rest : List ℕ) → is_end due rest ≡ 
 no_tokens due place rest e none [] p = let q = p in absurd (cc)
 no_tokens due place rest e none (t ∷ ts) p = none t.kind p.0 p.3
 
-module _ (due : Due) (place : ℕ) (rest : List ℕ) (e : is_end due rest ≡ false) (kind : TokenKind) (n : ℕ) (the : IsTheToken due (bare rest) (Some (kind, n))) where
+module _ (due : Due) (place : ℕ) (rest : List ℕ) (e : is_end due rest ≡ false) (kind : TokenKind) (n : ℕ)
+    (the : IsTheToken due (bare rest) (Some (kind, n))) where
   abbrev start : ℕ
   start = place + blanks rest
 

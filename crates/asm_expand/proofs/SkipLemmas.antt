@@ -2,9 +2,9 @@
 use Rattle.std.proofs.Common.{◌≡◌, ℕ, zero, suc, ◌<◌, List, [], ◌∷◌, arith}
 use Rattle.asm_model.specs.declared.lines.Line.{Line}
 use Rattle.expand_model.specs.declared.operations.Opening.{Opening}
-use Rattle.expand_model.specs.Pairing.{Behind, Stays, Closes, Turns, Unpaired, Turned, skipped, skipped_line, behind_line, raw_operation}
+use Rattle.expand_model.specs.Pairing.{OpeningAfter, Stays, Closes, Turns, Unpaired, Turned, skipped, skipped_line, behind_line, raw_operation}
 
-behind : (n : ℕ) (l : Line) (ls : List Line) (m : ℕ) (rest : List Line) (b : Behind)
+behind : (n : ℕ) (l : Line) (ls : List Line) (m : ℕ) (rest : List Line) (b : OpeningAfter)
     → ((p : Opening) (ps : List Opening) → skipped p ps n ls ≡ Turned m rest → m < n)
     → skipped_line b l n ls (λ p ps. skipped p ps n ls) ≡ Turned m rest → m < suc n
 behind n l ls m rest (Stays p ps) later h = let r = later p ps h in omega arith

@@ -18,10 +18,10 @@ use Rattle.expand_model.specs.Words.{raw_words_of}
 use Rattle.asm_variables.specs.Maps.{Set, has_name}
 use Rattle.asm_variables.specs.declared.expansion.Definition.{Definition}
 use Rattle.asm_variables.specs.declared.expansion.Expansion.{Expansion}
-use Rattle.asm_expand.specs.declared.places.Place.{Place}
+use Rattle.asm_expand.specs.declared.line_cursors.LineCursor.{LineCursor}
 use Rattle.asm_expand.specs.declared.steps.Next.{Next as CodeNext}
 use Rattle.asm_variables.specs.Expanding.{Represents, macro_of}
-use Rattle.asm_expand.specs.Places.{place_lines}
+use Rattle.asm_expand.specs.LineCursors.{cursor_lines}
 use Rattle.asm_expand.specs.Saying.{IsFirst, Shows}
 use Rattle.asm_variables.specs.Valued.{Values}
 
@@ -29,10 +29,10 @@ abbrev pub IsDefinition : Prototype → List Line → Definition → Type 0
 IsDefinition p body d = macro_of d ≡ record { prototype = p; body = body }
 
 -- what follows a prototype
-abbrev pub Defines : Place → Place → Prototype → Expansion → Expansion → CodeNext → Type 0
+abbrev pub Defines : LineCursor → LineCursor → Prototype → Expansion → Expansion → CodeNext → Type 0
 Defines at body p old new n =
     (sources : Sources) (s : State) (l : Line) → IsFirst at l → Represents old s
-    → Shows sources new n (defined_as p l s (taken s.visits (place_lines body)))
+    → Shows sources new n (defined_as p l s (taken s.visits (cursor_lines body)))
 
 abbrev pub names_of : List Parameter → List (List ℕ)
 names_of ps = map (λ p. p.name) ps

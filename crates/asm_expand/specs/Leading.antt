@@ -15,7 +15,7 @@ use Rattle.expand_model.specs.States.{State, started}
 use Rattle.expand_model.specs.Steps.{Sources, Context, Stop, got, visit_limit}
 use Rattle.expand_model.specs.Steps as model
 use Rattle.asm_expand.specs.declared.engine.Engine.{Engine}
-use Rattle.asm_expand.specs.declared.places.Place.{Place}
+use Rattle.asm_expand.specs.declared.line_cursors.LineCursor.{LineCursor}
 use Rattle.asm_expand.specs.declared.steps.Depth.{Depth}
 use Rattle.asm_expand.specs.declared.steps.End.{End}
 use Rattle.asm_expand.specs.declared.steps.End.TheVariants as end
@@ -23,7 +23,7 @@ use Rattle.asm_expand.specs.declared.steps.Frame.{Frame}
 use Rattle.asm_expand.specs.declared.steps.Next.{Next}
 use Rattle.asm_expand.specs.declared.steps.Next.TheVariants as next
 use Rattle.asm_variables.specs.Expanding.{Represents}
-use Rattle.asm_expand.specs.Places.{place_lines}
+use Rattle.asm_expand.specs.LineCursors.{cursor_lines}
 use Rattle.asm_expand.specs.Saying.{IsFirst, IsFrame, Shows, depth_of}
 use Rattle.asm_expand.specs.Unwinding.{Leads, depth_under}
 
@@ -118,7 +118,7 @@ IsLedWithout sources start g n =
 abbrev pub Starts : Engine → Type 0
 Starts g = Represents g.state (started visit_limit) × (g.frames.items ≡ []) × (depth_of g.depth ≡ outermost)
 
-abbrev pub IsBadAt : Place → LineKind → Fault → Type 0
+abbrev pub IsBadAt : LineCursor → LineKind → Fault → Type 0
 IsBadAt p k e = (l : Line) → IsFirst p l → IsBadLine l.source l.number k e
 
 abbrev pub IsDeeper : Frame → Depth → Depth → Type 0
@@ -133,19 +133,19 @@ abbrev pub Opens : Frame → Engine → Engine → Type 0
 Opens f old new = (new.state ≡ old.state) × (new.frames.items ≡ old.frames.items ++ f ∷ []) × IsDeeper f old.depth new.depth
 
 -- the lines of a file, where the store tells it
-abbrev pub GetsFrom : Sources → List ℕ → Place → Result Next Fault → Type 0
+abbrev pub GetsFrom : Sources → List ℕ → LineCursor → Result Next Fault → Type 0
 GetsFrom sources name behind (Ok n) =
-    (g : Engine) (s : State) → Represents g.state s → Shows sources g.state n (got name s (place_lines behind) (sources name))
+    (g : Engine) (s : State) → Represents g.state s → Shows sources g.state n (got name s (cursor_lines behind) (sources name))
 GetsFrom sources name behind (Err (fault.Refused (BadLine source n k))) =
-    (s : State) → got name s (place_lines behind) (sources name) ≡ Stop (model.Bad source n k)
+    (s : State) → got name s (cursor_lines behind) (sources name) ≡ Stop (model.Bad source n k)
 GetsFrom sources name behind (Err (fault.Refused (Missing q))) =
-    (s : State) → got name s (place_lines behind) (sources name) ≡ Stop (model.Missing q)
+    (s : State) → got name s (cursor_lines behind) (sources name) ≡ Stop (model.Missing q)
 GetsFrom sources name behind (Err (fault.Refused _)) = ⊥
 GetsFrom sources name behind (Err (fault.ReadFault q)) = Unit {0}
 GetsFrom sources name behind (Err fault.NoMemory) = Unit {0}
 
 -- by all that have the file as the store tells it
-abbrev pub Gets : List ℕ → Place → Option Files → Result Next Fault → Type 0
+abbrev pub Gets : List ℕ → LineCursor → Option Files → Result Next Fault → Type 0
 Gets name behind None result = Unit {0}
 Gets name behind (Some files) result =
     (sources : Sources) → sources name ≡ content files name → GetsFrom sources name behind result

@@ -2,10 +2,10 @@
 pub mod Calling
 pub mod Declaring
 pub mod Defining
+pub mod FirstLines
 pub mod Leading
-pub mod Places
+pub mod LineCursors
 pub mod Plain
-pub mod Reading
 pub mod Saying
 pub mod Turning
 pub mod Unwinding

@@ -11,9 +11,9 @@ use Rattle.expand_model.specs.Steps.{equ_number, flat_of, is_equ, number_rows}
 use Rattle.expand_model.specs.Words.{listed}
 use Rattle.asm_variables.specs.Maps.{Map, Set, value_named, has_name}
 use Rattle.asm_variables.specs.declared.expansion.Expansion.{Expansion}
-use Rattle.asm_expand.specs.declared.places.Place.{Place}
+use Rattle.asm_expand.specs.declared.line_cursors.LineCursor.{LineCursor}
 use Rattle.asm_variables.specs.Expanding.{Becomes}
-use Rattle.asm_expand.specs.Places.{place_lines}
+use Rattle.asm_expand.specs.LineCursors.{cursor_lines}
 use Rattle.asm_variables.specs.Valued.{Values}
 
 abbrev pub IsNumber : List ℕ → Expansion → Operand → Option ℕ → Type 0
@@ -40,6 +40,6 @@ abbrev pub Pushes : Flat → Option (List ℕ) → Option ℕ → Bool → Expan
 Pushes flat name number thumb old new = Becomes old new (noted flat name number thumb)
 
 -- the flat line that the first line becomes
-abbrev pub IsFlat : Place → List ℕ → Option Flat → Type 0
-IsFlat at text None = place_lines at ≡ []
-IsFlat at text (Some flat) = (l : Line) × (ls : List Line) × (place_lines at ≡ l ∷ ls) × (flat ≡ flat_of l text)
+abbrev pub IsFlat : LineCursor → List ℕ → Option Flat → Type 0
+IsFlat at text None = cursor_lines at ≡ []
+IsFlat at text (Some flat) = (l : Line) × (ls : List Line) × (cursor_lines at ≡ l ∷ ls) × (flat ≡ flat_of l text)

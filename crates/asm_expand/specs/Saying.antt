@@ -9,7 +9,7 @@ use Rattle.expand_model.specs.States.{State}
 use Rattle.expand_model.specs.Steps.{Sources, Context, Condition, Alternative, Loop, Call, File, Over, Closed, Left, Ended, Cut, Unclosed, Bad, Stop, Go, Under, got, behind_skipped}
 use Rattle.expand_model.specs.Steps as model
 use Rattle.asm_variables.specs.declared.expansion.Expansion.{Expansion}
-use Rattle.asm_expand.specs.declared.places.Place.{Place}
+use Rattle.asm_expand.specs.declared.line_cursors.LineCursor.{LineCursor}
 use Rattle.asm_expand.specs.declared.steps.Depth.{Depth}
 use Rattle.asm_expand.specs.declared.steps.End.{End}
 use Rattle.asm_expand.specs.declared.steps.End.TheVariants as end
@@ -18,26 +18,26 @@ use Rattle.asm_expand.specs.declared.steps.Frame.TheVariants as frame
 use Rattle.asm_expand.specs.declared.steps.Next.{Next}
 use Rattle.asm_expand.specs.declared.steps.Next.TheVariants as next
 use Rattle.asm_variables.specs.Expanding.{HasScope, Represents}
-use Rattle.asm_expand.specs.Places.{place_lines}
+use Rattle.asm_expand.specs.LineCursors.{cursor_lines}
 
 abbrev pub depth_of : Depth → model.Depth
 depth_of d = record { constructs = d.constructs; files = d.files }
 
 -- the line stands first there
-abbrev pub IsFirst : Place → Line → Type 0
-IsFirst p l = (ls : List Line) × (place_lines p ≡ l ∷ ls)
+abbrev pub IsFirst : LineCursor → Line → Type 0
+IsFirst p l = (ls : List Line) × (cursor_lines p ≡ l ∷ ls)
 
 abbrev pub IsFrame : Frame → Context → Type 0
 IsFrame (frame.Condition p) (Condition l) = IsFirst p l
 IsFrame (frame.Alternative p) (Alternative l) = IsFirst p l
-IsFrame (frame.Loop p) (Loop l ls) = place_lines p ≡ l ∷ ls
-IsFrame (frame.Call c p) (Call scope ls) = HasScope c scope × (place_lines p ≡ ls)
-IsFrame (frame.File p) (File ls) = place_lines p ≡ ls
+IsFrame (frame.Loop p) (Loop l ls) = cursor_lines p ≡ l ∷ ls
+IsFrame (frame.Call c p) (Call scope ls) = HasScope c scope × (cursor_lines p ≡ ls)
+IsFrame (frame.File p) (File ls) = cursor_lines p ≡ ls
 IsFrame _ _ = ⊥
 
 abbrev pub IsEnd : Expansion → End → model.End → Type 0
 IsEnd c end.Over (Over s) = Represents c s
-IsEnd c (end.Closed o p) (Closed q l s ls) = (o ≡ q) × (place_lines p ≡ l ∷ ls) × Represents c s
+IsEnd c (end.Closed o p) (Closed q l s ls) = (o ≡ q) × (cursor_lines p ≡ l ∷ ls) × Represents c s
 IsEnd c (end.Left p) (Left l s) = IsFirst p l × Represents c s
 IsEnd c end.Ended (Ended s) = Represents c s
 IsEnd c (end.Cut p) (Cut l) = IsFirst p l
@@ -45,7 +45,7 @@ IsEnd c (end.Unclosed p) (Unclosed l) = IsFirst p l
 IsEnd c _ _ = ⊥
 
 -- a fault of the first line there
-abbrev pub IsBad : Place → LineKind → model.End → Type 0
+abbrev pub IsBad : LineCursor → LineKind → model.End → Type 0
 IsBad p k (Bad name n j) = (k ≡ j) × ((l : Line) × IsFirst p l × (l.source ≡ name) × (l.number ≡ n))
 IsBad p k _ = ⊥
 
@@ -53,28 +53,28 @@ IsBad p k _ = ⊥
 abbrev pub Shows : Sources → Expansion → Next → model.Next → Type 0
 Shows sources c (next.Stop e) (Stop m) = IsEnd c e m
 Shows sources c (next.Bad p k) (Stop m) = IsBad p k m
-Shows sources c (next.Go p) (Go s ls) = Represents c s × (place_lines p ≡ ls)
-Shows sources c (next.Under f p) (Under m s ls) = IsFrame f m × Represents c s × (place_lines p ≡ ls)
-Shows sources c (next.Get name p) m = (s : State) × Represents c s × (m ≡ got name s (place_lines p) (sources name))
+Shows sources c (next.Go p) (Go s ls) = Represents c s × (cursor_lines p ≡ ls)
+Shows sources c (next.Under f p) (Under m s ls) = IsFrame f m × Represents c s × (cursor_lines p ≡ ls)
+Shows sources c (next.Get name p) m = (s : State) × Represents c s × (m ≡ got name s (cursor_lines p) (sources name))
 Shows sources c _ _ = ⊥
 
 -- the first line there says this, of each state that the code has
-abbrev pub Says : Place → Expansion → Expansion → Next → (State → Line → List Line → model.Next) → Type 0
+abbrev pub Says : LineCursor → Expansion → Expansion → Next → (State → Line → List Line → model.Next) → Type 0
 Says at old new n f =
-    (sources : Sources) (s : State) (l : Line) (ls : List Line) → place_lines at ≡ l ∷ ls → Represents old s
+    (sources : Sources) (s : State) (l : Line) (ls : List Line) → cursor_lines at ≡ l ∷ ls → Represents old s
     → Shows sources new n (f s l ls)
 
 -- the same, where what it says depends on files
-abbrev pub SaysFrom : Place → Expansion → Expansion → Next → (Sources → State → Line → List Line → model.Next) → Type 0
+abbrev pub SaysFrom : LineCursor → Expansion → Expansion → Next → (Sources → State → Line → List Line → model.Next) → Type 0
 SaysFrom at old new n f =
-    (sources : Sources) (s : State) (l : Line) (ls : List Line) → place_lines at ≡ l ∷ ls → Represents old s
+    (sources : Sources) (s : State) (l : Line) (ls : List Line) → cursor_lines at ≡ l ∷ ls → Represents old s
     → Shows sources new n (f sources s l ls)
 
 -- what follows the lines from a place on that the word at another place skips
-abbrev pub SkipsFrom : Place → Place → Opening → Expansion → Expansion → Next → Type 0
+abbrev pub SkipsFrom : LineCursor → LineCursor → Opening → Expansion → Expansion → Next → Type 0
 SkipsFrom at from opening old new n =
     (sources : Sources) (s : State) (l : Line) → IsFirst at l → Represents old s
-    → Shows sources new n (behind_skipped l s (skipped opening [] s.visits (place_lines from)))
+    → Shows sources new n (behind_skipped l s (skipped opening [] s.visits (cursor_lines from)))
 
 -- fewer lines may be visited where a construct is opened, and never more
 abbrev pub Shortens : Next → ℕ → ℕ → Type 0

@@ -13,16 +13,16 @@ ghost use Rattle.asm_expand.specs.Saying.{Says, depth_of};
 ghost use Rattle.asm_variables.specs.Steps.{words_shown};
 
 use crate::faults::{depth_fault, is_some_text};
-use crate::places::Place;
+use crate::line_cursors::LineCursor;
 use crate::steps::{Depth, Frame, Next};
 use asm_expr::operands::is;
 use asm_expr::told::{first_told, kind_if};
 use asm_lines::bytes::is_digit;
 use asm_variables::expansion::{Definition, Expansion, Scope};
+use asm_variables::line_fields::Words;
 use asm_variables::maps::put;
 use asm_variables::operands::arguments;
 use asm_variables::prototypes::{is_barred, is_name};
-use asm_variables::words::Words;
 use expand_model::{Parameter, Prototype};
 use indexmap::IndexMap;
 use sdt_fault::kinds::LineKind;
@@ -177,7 +177,7 @@ pub fn call(
     alloc: Global,
     depth: Depth,
     state: &mut Expansion,
-    at: Place,
+    at: LineCursor,
     words: Words<'_>,
     called: Definition,
 ) -> Result<Next, NoMemory>
@@ -192,7 +192,7 @@ pub fn call(
         return Ok(Next::Bad(at, kind));
     }
     let scope = scope_of(alloc, prototype, words.label, texts.as_slice())?;
-    let body = Place::of_body(&called.body)?;
+    let body = LineCursor::of_body(&called.body)?;
     let outer = state.enter(scope);
     Ok(Next::Under(Frame::Call(outer, at.past(1)), body))
 }

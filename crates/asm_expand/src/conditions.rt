@@ -8,13 +8,13 @@ ghost use Rattle.asm_expand.specs.Saying.{Says, SkipsFrom, Shortens, depth_of};
 ghost use Rattle.asm_variables.specs.Steps.{words_shown};
 
 use crate::faults::{opening_fault, settle};
-use crate::places::Place;
+use crate::line_cursors::LineCursor;
 use crate::steps::{Depth, End, Frame, Next};
 use asm_model::{Expr, Value};
 use asm_variables::expansion::Expansion;
+use asm_variables::line_fields::Words;
 use asm_variables::pairing::{Skipping, skip};
 use asm_variables::values::value_of;
-use asm_variables::words::Words;
 use expand_model::Opening;
 use sdt_fault::NoMemory;
 use sdt_fault::kinds::LineKind;
@@ -25,8 +25,8 @@ pub fn skip_from(
     alloc: Global,
     state: &mut Expansion,
     opening: Opening,
-    at: Place,
-    from: Place,
+    at: LineCursor,
+    from: LineCursor,
 ) -> Result<Next, NoMemory>
     ensures says { IfOk result (λ next. SkipsFrom at from opening state.old state.new next) }
     ensures visits { IfOk result (λ next. Shortens next state.old.visits state.new.visits) }
@@ -48,7 +48,12 @@ pub fn skip_from(
 }
 
 /// What follows an IF.
-fn branch(alloc: Global, state: &mut Expansion, at: Place, truth: bool) -> Result<Next, NoMemory>
+fn branch(
+    alloc: Global,
+    state: &mut Expansion,
+    at: LineCursor,
+    truth: bool,
+) -> Result<Next, NoMemory>
     ensures says { IfOk result
         (λ next. Says at state.old state.new next (λ s l ls. model.branch l s ls truth)) }
     ensures visits { state.new.visits ≤ state.old.visits }
@@ -65,7 +70,7 @@ fn branch(alloc: Global, state: &mut Expansion, at: Place, truth: bool) -> Resul
 fn turn_around(
     alloc: Global,
     state: &mut Expansion,
-    at: Place,
+    at: LineCursor,
     truth: bool,
 ) -> Result<Next, NoMemory>
     ensures says { IfOk result
@@ -96,7 +101,7 @@ pub fn say_if(
     alloc: Global,
     depth: Depth,
     state: &mut Expansion,
-    at: Place,
+    at: LineCursor,
     words: Words<'_>,
     operand: &Result<Expr, LineKind>,
 ) -> Result<Next, NoMemory>
@@ -122,7 +127,7 @@ pub fn say_while(
     alloc: Global,
     depth: Depth,
     state: &mut Expansion,
-    at: Place,
+    at: LineCursor,
     words: Words<'_>,
     operand: &Result<Expr, LineKind>,
 ) -> Result<Next, NoMemory>

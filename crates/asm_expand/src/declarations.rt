@@ -11,15 +11,15 @@ ghost use Rattle.asm_expand.specs.Saying.{Says};
 ghost use Rattle.asm_variables.specs.Steps.{words_shown};
 
 use crate::faults::{is_long, label_fault, long_fault, settle};
-use crate::places::Place;
+use crate::line_cursors::LineCursor;
 use crate::steps::Next;
 use asm_expr::told::{first_told, kind_if};
 use asm_model::{Expr, Value};
 use asm_variables::expansion::Expansion;
+use asm_variables::line_fields::Words;
 use asm_variables::operands::operand_text;
 use asm_variables::prototypes::name_of;
 use asm_variables::values::value_of;
-use asm_variables::words::Words;
 use expand_model::Sort;
 use sdt_fault::kinds::LineKind;
 use sdt_fault::{Bytes, NoMemory, Text};
@@ -64,7 +64,7 @@ fn global_fault(state: &Expansion, words: Words<'_>, name: &Text) -> Option<Line
 pub fn say_global(
     alloc: Global,
     state: &mut Expansion,
-    at: Place,
+    at: LineCursor,
     words: Words<'_>,
     sort: Sort,
 ) -> Result<Next, NoMemory>
@@ -104,7 +104,7 @@ fn local_fault(state: &Expansion, words: Words<'_>, name: &Text) -> Option<LineK
 pub fn say_local(
     alloc: Global,
     state: &mut Expansion,
-    at: Place,
+    at: LineCursor,
     words: Words<'_>,
     sort: Sort,
 ) -> Result<Next, NoMemory>
@@ -170,7 +170,7 @@ fn of_type(sort: Sort, value: Result<Value, LineKind>) -> Result<Value, LineKind
 pub fn say_set(
     alloc: Global,
     state: &mut Expansion,
-    at: Place,
+    at: LineCursor,
     words: Words<'_>,
     sort: Sort,
     operand: &Result<Expr, LineKind>,

@@ -9,15 +9,15 @@ ghost use Rattle.asm_expand.specs.Saying.{Says};
 ghost use Rattle.expand_model.specs.Words.{listed};
 
 use crate::faults::is_long;
-use crate::places::Place;
+use crate::line_cursors::LineCursor;
 use crate::steps::{End, Next};
 use asm_expr::told::{first_told, kind_if};
 use asm_model::Line;
 use asm_variables::expansion::{Definition, Expansion};
+use asm_variables::line_fields::raw_words_of;
 use asm_variables::maps::{add, is_among};
 use asm_variables::pairing::{Taking, raw_operation, take_body};
 use asm_variables::prototypes::prototype_of;
-use asm_variables::words::raw_words_of;
 use expand_model::{Operation, Parameter, Prototype};
 use indexmap::IndexSet;
 use sdt_fault::kinds::LineKind;
@@ -28,7 +28,7 @@ use std::rc::Rc;
 fn line_copy(alloc: Global, line: &Line) -> Result<Line, NoMemory>
     ensures { IfOk result (λ copy. copy ≡ line.now) }
 {
-    let source = line.source.try_clone(alloc)?;
+    let source = line.source.share()?;
     let text = line.text.try_clone(alloc)?;
     Ok(Line {
         source,
@@ -76,8 +76,8 @@ fn definition_of(
 fn defined(
     alloc: Global,
     state: &mut Expansion,
-    at: Place,
-    body: Place,
+    at: LineCursor,
+    body: LineCursor,
     prototype: Prototype,
 ) -> Result<Next, NoMemory>
     ensures says { IfOk result (λ next. Defines at body prototype state.old state.new next) }
@@ -232,7 +232,7 @@ fn prototype_on(
 }
 
 /// What a MACRO says, whose prototype is the next line.
-pub fn definition(alloc: Global, state: &mut Expansion, at: Place) -> Result<Next, NoMemory>
+pub fn definition(alloc: Global, state: &mut Expansion, at: LineCursor) -> Result<Next, NoMemory>
     ensures says { IfOk result
         (λ next. Says at state.old state.new next (λ s l ls. model.definition l s ls)) }
     ensures visits { state.new.visits ≤ state.old.visits }

@@ -6,14 +6,14 @@ ghost use Rattle.expand_model.specs.Expands.{Expands, Flats};
 ghost use Rattle.expand_model.specs.Gets.{GetsFile};
 ghost use Rattle.expand_model.specs.States.{started};
 ghost use Rattle.expand_model.specs.Steps.{Go, visit_limit};
-ghost use Rattle.asm_expand.specs.Places.{place_lines};
+ghost use Rattle.asm_expand.specs.LineCursors.{cursor_lines};
 ghost use Rattle.asm_expand.specs.Saying.{most_flats};
 ghost use Rattle.asm_expand.specs.declared.steps.Next.TheVariants as next;
 ghost use Rattle.asm_expand.specs.Leading.{Caused, Closes, Gets, IsBadAt, IsDeeper, IsFault, IsGetOf, IsReadOf, IsRefusal, IsShallower, LedOn, OfFiles, Opens, OutermostEnd, RunsTo, RunsToGet, Smaller, Starts, weight};
 
+use crate::first_lines::read;
 use crate::kept::{NONE_KEPT, kept_with};
-use crate::places::Place;
-use crate::reading::read;
+use crate::line_cursors::LineCursor;
 use crate::steps::{Depth, End, Frame, Next};
 use crate::turning::turn;
 use asm_lines::split_lines;
@@ -67,14 +67,14 @@ fn started(alloc: Global) -> Engine
 }
 
 /// The refusal of the first line there.
-fn bad_at(alloc: Global, place: &Place, kind: LineKind) -> Fault
+fn bad_at(alloc: Global, place: &LineCursor, kind: LineKind) -> Fault
     ensures at { IsBadAt place.now kind result }
     ensures refusal { IsRefusal result }
 {
     let Some(line) = place.first() else {
         return Fault::NoMemory;
     };
-    bad_line(alloc, &line.source, line.number, kind)
+    bad_line(alloc, line.source.as_text(), line.number, kind)
 }
 
 /// What is open under one frame more. More frames than numbers count as want of memory.
@@ -133,7 +133,12 @@ fn open(engine: &mut Engine, frame: Frame) -> Result<(), NoMemory>
 }
 
 /// The lines of a file, under its frame.
-fn get<S: Store>(alloc: Global, store: &mut S, name: Text, behind: Place) -> Result<Next, Fault>
+fn get<S: Store>(
+    alloc: Global,
+    store: &mut S,
+    name: Text,
+    behind: LineCursor,
+) -> Result<Next, Fault>
     ensures gets { Gets name behind (S.files store.old) result }
     ensures under { IfOk result (λ next. weight next ≡ 5) }
     ensures read { IfErr result (λ e. IsReadOf e (λ file. name ≡ file)) }
@@ -147,7 +152,7 @@ fn get<S: Store>(alloc: Global, store: &mut S, name: Text, behind: Place) -> Res
     match store.read(alloc, &name) {
         Ok(bytes) => {
             let lines = split_lines(alloc, &name, bytes.as_slice())?;
-            let first = Place::start(alloc, lines)?;
+            let first = LineCursor::start(alloc, lines)?;
             Ok(Next::Under(Frame::File(behind), first))
         }
         Err(StoreError::Missing) => Err(Fault::Refused(Refusal::Missing { name })),
@@ -200,7 +205,7 @@ fn get_on<S: Store>(
     store: &mut S,
     engine: &Engine,
     name: Text,
-    behind: Place,
+    behind: LineCursor,
 ) -> Result<Option<Next>, Fault>
     ensures led { LedOn (S.files store.old) engine.now (next.Get name behind) engine.now result }
     ensures smaller { IfOk result
@@ -253,14 +258,18 @@ fn step<S: Store>(
 }
 
 /// The flat lines of a source whose lines these are.
-fn expand_lines<S: Store>(alloc: Global, first: Place, store: &mut S) -> Result<Vec<Flat>, Fault>
+fn expand_lines<S: Store>(
+    alloc: Global,
+    first: LineCursor,
+    store: &mut S,
+) -> Result<Vec<Flat>, Fault>
     ensures flats { IfOk result (λ flats. OfFiles (S.files store.old) (λ sources.
-        RunsTo sources (Go (started visit_limit) (place_lines first)) (Flats flats.items))) }
+        RunsTo sources (Go (started visit_limit) (cursor_lines first)) (Flats flats.items))) }
     ensures few { IfOk result (λ flats. length flats.items ≤ visit_limit) }
     ensures fault { IfErr result (λ e. OfFiles (S.files store.old) (λ sources.
-        IsFault e (RunsTo sources (Go (started visit_limit) (place_lines first))))) }
+        IsFault e (RunsTo sources (Go (started visit_limit) (cursor_lines first))))) }
     ensures read { IfErr result (λ e. OfFiles (S.files store.old) (λ sources.
-        IsReadOf e (RunsToGet sources (Go (started visit_limit) (place_lines first))))) }
+        IsReadOf e (RunsToGet sources (Go (started visit_limit) (cursor_lines first))))) }
     ensures cause { IfErr result
         (λ e. Caused e (S.files store.old)
         (Rose (S.read_faults store.old) (S.read_faults store.new))) }
@@ -309,7 +318,7 @@ pub fn expand<S: Store>(
     match split_lines(alloc, source, text) {
         Err(fault) => Err(fault),
         Ok(lines) => {
-            let first = Place::start(alloc, lines)?;
+            let first = LineCursor::start(alloc, lines)?;
             expand_lines(alloc, first, store)
         }
     }

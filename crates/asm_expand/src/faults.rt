@@ -15,8 +15,8 @@ use asm_expr::kinds::earlier;
 use asm_expr::told::{first_told, kind_if};
 use asm_lines::scan::NAME_BYTES;
 use asm_model::{Expr, ExprItem};
+use asm_variables::line_fields::Words;
 use asm_variables::operands::operand_text;
-use asm_variables::words::Words;
 use sdt_fault::kinds::LineKind;
 
 /// How many constructs may be open: IF, WHILE and calls together.

@@ -31,7 +31,7 @@ fn copies_of(text: &[u8]) -> usize {
 fn bytes_of(flat: &Flat) -> usize {
     let text = flat.text.as_slice();
     let bytes = text.len().saturating_mul(copies_of(text));
-    bytes.saturating_add(flat.source.as_slice().len())
+    bytes.saturating_add(flat.source.as_text().as_slice().len())
 }
 
 /// What is counted with the next of these lines, where there is one more. More than `KEPT_BYTES` count as want of memory.

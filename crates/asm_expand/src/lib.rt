@@ -1,4 +1,6 @@
-//! Expansion of a source: variables, conditions, loops, macros and files.
+//! Expansion of a source to its flat lines: variables, conditions, loops, macros and the files that its GETs name, by a
+//! loop over a stack of what is open. Public source: the SDT 2.50 Reference Guide, chapter on the assembler; depths and
+//! limits are this project's. `armasm_core` calls `expand` over a store of files.
 #![tactic(auto)]
 
 pub mod calls;
@@ -8,10 +10,10 @@ pub mod definitions;
 mod dollars;
 pub mod engine;
 pub mod faults;
+pub mod first_lines;
 mod kept;
-pub mod places;
+pub mod line_cursors;
 pub mod plain;
-pub mod reading;
 pub mod steps;
 pub mod turning;
 

@@ -8,15 +8,15 @@ ghost use Rattle.asm_expand.specs.Plain.{IsFlat, IsNumber, Labels, Numbers, Push
 ghost use Rattle.asm_expand.specs.Saying.{Says};
 ghost use Rattle.asm_variables.specs.Steps.{words_shown};
 
-use crate::places::Place;
+use crate::line_cursors::LineCursor;
 use crate::steps::{End, Next};
 use asm_expr::operands::is;
 use asm_model::{Expr, Flat, is_called};
 use asm_variables::expansion::Expansion;
+use asm_variables::line_fields::Words;
 use asm_variables::maps::{add, put};
 use asm_variables::prototypes::name_of;
 use asm_variables::values::known_number;
-use asm_variables::words::Words;
 use indexmap::{IndexMap, IndexSet};
 use sdt_fault::kinds::LineKind;
 use sdt_fault::{Bytes, NoMemory, Text};
@@ -121,13 +121,13 @@ fn push_flat(
 }
 
 /// The flat line that a line becomes.
-fn flat_at(alloc: Global, at: &Place, text: &[u8]) -> Result<Option<Flat>, NoMemory>
+fn flat_at(alloc: Global, at: &LineCursor, text: &[u8]) -> Result<Option<Flat>, NoMemory>
     ensures { IfOk result (λ flat. IsFlat at.now text.now flat) }
 {
     let Some(line) = at.first() else {
         return Ok(None);
     };
-    let source = line.source.try_clone(alloc)?;
+    let source = line.source.share()?;
     Ok(Some(Flat {
         source,
         number: line.number,
@@ -139,7 +139,7 @@ fn flat_at(alloc: Global, at: &Place, text: &[u8]) -> Result<Option<Flat>, NoMem
 pub fn say_plain(
     alloc: Global,
     state: &mut Expansion,
-    at: Place,
+    at: LineCursor,
     text: &[u8],
     words: Words<'_>,
     operand: &Result<Expr, LineKind>,

@@ -1,6 +1,6 @@
 //! What lines say, what is open at a place, and how lines end.
 
-use crate::places::Place;
+use crate::line_cursors::LineCursor;
 use asm_variables::expansion::Scope;
 use expand_model::Operation;
 use sdt_fault::Text;
@@ -17,15 +17,15 @@ pub struct Depth {
 #[derive(Drop)]
 pub enum Frame {
     /// The lines behind the IF there, up to its ELSE or ENDIF.
-    Condition(Place),
+    Condition(LineCursor),
     /// The lines behind the ELSE of the IF there, up to its ENDIF.
-    Alternative(Place),
+    Alternative(LineCursor),
     /// The lines behind the WHILE there, up to its WEND.
-    Loop(Place),
+    Loop(LineCursor),
     /// The body of a macro, with what the call around it has, and the lines behind the call.
-    Call(Scope, Place),
+    Call(Scope, LineCursor),
     /// A file, with the lines behind its GET.
-    File(Place),
+    File(LineCursor),
 }
 
 /// How lines end.
@@ -34,27 +34,27 @@ pub enum End {
     /// No line is left.
     Over,
     /// At an ELSE, ENDIF or WEND there.
-    Closed(Operation, Place),
+    Closed(Operation, LineCursor),
     /// At an MEXIT there.
-    Left(Place),
+    Left(LineCursor),
     /// At an END.
     Ended,
     /// At an END, where the word there is the outermost that was open.
-    Cut(Place),
+    Cut(LineCursor),
     /// The word there is the outermost that nothing closes.
-    Unclosed(Place),
+    Unclosed(LineCursor),
 }
 
 /// What follows a line.
 #[derive(Drop)]
 pub enum Next {
     /// The lines from a place on.
-    Go(Place),
+    Go(LineCursor),
     /// The same, under one construct more.
-    Under(Frame, Place),
+    Under(Frame, LineCursor),
     /// The lines of a file, and behind it those from a place on.
-    Get(Text, Place),
+    Get(Text, LineCursor),
     Stop(End),
     /// The line there has a fault.
-    Bad(Place, LineKind),
+    Bad(LineCursor, LineKind),
 }

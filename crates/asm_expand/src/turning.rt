@@ -6,13 +6,13 @@ ghost use Rattle.asm_expand.specs.Saying.{Shortens};
 ghost use Rattle.asm_expand.specs.Turning.{Answers, Closes, ClosesLoop, IsWhile, Repeats, Resumes, Returns, Turns, TurnsLoop, names_while};
 
 use crate::conditions::skip_from;
-use crate::places::Place;
+use crate::line_cursors::LineCursor;
 use crate::steps::{End, Frame, Next};
 use asm_model::Line;
 use asm_variables::expansion::{Expansion, Scope};
+use asm_variables::line_fields::words_of;
 use asm_variables::operations::operation_of;
 use asm_variables::substitution::substitute;
-use asm_variables::words::words_of;
 use expand_model::{Opening, Operation};
 use sdt_fault::NoMemory;
 use sdt_fault::kinds::LineKind;
@@ -22,9 +22,9 @@ use std::alloc::Global;
 fn close_condition(
     alloc: Global,
     state: &mut Expansion,
-    at: Place,
+    at: LineCursor,
     operation: Operation,
-    word: Place,
+    word: LineCursor,
 ) -> Result<Next, NoMemory>
     ensures says { IfOk result
         (λ next. Closes at operation word state.old state.new next
@@ -43,7 +43,7 @@ fn close_condition(
 fn turn_condition(
     alloc: Global,
     state: &mut Expansion,
-    at: Place,
+    at: LineCursor,
     end: End,
 ) -> Result<Next, NoMemory>
     ensures says { IfOk result
@@ -62,7 +62,7 @@ fn turn_condition(
 }
 
 /// Behind the lines of an ELSE.
-fn turn_alternative(state: &Expansion, at: Place, end: End) -> Next
+fn turn_alternative(state: &Expansion, at: LineCursor, end: End) -> Next
     ensures says { Answers at end state.now state.now result (λ l e. model.behind_alternative l e) }
     ensures visits { Shortens result state.now.visits state.now.visits }
 {
@@ -98,7 +98,12 @@ fn is_while(alloc: Global, state: &Expansion, line: &Line) -> Result<bool, NoMem
 }
 
 /// A WHILE and the lines behind it once more, from the WEND there.
-fn again(alloc: Global, state: &Expansion, at: Place, word: Place) -> Result<Next, NoMemory>
+fn again(
+    alloc: Global,
+    state: &Expansion,
+    at: LineCursor,
+    word: LineCursor,
+) -> Result<Next, NoMemory>
     ensures says { IfOk result (λ next. Repeats at word state.now next) }
     ensures visits { IfOk result (λ next. Shortens next state.now.visits state.now.visits) }
 {
@@ -115,9 +120,9 @@ fn again(alloc: Global, state: &Expansion, at: Place, word: Place) -> Result<Nex
 fn close_loop(
     alloc: Global,
     state: &Expansion,
-    at: Place,
+    at: LineCursor,
     operation: Operation,
-    word: Place,
+    word: LineCursor,
 ) -> Result<Next, NoMemory>
     ensures says { IfOk result (λ next. ClosesLoop at operation word state.now next) }
     ensures visits { IfOk result (λ next. Shortens next state.now.visits state.now.visits) }
@@ -129,7 +134,7 @@ fn close_loop(
 }
 
 /// Behind the lines of a WHILE.
-fn turn_loop(alloc: Global, state: &Expansion, at: Place, end: End) -> Result<Next, NoMemory>
+fn turn_loop(alloc: Global, state: &Expansion, at: LineCursor, end: End) -> Result<Next, NoMemory>
     ensures says { IfOk result (λ next. TurnsLoop at end state.now next) }
     ensures visits { IfOk result (λ next. Shortens next state.now.visits state.now.visits) }
 {
@@ -144,7 +149,7 @@ fn turn_loop(alloc: Global, state: &Expansion, at: Place, end: End) -> Result<Ne
 }
 
 /// Behind the body of a macro.
-fn turn_call(state: &mut Expansion, scope: Scope, behind: Place, end: End) -> Next
+fn turn_call(state: &mut Expansion, scope: Scope, behind: LineCursor, end: End) -> Next
     ensures says { Returns scope behind end state.old state.new result }
     ensures visits { Shortens result state.old.visits state.new.visits }
     ensures flats { state.new.flats.items ≡ state.old.flats.items }
@@ -169,7 +174,7 @@ fn turn_call(state: &mut Expansion, scope: Scope, behind: Place, end: End) -> Ne
 }
 
 /// Behind a file.
-fn turn_file(state: &Expansion, behind: Place, end: End) -> Next
+fn turn_file(state: &Expansion, behind: LineCursor, end: End) -> Next
     ensures says { Resumes behind end state.now result }
     ensures visits { Shortens result state.now.visits state.now.visits }
 {

@@ -8,7 +8,8 @@ use Rattle.asm_model.specs.Parts.{digit_value, digits_value}
 abbrev pub taken : ℕ → ℕ → List ℕ → ℕ
 taken base value digits = fold (λ n c. base * n + digit_value c) value digits
 
-pub digits_step : (base value i from dig next : ℕ) (digits : List ℕ) → i < length digits → from ≡ base → dig ≡ digit_value (get_or digits i 0) → next ≡ value * from + dig
+pub digits_step : (base value i from dig next : ℕ) (digits : List ℕ) → i < length digits → from ≡ base → dig ≡ digit_value (get_or digits i 0)
+    → next ≡ value * from + dig
     → taken base next (drop (i + 1) digits) ≡ taken base value (drop i digits)
 digits_step base value i from dig next digits lt f d n =
     let e : next ≡ base * value + digit_value (get_or digits i 0) = rw (n, f, d) (ap (λ (x : ℕ). x + digit_value (get_or digits i 0)) (mul_comm value base)) in
@@ -28,7 +29,8 @@ small_digit c =
     (λ e. cond_both (nat_le c 70) (c - 55) (c - 87) (λ x. x ≤ c) (λ e. omega arith) (λ e. omega arith))
 
 -- once above the limit, digits stay above it
-pub digits_over : (base value i from dig next : ℕ) (digits : List ℕ) → i < length digits → from ≡ base → dig ≡ digit_value (get_or digits i 0) → next ≡ value * from + dig
+pub digits_over : (base value i from dig next : ℕ) (digits : List ℕ) → i < length digits → from ≡ base → dig ≡ digit_value (get_or digits i 0)
+    → next ≡ value * from + dig
     → get_or digits i 0 < 256 → 2 ^ 32 ≤ next → taken base value (drop i digits) ≡ digits_value base digits
     → None ≡ (if nat_lt (digits_value base digits) (2 ^ 32) then Some (digits_value base digits) else None)
 digits_over zero value i from dig next digits lt f d n small over whole =

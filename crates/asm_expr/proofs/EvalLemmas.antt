@@ -24,14 +24,16 @@ act_plain names (item.Unary op) s e = absurd (cc)
 act_plain names (item.Binary op) s e = absurd (cc)
 
 -- the items of a tree put its operand on the stack
-run_tree : (names : Names) (l : ℕ) (ps : List Part) (t : Tree) → Spells l ps t → (rest : List ExprItem) (s : List Operand) → run names (postfix t ++ rest) s ≡ run names rest (operand_of_tree names t ∷ s)
+run_tree : (names : Names) (l : ℕ) (ps : List Part) (t : Tree) → Spells l ps t → (rest : List ExprItem) (s : List Operand)
+    → run names (postfix t ++ rest) s ≡ run names rest (operand_of_tree names t ∷ s)
 run_tree names l ps t (operand p i e) rest s = ap (run names rest) (act_plain names i s (plain_operand p i e))
 run_tree names l ps t (of_name op name) rest s = refl
 run_tree names l ps t (before p op qs u e d) rest s =
     ap (λ (x : List ExprItem). run names x s) (append_assoc (postfix u) (item.Unary op ∷ []) rest) ∙ run_tree names 0 qs u d (item.Unary op ∷ rest) s
 run_tree names l ps t (grouped qs u d) rest s = run_tree names 6 qs u d rest s
 run_tree names l ps t (between k p op qs rs u v e lev d r) rest s =
-    ap (λ (x : List ExprItem). run names x s) (append_assoc (postfix u ++ postfix v) (item.Binary op ∷ []) rest ∙ append_assoc (postfix u) (postfix v) (item.Binary op ∷ rest))
+    ap (λ (x : List ExprItem). run names x s) (append_assoc (postfix u ++ postfix v) (item.Binary op ∷ []) rest
+    ∙ append_assoc (postfix u) (postfix v) (item.Binary op ∷ rest))
     ∙ run_tree names (suc k) qs u d (postfix v ++ item.Binary op ∷ rest) s
     ∙ run_tree names k rs v r (item.Binary op ∷ rest) (operand_of_tree names u ∷ s)
 run_tree names l ps t (tighter k qs u d) rest s = run_tree names k ps t d rest s

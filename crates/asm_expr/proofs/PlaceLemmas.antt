@@ -21,13 +21,15 @@ tests a b = by_test (bytes_eq a b) refl
     by_test true e = let h : a ≡ b = (bytes_eq-Decides a b).0 e in e ∙ sym (rw h (same_refl b))
     by_test false e = e ∙ sym (false_from_ne_true (same a b) (λ t. let h = (bytes_eq-Decides a b).1 (same_true a b t) in cc))
 
-set_or_kept : (name q : List ℕ) (number : ℕ) (b : Bool) (o : Option ℕ) → same name q ≡ b → (b ≡ true → o ≡ None) → cond b (Some number) o ≡ or_number o name number q
+set_or_kept : (name q : List ℕ) (number : ℕ) (b : Bool) (o : Option ℕ) → same name q ≡ b → (b ≡ true → o ≡ None)
+    → cond b (Some number) o ≡ or_number o name number q
 set_or_kept name q number true None e h = rw e refl
 set_or_kept name q number false None e h = rw e refl
 set_or_kept name q number true (Some k) e h = absurd (let bad : Some k ≡ None = h refl in cc)
 set_or_kept name q number false (Some k) e h = refl
 
-pub noted : (m n : BTreeMap (List ℕ) ℕ) (name : List ℕ) (number : ℕ) → number_in m name ≡ None → UpdatesBy (slice_cmp nat_cmp) (slice_cmp nat_cmp name) m n (Some number)
+pub noted : (m n : BTreeMap (List ℕ) ℕ) (name : List ℕ) (number : ℕ) → number_in m name ≡ None
+    → UpdatesBy (slice_cmp nat_cmp) (slice_cmp nat_cmp name) m n (Some number)
     → (q : List ℕ) → number_in n q ≡ or_number (number_in m q) name number q
 noted m n name number fresh updates q =
     updates.0 q ∙ rw (is_eq-slice_cmp name q, tests name q) (set_or_kept name q number (same name q) (number_in m q) refl
@@ -70,6 +72,7 @@ entry_there name (n ∷ ns) = by_test (same n.name name) (entry_there name ns)
     later None = refl
     later (Some i) = rw add-one refl
 
-    by_test : (b : Bool) → entry ns (place_of name ns) ≡ named_in name ns → entry (n ∷ ns) (cond b (Some 0) (one_later (place_of name ns))) ≡ cond b (Some n) (named_in name ns)
+    by_test : (b : Bool) → entry ns (place_of name ns) ≡ named_in name ns → entry (n ∷ ns) (cond b (Some 0) (one_later (place_of name ns))) ≡ cond b (Some n)
+        (named_in name ns)
     by_test true h = refl
     by_test false h = later (place_of name ns) ∙ h

@@ -11,13 +11,15 @@ use Rattle.asm_model.specs.declared.directives.Attribute.{Attribute}
 use Rattle.asm_model.specs.Areas.{attributes_in, attribute_in, is_bad_word, attributes_of, listed, joined, ReadsAttribute, ReadsAttributes}
 use Rattle.asm_model.specs.Grammar.{ParsesTokens}
 use Rattle.asm_model.specs.Operands.{operands_at, lengthened}
-use Rattle.asm_model.specs.Says.{Expressions, on_both, mapped, Aligned}
+use Rattle.asm_model.specs.Readings.{mapped, on_both}
+use Rattle.asm_model.specs.Says.{Expressions, Aligned}
 use Rattle.asm_expr.specs.AreaSteps.{ReadsBehind, has_bad_word_in, with_alignment}
 use Rattle.asm_expr.specs.Steps.{CutsOperands}
 use Rattle.asm_expr.proofs.OperandLemmas.{begins}
-use Rattle.asm_model.proofs.FaultLemmas.{earlier_assoc}
+use Rattle.asm_model.proofs.KindLemmas.{both_assoc}
 
-nothing_behind : (s : Result (List Expr) LineKind) (e : Result Expr LineKind) → on_both (λ es fs. es ++ fs) s (on_both (λ x xs. x ∷ xs) e (Ok [])) ≡ on_both (λ es x. es ++ x ∷ []) s e
+nothing_behind : (s : Result (List Expr) LineKind) (e : Result Expr LineKind)
+    → on_both (λ es fs. es ++ fs) s (on_both (λ x xs. x ∷ xs) e (Ok [])) ≡ on_both (λ es x. es ++ x ∷ []) s e
 nothing_behind (Ok es) (Ok e) = refl
 nothing_behind (Ok es) (Err k) = refl
 nothing_behind (Err k) (Ok e) = refl
@@ -25,14 +27,8 @@ nothing_behind (Err k) (Err j) = refl
 
 one_between : (s : Result (List Expr) LineKind) (e : Result Expr LineKind) (b : Result (List Expr) LineKind)
     → on_both (λ es fs. es ++ fs) s (on_both (λ x xs. x ∷ xs) e b) ≡ on_both (λ es fs. es ++ fs) (on_both (λ es x. es ++ x ∷ []) s e) b
-one_between (Ok es) (Ok e) (Ok fs) = ap Ok (sym (append_assoc es (e ∷ []) fs))
-one_between (Ok es) (Ok e) (Err k) = refl
-one_between (Ok es) (Err j) (Ok fs) = refl
-one_between (Ok es) (Err j) (Err k) = refl
-one_between (Err i) (Ok e) (Ok fs) = refl
-one_between (Err i) (Ok e) (Err k) = refl
-one_between (Err i) (Err j) (Ok fs) = refl
-one_between (Err i) (Err j) (Err k) = ap Err (earlier_assoc i j k)
+one_between s e b =
+    both_assoc s e b (λ es x. es ++ x ∷ []) (λ es fs. es ++ fs) (λ x xs. x ∷ xs) (λ es fs. es ++ fs) (λ es x fs. sym (append_assoc es (x ∷ []) fs))
 
 pub expressions_step : (text : List ℕ) (all : List (List Token)) (left o behind : List Token) (s n : Result (List Expr) LineKind) (e : Result Expr LineKind)
     → CutsOperands text left o (Some behind) → ParsesTokens text o e → n ≡ on_both (λ es x. es ++ x ∷ []) s e
@@ -75,16 +71,11 @@ last_alignment (Err k) (Err j) = refl
 
 next_alignment : (s : Result (List Expr) LineKind) (a : Result (Option Expr) LineKind) (b : Result (List Expr) LineKind)
     → both_lists s (joined a b) ≡ both_lists (with_alignment s a) b
-next_alignment (Ok es) (Ok e) (Ok fs) = ap Ok (sym (append_assoc es (listed e) fs))
-next_alignment (Ok es) (Ok e) (Err k) = refl
-next_alignment (Ok es) (Err j) (Ok fs) = refl
-next_alignment (Ok es) (Err j) (Err k) = refl
-next_alignment (Err i) (Ok e) (Ok fs) = refl
-next_alignment (Err i) (Ok e) (Err k) = refl
-next_alignment (Err i) (Err j) (Ok fs) = refl
-next_alignment (Err i) (Err j) (Err k) = ap Err (earlier_assoc i j k)
+next_alignment s a b =
+    both_assoc s a b (λ es e. es ++ listed e) (λ es fs. es ++ fs) (λ e fs. listed e ++ fs) (λ es fs. es ++ fs) (λ es e fs. sym (append_assoc es (listed e) fs))
 
-pub attribute_step : (text : List ℕ) (all : List (List Token)) (left o behind : List Token) (s n : Result (List Expr) LineKind) (a : Result (Option Expr) LineKind)
+pub attribute_step : (text : List ℕ) (all : List (List Token)) (left o behind : List Token) (s n : Result (List Expr) LineKind)
+    (a : Result (Option Expr) LineKind)
     → CutsOperands text left o (Some behind) → ReadsAttribute text o a → n ≡ with_alignment s a
     → ((b : Result (List Expr) LineKind) → ReadsAttributes text (operands_at text 0 left) b → ReadsAttributes text all (both_lists s b))
     → (b : Result (List Expr) LineKind) → ReadsAttributes text (operands_at text 0 behind) b → ReadsAttributes text all (both_lists n b)
@@ -149,7 +140,8 @@ other_end text all left o s n cut more inv =
     more ∙ sym (or_nothing s (is_bad_word text o)) ∙ ap (λ x. s || list_any (is_bad_word text) x) (sym cut) ∙ inv
 
 -- the attributes behind the name of an area
-pub attributes_behind : (text : List ℕ) (os : List (List Token)) (words : List Attribute) (other : Bool) (alignments : Result (List Expr) LineKind) (r : Result AreaAttributes LineKind)
+pub attributes_behind : (text : List ℕ) (os : List (List Token)) (words : List Attribute) (other : Bool) (alignments : Result (List Expr) LineKind)
+    (r : Result AreaAttributes LineKind)
     → words ≡ attributes_in text os → other ≡ list_any (is_bad_word text) os → ReadsAttributes text os alignments
     → r ≡ mapped (attributes_of words (has_bad_word_in words other)) alignments → ReadsBehind text os r
 attributes_behind text os words other alignments r ew eo reads e = (alignments, reads, rw (e, ew, eo) refl)

@@ -14,7 +14,8 @@ use Rattle.asm_model.specs.Areas.{ReadsAttribute, ReadsAttributes, begins_alignm
 use Rattle.asm_model.specs.Grammar.{ParsesTokens}
 use Rattle.asm_model.specs.Operands.{operands}
 use Rattle.asm_model.specs.Parts.{part_of}
-use Rattle.asm_model.specs.Says.{Form, bare, name, imported, expression, expressions, area, register, boundary, refused, on_both, mapped, Sentence, sentence, directive_of, Said, statement_of, SaysAs, SaysDirective, Expression, Expressions, SomeExpressions, Area, Register, Aligned, Reads, register_alone}
+use Rattle.asm_model.specs.Readings.{mapped, on_both}
+use Rattle.asm_model.specs.Says.{Form, bare, name, imported, expression, expressions, area, register, boundary, refused, Sentence, sentence, directive_of, Said, statement_of, SaysAs, SaysDirective, Expression, Expressions, SomeExpressions, Area, Register, Aligned, Reads, register_alone}
 use Rattle.asm_model.specs.Told.{Told, ToldFault}
 use Rattle.asm_expr.specs.SentenceSteps.{IsReadAs}
 use Rattle.asm_expr.proofs.ParseLaws.{one_reading}
@@ -27,20 +28,28 @@ made_of_both f g (Ok a) (Err k) = refl
 made_of_both f g (Err k) (Ok b) = refl
 made_of_both f g (Err k) (Err j) = refl
 
-pub said : (flat : Flat) (ts : List Token) (text : List ℕ) (s : Sentence) (o : Option Directive) (d : Directive) (r : Result (Option (List ℕ) × DirectiveLine) LineKind)
+pub said : (flat : Flat) (ts : List Token) (text : List ℕ) (s : Sentence) (o : Option Directive) (d : Directive)
+    (r : Result (Option (List ℕ) × DirectiveLine) LineKind)
     → text ≡ flat.text → s ≡ sentence ts → o ≡ directive_of text s.operation → o ≡ Some d → IsReadAs text s d r
     → SaysDirective flat ts (mapped (λ p. statement_of flat p.0 p.1) r)
 said flat ts text s o d r et es eo ed h =
     let read : IsReadAs flat.text (sentence ts) d r = rw (et, es) at h in
     let named : directive_of flat.text (sentence ts).operation ≡ Some d = rw (et, es) at (sym eo ∙ ed) in
-    rw named (read.0, read.1, ap (mapped (λ p. statement_of flat p.0 p.1)) read.2 ∙ made_of_both (λ p. statement_of flat p.0 p.1) (λ label line. (label, line)) _ read.0)
+    rw named (
+      read.0,
+      read.1,
+      ap (mapped (λ p. statement_of flat p.0 p.1)) read.2
+          ∙ made_of_both (λ p. statement_of flat p.0 p.1) (λ label line. (label, line)) _ read.0,
+    )
 
-pub said_fault : (flat : Flat) (ts : List Token) (text : List ℕ) (s : Sentence) (o : Option Directive) (d : Directive) (r : Result (Option (List ℕ) × DirectiveLine) LineKind) (k : LineKind)
+pub said_fault : (flat : Flat) (ts : List Token) (text : List ℕ) (s : Sentence) (o : Option Directive) (d : Directive)
+    (r : Result (Option (List ℕ) × DirectiveLine) LineKind) (k : LineKind)
     → text ≡ flat.text → s ≡ sentence ts → o ≡ directive_of text s.operation → o ≡ Some d → IsReadAs text s d r → r ≡ Err k
     → SaysDirective flat ts (Err k)
 said_fault flat ts text s o d r k et es eo ed h e = let all = said flat ts text s o d r et es eo ed h in rw e at all
 
-pub said_statement : {E : Type 0} (flat : Flat) (ts : List Token) (text : List ℕ) (s : Sentence) (o : Option Directive) (d : Directive) (r : Result (Option (List ℕ) × DirectiveLine) LineKind)
+pub said_statement : {E : Type 0} (flat : Flat) (ts : List Token) (text : List ℕ) (s : Sentence) (o : Option Directive) (d : Directive)
+    (r : Result (Option (List ℕ) × DirectiveLine) LineKind)
     (label : Option (List ℕ)) (l : DirectiveLine) (q : Result Said E)
     → text ≡ flat.text → s ≡ sentence ts → o ≡ directive_of text s.operation → o ≡ Some d → IsReadAs text s d r → r ≡ Ok (label, l)
     → IfOk q (λ x. x ≡ Ok (statement_of flat label l)) → IfOk q (λ x. SaysDirective flat ts x)
@@ -52,20 +61,23 @@ said_statement flat ts text s o d r label l (Ok x) et es eo ed h e same =
 
 -- an answer for what was read
 
-told_fault : {E : Type 0} (source : List ℕ) (number : ℕ) (P : Said → Type 0) (s : Result Said E) (f : Fault) → IfOk s P → ToldFault source number (λ x. s ≡ Ok x) f → ToldFault source number P f
+told_fault : {E : Type 0} (source : List ℕ) (number : ℕ) (P : Said → Type 0) (s : Result Said E) (f : Fault) → IfOk s P
+    → ToldFault source number (λ x. s ≡ Ok x) f → ToldFault source number P f
 told_fault source number P (Ok s) (Refused r) h k = let x : s ≡ Err k.0 = cc (k.2) in (k.0, k.1, subst P x h)
 told_fault source number P (Err e) (Refused r) h k = absurd (let x = k.2 in cc)
 told_fault source number P s (ReadFault n) h k = k
 told_fault source number P s NoMemory h k = tt
 
-pub told_said : {E : Type 0} (source : List ℕ) (number : ℕ) (P : Said → Type 0) (s : Result Said E) (r : Result (Option Statement) Fault) → IfOk s P → Told source number (λ x. s ≡ Ok x) r
+pub told_said : {E : Type 0} (source : List ℕ) (number : ℕ) (P : Said → Type 0) (s : Result Said E) (r : Result (Option Statement) Fault) → IfOk s P
+    → Told source number (λ x. s ≡ Ok x) r
     → Told source number P r
 told_said source number P (Ok s) (Ok x) h k = let e : s ≡ Ok x = cc in subst P e h
 told_said source number P (Err e) (Ok x) h k = absurd (cc)
 told_said source number P s (Err f) h k = told_fault source number P s f h k
 
 -- one outcome
-one_expression : {A : Type 0} (text : List ℕ) (make : Expr → A) (ts : List Token) (a b : Result A LineKind) → Expression text make ts a → Expression text make ts b → a ≡ b
+one_expression : {A : Type 0} (text : List ℕ) (make : Expr → A) (ts : List Token) (a b : Result A LineKind) → Expression text make ts a
+    → Expression text make ts b → a ≡ b
 one_expression text make ts a b p q =
     p.2 ∙ ap (mapped make) (one_reading (map (part_of text) ts) p.0 q.0 p.1 q.1) ∙ sym q.2
 

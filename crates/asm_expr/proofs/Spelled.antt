@@ -72,8 +72,10 @@ settled_again : (l m : ℕ) (items : List ExprItem) (hs : List Held) → l ≤ m
 settled_again l m items [] le = refl
 settled_again l m items (h ∷ hs) le = chosen (settled_again l m (items ++ item_of h ∷ []) hs le) (is_tight l h) refl
   where
-    chosen : settled m (settled l (items ++ item_of h ∷ []) hs).0 (settled l (items ++ item_of h ∷ []) hs).1 ≡ settled m (items ++ item_of h ∷ []) hs → (b : Bool) → is_tight l h ≡ b
-        → settled m (cond b (settled l (items ++ item_of h ∷ []) hs) (items, h ∷ hs)).0 (cond b (settled l (items ++ item_of h ∷ []) hs) (items, h ∷ hs)).1 ≡ settled m items (h ∷ hs)
+    chosen : settled m (settled l (items ++ item_of h ∷ []) hs).0 (settled l (items ++ item_of h ∷ []) hs).1 ≡ settled m (items ++ item_of h ∷ []) hs
+        → (b : Bool) → is_tight l h ≡ b
+        → settled m (cond b (settled l (items ++ item_of h ∷ []) hs) (items, h ∷ hs)).0
+        (cond b (settled l (items ++ item_of h ∷ []) hs) (items, h ∷ hs)).1 ≡ settled m items (h ∷ hs)
     chosen again true e = again ∙ sym (cond-true (is_tight m h) _ _ (tight_later l m h le e))
     chosen again false e = refl
 
@@ -94,7 +96,8 @@ above_operator (suc k) op hs e = not_from_false (nat_le (level op) (suc k)) (lt-
 record Stands (l : ℕ) (items : List ExprItem) (hs : List Held) (ps rest : List Part) (t : Tree) : Type 0 where
   out : List ExprItem
   stack : List Held
-  runs : parsed (Some (record { due = stage.Operand; items = items; stack = hs })) (ps ++ rest) ≡ parsed (Some (record { due = stage.Operator; items = out; stack = stack })) rest
+  runs : parsed (Some (record { due = stage.Operand; items = items; stack = hs })) (ps ++ rest) ≡ parsed
+      (Some (record { due = stage.Operator; items = out; stack = stack })) rest
   settles : settled l out stack ≡ settled l (items ++ postfix t) hs
 
 on_operand_is : (p : Part) (i : ExprItem) (items : List ExprItem) (hs : List Held) → operand_of p ≡ Some i
@@ -130,7 +133,8 @@ on_between_is (part.Infix b) op items hs e = let x : b ≡ op = cc in rw x refl
 on_between_is (part.Sum u b) op items hs e = let x : b ≡ op = cc in rw x refl
 on_between_is part.Other op items hs e = absurd (cc)
 
-spelled : (l : ℕ) (ps : List Part) (t : Tree) → Spells l ps t → (items : List ExprItem) (hs : List Held) (rest : List Part) → Above l hs → Stands l items hs ps rest t
+spelled : (l : ℕ) (ps : List Part) (t : Tree) → Spells l ps t → (items : List ExprItem) (hs : List Held) (rest : List Part) → Above l hs
+    → Stands l items hs ps rest t
 unfolding step finished
 spelled l ps t (operand p i e) items hs rest above =
     record { out = items ++ i ∷ []; stack = hs; runs = ap (λ (s : Option State). parsed s rest) (on_operand_is p i items hs e); settles = refl }
@@ -150,7 +154,8 @@ spelled l ps t (grouped qs u s) items hs rest above =
       out = items ++ postfix u;
       stack = hs;
       runs =
-          ap (λ (x : List Part). parsed (Some (record { due = stage.Operand; items = items; stack = held.Open ∷ hs })) x) (append_assoc qs (part.Close ∷ []) rest)
+          ap (λ (x : List Part). parsed (Some (record { due = stage.Operand; items = items; stack = held.Open ∷ hs })) x)
+          (append_assoc qs (part.Close ∷ []) rest)
           ∙ inner.runs
           ∙ ap (λ (x : List ExprItem × List Held). parsed (closed x.0 x.1) rest) inner.settles;
       settles = refl;
@@ -174,7 +179,8 @@ spelled l ps t (between k p op qs rs u v e lev s r) items hs rest above =
           ∙ ap (λ (x : List ExprItem × List Held). settled (suc k) x.0 x.1) right.settles
           ∙ settled_again k (suc k) ((items ++ postfix u) ++ postfix v) (held.Between op ∷ hs) (omega arith)
           ∙ cond-true (nat_le (level op) (suc k)) _ _ (le-leb (level op) (suc k) (omega arith))
-          ∙ ap (λ (x : List ExprItem). settled (suc k) x hs) (ap (λ (y : List ExprItem). y ++ item.Binary op ∷ []) (append_assoc items (postfix u) (postfix v)) ∙ append_assoc items (postfix u ++ postfix v) (item.Binary op ∷ []));
+          ∙ ap (λ (x : List ExprItem). settled (suc k) x hs) (ap (λ (y : List ExprItem). y ++ item.Binary op ∷ []) (append_assoc items (postfix u) (postfix v))
+          ∙ append_assoc items (postfix u ++ postfix v) (item.Binary op ∷ []));
     }
 spelled l ps t (tighter k qs u s) items hs rest above =
     let inner = spelled k ps t s items hs rest (above_before k hs above) in
@@ -182,7 +188,8 @@ spelled l ps t (tighter k qs u s) items hs rest above =
       out = inner.out;
       stack = inner.stack;
       runs = inner.runs;
-      settles = sym (settled_again k (suc k) inner.out inner.stack (omega arith)) ∙ ap (λ (x : List ExprItem × List Held). settled (suc k) x.0 x.1) inner.settles ∙ settled_again k (suc k) (items ++ postfix t) hs (omega arith);
+      settles = sym (settled_again k (suc k) inner.out inner.stack (omega arith))
+          ∙ ap (λ (x : List ExprItem × List Held). settled (suc k) x.0 x.1) inner.settles ∙ settled_again k (suc k) (items ++ postfix t) hs (omega arith);
     }
 
 -- the parts of a tree are parsed as it
@@ -232,10 +239,34 @@ above_from (suc l) hs e = e
 settled_whole : (l c : ℕ) (ps : List Part) (is : List ExprItem) (hs : List Held) → c ≤ l → Above c hs → Whole c ps is hs
     → Whole l ps (settled l is hs).0 (settled l is hs).1 × (blocked l (settled l is hs).1 ≡ true)
 unfolding Pend
-settled_whole l c ps is [] le above w =
-    (record { front = w.front; qs = w.qs; js = w.js; tree = w.tree; parts = w.parts; items = w.items; pend = w.pend; spells = looser c l w.qs w.tree le w.spells }, refl)
-settled_whole l c ps is (held.Open ∷ hs) le above w =
-    (record { front = w.front; qs = w.qs; js = w.js; tree = w.tree; parts = w.parts; items = w.items; pend = w.pend; spells = looser c l w.qs w.tree le w.spells }, refl)
+settled_whole l c ps is [] le above w = (
+  record {
+    front = w.front;
+    qs = w.qs;
+    js = w.js;
+    tree = w.tree;
+    parts = w.parts;
+    items = w.items;
+    pend = w.pend;
+    spells =
+        looser c l w.qs w.tree le w.spells;
+  },
+  refl,
+)
+settled_whole l c ps is (held.Open ∷ hs) le above w = (
+  record {
+    front = w.front;
+    qs = w.qs;
+    js = w.js;
+    tree = w.tree;
+    parts = w.parts;
+    items = w.items;
+    pend = w.pend;
+    spells =
+        looser c l w.qs w.tree le w.spells;
+  },
+  refl,
+)
 settled_whole l zero ps is (held.Before op ∷ hs) le above w =
     let b = w.pend in
     settled_whole l 0 ps (is ++ item.Unary op ∷ []) hs le tt (record {
@@ -267,7 +298,8 @@ settled_whole l c ps is (held.Between op ∷ hs) le above w =
       qs = b.1 ++ b.2 ∷ w.qs;
       js = b.3;
       tree = Between op b.4 w.tree;
-      parts = w.parts ∙ ap (λ (x : List Part). x ++ w.qs) b.5 ∙ append_assoc b.0 (b.1 ++ b.2 ∷ []) w.qs ∙ ap (λ (x : List Part). b.0 ++ x) (append_assoc b.1 (b.2 ∷ []) w.qs);
+      parts = w.parts ∙ ap (λ (x : List Part). x ++ w.qs) b.5 ∙ append_assoc b.0 (b.1 ++ b.2 ∷ []) w.qs
+          ∙ ap (λ (x : List Part). b.0 ++ x) (append_assoc b.1 (b.2 ∷ []) w.qs);
       items =
           ap (λ (x : List ExprItem). x ++ item.Binary op ∷ []) w.items
           ∙ ap (λ (x : List ExprItem). (x ++ postfix w.tree) ++ item.Binary op ∷ []) b.6
@@ -278,12 +310,24 @@ settled_whole l c ps is (held.Between op ∷ hs) le above w =
     }
 
     chosen : (t : Bool) → nat_le (level op) l ≡ t
-        → (level op ≤ l → Whole l ps (settled l (is ++ item.Binary op ∷ []) hs).0 (settled l (is ++ item.Binary op ∷ []) hs).1 × (blocked l (settled l (is ++ item.Binary op ∷ []) hs).1 ≡ true))
-        → Whole l ps (cond t (settled l (is ++ item.Binary op ∷ []) hs) (is, held.Between op ∷ hs)).0 (cond t (settled l (is ++ item.Binary op ∷ []) hs) (is, held.Between op ∷ hs)).1
+        → (level op ≤ l → Whole l ps (settled l (is ++ item.Binary op ∷ []) hs).0 (settled l (is ++ item.Binary op ∷ []) hs).1
+        × (blocked l (settled l (is ++ item.Binary op ∷ []) hs).1 ≡ true))
+        → Whole l ps (cond t (settled l (is ++ item.Binary op ∷ []) hs) (is, held.Between op ∷ hs)).0
+        (cond t (settled l (is ++ item.Binary op ∷ []) hs) (is, held.Between op ∷ hs)).1
         × (blocked l (cond t (settled l (is ++ item.Binary op ∷ []) hs) (is, held.Between op ∷ hs)).1 ≡ true)
     chosen true e more = more (leb-true (level op) l e)
     chosen false e more = (
-      record { front = w.front; qs = w.qs; js = w.js; tree = w.tree; parts = w.parts; items = w.items; pend = w.pend; spells = looser c l w.qs w.tree le w.spells },
+      record {
+        front = w.front;
+        qs = w.qs;
+        js = w.js;
+        tree = w.tree;
+        parts = w.parts;
+        items = w.items;
+        pend = w.pend;
+        spells =
+            looser c l w.qs w.tree le w.spells;
+      },
       not_from_false (nat_le (level op) l) e,
     )
 
@@ -298,7 +342,8 @@ unfolding Good
 GoodState None ps = Unit {0}
 GoodState (Some s) ps = Good s.due s.items s.stack ps
 
-put_good : (is : List ExprItem) (hs : List Held) (ps : List Part) (i : ExprItem) (o : Option ExprItem) → plain i ≡ o → Pend hs ps is → GoodState (put is hs o) (ps ++ part.Operand i ∷ [])
+put_good : (is : List ExprItem) (hs : List Held) (ps : List Part) (i : ExprItem) (o : Option ExprItem) → plain i ≡ o → Pend hs ps is
+    → GoodState (put is hs o) (ps ++ part.Operand i ∷ [])
 unfolding GoodState Good Pend
 put_good is hs ps i None e h = tt
 put_good is hs ps i (Some j) e h =
@@ -324,7 +369,8 @@ operand_good is hs ps (part.Infix op) h = tt
 operand_good is hs ps (part.Sum u b) h = (ps, part.Sum u b, refl, refl, h)
 operand_good is hs ps part.Other h = tt
 
-name_good : (op : UnaryOp) (is : List ExprItem) (hs : List Held) (ps : List Part) (p : Part) → Good (stage.Name op) is hs ps → GoodState (on_name op is hs p) (ps ++ p ∷ [])
+name_good : (op : UnaryOp) (is : List ExprItem) (hs : List Held) (ps : List Part) (p : Part) → Good (stage.Name op) is hs ps
+    → GoodState (on_name op is hs p) (ps ++ p ∷ [])
 unfolding GoodState Good Pend
 name_good op is hs ps (part.Operand (item.Name n)) h =
     record {
@@ -353,7 +399,8 @@ name_good op is hs ps (part.Infix b) h = tt
 name_good op is hs ps (part.Sum u b) h = tt
 name_good op is hs ps part.Other h = tt
 
-joined_good : (op : BinaryOp) (p : Part) (is : List ExprItem) (hs : List Held) (ps : List Part) → between_of p ≡ Some op → Whole (level op) ps is hs → blocked (level op) hs ≡ true
+joined_good : (op : BinaryOp) (p : Part) (is : List ExprItem) (hs : List Held) (ps : List Part) → between_of p ≡ Some op → Whole (level op) ps is hs
+    → blocked (level op) hs ≡ true
     → GoodState (Some (joined op (is, hs))) (ps ++ p ∷ [])
 unfolding GoodState Good Pend
 joined_good op p is hs ps e w free =
@@ -371,7 +418,8 @@ closed_good is (held.Open ∷ hs) ps w =
       qs = part.Open ∷ w.qs ++ part.Close ∷ [];
       js = w.js;
       tree = w.tree;
-      parts = ap (λ (x : List Part). x ++ part.Close ∷ []) (w.parts ∙ ap (λ (x : List Part). x ++ w.qs) b.1 ∙ append_assoc b.0 (part.Open ∷ []) w.qs) ∙ append_assoc b.0 (part.Open ∷ w.qs) (part.Close ∷ []);
+      parts = ap (λ (x : List Part). x ++ part.Close ∷ []) (w.parts ∙ ap (λ (x : List Part). x ++ w.qs) b.1 ∙ append_assoc b.0 (part.Open ∷ []) w.qs)
+          ∙ append_assoc b.0 (part.Open ∷ w.qs) (part.Close ∷ []);
       items = w.items;
       pend = b.2;
       spells = grouped w.qs w.tree w.spells;
@@ -385,9 +433,11 @@ operator_good is hs ps part.Close w = let s = settled_whole 6 0 ps is hs (omega 
 operator_good is hs ps (part.Prefix op) w = tt
 operator_good is hs ps (part.OfName op) w = tt
 operator_good is hs ps (part.Infix op) w =
-    let s = settled_whole (level op) 0 ps is hs (omega arith) tt w in joined_good op (part.Infix op) (settled (level op) is hs).0 (settled (level op) is hs).1 ps refl s.0 s.1
+    let s = settled_whole (level op) 0 ps is hs (omega arith) tt w in
+    joined_good op (part.Infix op) (settled (level op) is hs).0 (settled (level op) is hs).1 ps refl s.0 s.1
 operator_good is hs ps (part.Sum u b) w =
-    let s = settled_whole (level b) 0 ps is hs (omega arith) tt w in joined_good b (part.Sum u b) (settled (level b) is hs).0 (settled (level b) is hs).1 ps refl s.0 s.1
+    let s = settled_whole (level b) 0 ps is hs (omega arith) tt w in
+    joined_good b (part.Sum u b) (settled (level b) is hs).0 (settled (level b) is hs).1 ps refl s.0 s.1
 operator_good is hs ps part.Other w = tt
 
 step_good : (due : Stage) (is : List ExprItem) (hs : List Held) (ps : List Part) (p : Part) → Good due is hs ps → GoodState (step_at due is hs p) (ps ++ p ∷ [])
@@ -396,7 +446,8 @@ step_good stage.Operand is hs ps p h = operand_good is hs ps p h
 step_good (stage.Name op) is hs ps p h = name_good op is hs ps p h
 step_good stage.Operator is hs ps p h = operator_good is hs ps p h
 
-finished_good : (due : Stage) (is : List ExprItem) (hs : List Held) (ps : List Part) (out : List ExprItem) → Good due is hs ps → finished_at due is hs ≡ Some out
+finished_good : (due : Stage) (is : List ExprItem) (hs : List Held) (ps : List Part) (out : List ExprItem) → Good due is hs ps
+    → finished_at due is hs ≡ Some out
     → (t : Tree) × IsSpelled ps t × (out ≡ postfix t)
 unfolding Good Pend
 finished_good stage.Operand is hs ps out h e = absurd (cc)
@@ -404,7 +455,8 @@ finished_good (stage.Name op) is hs ps out h e = absurd (cc)
 finished_good stage.Operator is hs ps out h e =
     let s = settled_whole 6 0 ps is hs (omega arith) tt h in ends (settled 6 is hs).0 (settled 6 is hs).1 s.0 e
   where
-    ends : (items : List ExprItem) (stack : List Held) → Whole 6 ps items stack → emptied (items, stack) ≡ Some out → (t : Tree) × IsSpelled ps t × (out ≡ postfix t)
+    ends : (items : List ExprItem) (stack : List Held) → Whole 6 ps items stack → emptied (items, stack) ≡ Some out → (t : Tree) × IsSpelled ps t
+        × (out ≡ postfix t)
     ends items (x ∷ xs) w e = absurd (cc)
     ends items [] w e =
         let p = w.pend in
@@ -412,7 +464,8 @@ finished_good stage.Operator is hs ps out h e =
         let is_out : items ≡ out = cc in
         (w.tree, rw whole w.spells, sym is_out ∙ w.items ∙ ap (λ (x : List ExprItem). x ++ postfix w.tree) p.1)
 
-good_parsed : (s : Option State) (front ps : List Part) (out : List ExprItem) → GoodState s front → parsed s ps ≡ Some out → (t : Tree) × IsSpelled (front ++ ps) t × (out ≡ postfix t)
+good_parsed : (s : Option State) (front ps : List Part) (out : List ExprItem) → GoodState s front → parsed s ps ≡ Some out → (t : Tree)
+    × IsSpelled (front ++ ps) t × (out ≡ postfix t)
 unfolding GoodState step finished
 good_parsed None front ps out h e = absurd (cc)
 good_parsed (Some s) front [] out h e = rw (append-nil front) (finished_good s.due s.items s.stack front out h e)

@@ -7,7 +7,8 @@ use Rattle.asm_model.specs.declared.exprs.ExprItem.{ExprItem}
 use Rattle.asm_expr.specs.Parsing.{is_tight, emptied}
 use Rattle.asm_expr.specs.Steps.{Pops}
 
-pub pops_top : (limit : ℕ) (old new : List Held) (o : Option Held) (top : Held) → old ≡ new ++ option_to_list o → o ≡ Some top → is_tight limit top ≡ true → Pops limit old o new
+pub pops_top : (limit : ℕ) (old new : List Held) (o : Option Held) (top : Held) → old ≡ new ++ option_to_list o → o ≡ Some top → is_tight limit top ≡ true
+    → Pops limit old o new
 pops_top limit old new o top e s t =
     let whole : old ≡ new ++ top ∷ [] = rw s at e in
     rw s (ap reverse whole ∙ reverse-append new (top ∷ []), t)
@@ -21,8 +22,10 @@ some_waits items [] e = refl
 some_waits items (x ∷ xs) e = absurd (omega arith)
 
 -- what is left where nothing waits, and where something does
-pub emptied_some : (items : List ExprItem) (stack : List Held) (s : List ExprItem × List Held) → (items, reverse stack) ≡ s → length stack ≡ 0 → emptied s ≡ Some items
+pub emptied_some : (items : List ExprItem) (stack : List Held) (s : List ExprItem × List Held) → (items, reverse stack) ≡ s → length stack ≡ 0
+    → emptied s ≡ Some items
 emptied_some items stack s e z = ap emptied (sym e) ∙ some_waits items stack z
 
-pub emptied_none : (items : List ExprItem) (stack : List Held) (s : List ExprItem × List Held) → (items, reverse stack) ≡ s → 0 < length stack → emptied s ≡ None
+pub emptied_none : (items : List ExprItem) (stack : List Held) (s : List ExprItem × List Held) → (items, reverse stack) ≡ s → 0 < length stack
+    → emptied s ≡ None
 emptied_none items stack s e h = ap emptied (sym e) ∙ none_waits items stack (reverse stack) refl h

@@ -9,7 +9,7 @@ use Rattle.asm_model.specs.declared.directives.Attribute.{Attribute}
 use Rattle.asm_model.specs.Areas.{alignment, ReadsAttribute, ReadsAttributes, attributes_in, is_bad_word, is_repeated, is_contradicting, attributes_written, listed}
 use Rattle.asm_model.specs.Grammar.{ParsesTokens}
 use Rattle.asm_model.specs.Operands.{operands_at}
-use Rattle.asm_model.specs.Says.{mapped, on_both}
+use Rattle.asm_model.specs.Readings.{mapped, on_both}
 use Rattle.asm_expr.specs.declared.areas.Written.{Written}
 
 -- the number behind ALIGN and its equals sign

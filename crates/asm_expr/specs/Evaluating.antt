@@ -10,7 +10,8 @@ use Rattle.asm_model.specs.declared.exprs.UnaryOp.{UnaryOp}
 use Rattle.asm_model.specs.declared.exprs.BinaryOp.{BinaryOp}
 use Rattle.asm_model.specs.declared.values.Value.{Value}
 use Rattle.asm_model.specs.declared.names.Names.{Names}
-use Rattle.asm_model.specs.Meaning.{Operand, Known, Unread, known, on_both, applied, binary, operand_of_item}
+use Rattle.asm_model.specs.Meaning.{Operand, Known, Unread, known, applied, binary, operand_of_item}
+use Rattle.asm_model.specs.Readings.{then_both}
 use Rattle.asm_expr.specs.declared.slots.Slot.{Slot}
 use Rattle.asm_expr.specs.declared.slots.Slot.TheVariants as slot
 
@@ -23,7 +24,7 @@ act_unary op (x ∷ s) = Known (applied op x) ∷ s
 abbrev pub act_binary : Names → BinaryOp → List Operand → List Operand
 act_binary names op [] = Known (Err Syntax) ∷ []
 act_binary names op (y ∷ []) = Known (Err Syntax) ∷ []
-act_binary names op (y ∷ x ∷ s) = Known (on_both (known x) (known y) (binary names op)) ∷ s
+act_binary names op (y ∷ x ∷ s) = Known (then_both (known x) (known y) (binary names op)) ∷ s
 
 -- the stack after an item
 abbrev pub act : Names → ExprItem → List Operand → List Operand

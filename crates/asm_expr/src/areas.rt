@@ -3,55 +3,41 @@
 ghost use Rattle.std.specs.Prelude.{◌≡◌, ◌++◌, [], IfOk};
 ghost use Rattle.asm_model.specs.Areas as areas;
 ghost use Rattle.asm_model.specs.Operands as operands;
-ghost use Rattle.asm_model.specs.Says as says;
+ghost use Rattle.asm_model.specs.Readings as readings;
 ghost use Rattle.std.specs.Option.{option_copied};
 ghost use Rattle.asm_expr.specs.AreaSteps.{ReadsAlignment, TakesAttribute, IsWritten, ReadsBehind};
 ghost use Rattle.asm_expr.specs.AreaSteps.{operands_behind, has_bad_word_in, with_alignment};
 
-use crate::kinds::earlier;
+use crate::kinds::both;
 use crate::operands::{first_operand, is, piece_of};
+use crate::or_kind;
 use crate::read::expression;
-use asm_model::{AreaAttributes, Attribute, Contents, Expr, Token, TokenKind, is_called};
+use crate::rows::row_of;
+use asm_model::{AreaAttributes, Attribute, Contents, Expr, Token, TokenKind};
 use sdt_fault::kinds::LineKind;
 use sdt_fault::{List, NoMemory};
 use std::alloc::Global;
+
+/// The words of attributes.
+static ATTRIBUTES: [(&[u8], Attribute); 10] = [
+    (b"CODE", Attribute::Code),
+    (b"DATA", Attribute::Data),
+    (b"READONLY", Attribute::ReadOnly),
+    (b"READWRITE", Attribute::ReadWrite),
+    (b"NOINIT", Attribute::NoInit),
+    (b"INTERWORK", Attribute::Interwork),
+    (b"HALFWORD", Attribute::Halfword),
+    (b"PIC", Attribute::Pic),
+    (b"REENTRANT", Attribute::Reentrant),
+    (b"ALIGN", Attribute::Align),
+];
 
 /// The attribute that a word names, in any case; None where it names none.
 #[tactic(auto, unfolding(asm_model::specs::Areas::attribute_named))]
 fn attribute_named(word: &[u8]) -> Option<Attribute>
     ensures { result ≡ areas.attribute_named word.now }
 {
-    if is_called(b"CODE", word) {
-        return Some(Attribute::Code);
-    }
-    if is_called(b"DATA", word) {
-        return Some(Attribute::Data);
-    }
-    if is_called(b"READONLY", word) {
-        return Some(Attribute::ReadOnly);
-    }
-    if is_called(b"READWRITE", word) {
-        return Some(Attribute::ReadWrite);
-    }
-    if is_called(b"NOINIT", word) {
-        return Some(Attribute::NoInit);
-    }
-    if is_called(b"INTERWORK", word) {
-        return Some(Attribute::Interwork);
-    }
-    if is_called(b"HALFWORD", word) {
-        return Some(Attribute::Halfword);
-    }
-    if is_called(b"PIC", word) {
-        return Some(Attribute::Pic);
-    }
-    if is_called(b"REENTRANT", word) {
-        return Some(Attribute::Reentrant);
-    }
-    if is_called(b"ALIGN", word) {
-        return Some(Attribute::Align);
-    }
-    None
+    row_of(word, &ATTRIBUTES)
 }
 
 /// A number that tells attributes apart.
@@ -216,10 +202,8 @@ fn alignment(
 ) -> Result<Result<Option<Expr>, LineKind>, NoMemory>
     ensures { IfOk result (λ reading. ReadsAlignment text.now tokens.now reading) }
 {
-    match expression(alloc, text, tokens)? {
-        Ok(expression) => Ok(Ok(Some(expression))),
-        Err(kind) => Ok(Err(kind)),
-    }
+    let number = or_kind!(expression(alloc, text, tokens)?);
+    Ok(Ok(Some(number)))
 }
 
 /// What an operand reads as: the number of an alignment, where it is one.
@@ -260,12 +244,8 @@ fn with_alignment(
 ) -> Result<Result<List<Expr>, LineKind>, NoMemory>
     ensures { IfOk result (λ all. all ≡ with_alignment alignments reading) }
 {
-    match (alignments, reading) {
-        (Ok(list), Ok(more)) => Ok(Ok(with_listed(list, more)?)),
-        (Ok(_), Err(kind)) => Ok(Err(kind)),
-        (Err(kind), Ok(_)) => Ok(Err(kind)),
-        (Err(kind), Err(other)) => Ok(Err(earlier(kind, other))),
-    }
+    let (list, more) = or_kind!(both(alignments, reading));
+    Ok(Ok(with_listed(list, more)?))
 }
 
 /// Attributes as they are written: their words, and the numbers of alignments among them.
@@ -342,13 +322,11 @@ fn attributes_with(
     has_other: bool,
     alignments: Result<List<Expr>, LineKind>,
 ) -> Result<AreaAttributes, LineKind>
-    ensures { result ≡ says.mapped
+    ensures { result ≡ readings.mapped
         (areas.attributes_of words.now (has_bad_word_in words.now has_other)) alignments }
 {
-    match alignments {
-        Ok(numbers) => Ok(attributes_of(words, has_bad_word(words, has_other), numbers)),
-        Err(kind) => Err(kind),
-    }
+    let numbers = alignments?;
+    Ok(attributes_of(words, has_bad_word(words, has_other), numbers))
 }
 
 /// The attributes behind the name of an area, where there are operands behind it.

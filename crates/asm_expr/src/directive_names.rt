@@ -3,7 +3,7 @@
 ghost use Rattle.std.specs.Prelude.{◌≡◌};
 ghost use Rattle.asm_model.specs.Directives as directives;
 
-use asm_model::{Directive, is_called};
+use asm_model::{DataItem, Directive, is_called};
 
 /// The directive that a word names, in any case; None where it names none.
 #[tactic(auto, unfolding(asm_model::specs::Directives::directive_named))]
@@ -31,22 +31,22 @@ fn named_data(word: &[u8]) -> Option<Directive>
     ensures { result ≡ directives.named_data word.now }
 {
     if is_called(b"DCD", word) {
-        return Some(Directive::Dcd);
+        return Some(Directive::Constants(DataItem::Word));
     }
     if is_called(b"&", word) {
-        return Some(Directive::Dcd);
+        return Some(Directive::Constants(DataItem::Word));
     }
     if is_called(b"DCDU", word) {
-        return Some(Directive::Dcdu);
+        return Some(Directive::Constants(DataItem::UnalignedWord));
     }
     if is_called(b"DCW", word) {
-        return Some(Directive::Dcw);
+        return Some(Directive::Constants(DataItem::HalfWord));
     }
     if is_called(b"DCB", word) {
-        return Some(Directive::Dcb);
+        return Some(Directive::Constants(DataItem::Byte));
     }
     if is_called(b"=", word) {
-        return Some(Directive::Dcb);
+        return Some(Directive::Constants(DataItem::Byte));
     }
     if is_called(b"SPACE", word) {
         return Some(Directive::Space);

@@ -8,7 +8,7 @@ ghost use Rattle.asm_model.specs.Says as says;
 ghost use Rattle.asm_expr.specs.SentenceSteps.{sentence_of, IsReadAs};
 
 use crate::directive_names::directive_named;
-use crate::kinds::earlier;
+use crate::kinds::both;
 use crate::operands::piece_of;
 use crate::parts::inside;
 use crate::read::expression;
@@ -27,7 +27,28 @@ fn label_need(directive: Directive) -> LabelNeed
         Directive::Rn => LabelNeed::Name,
         Directive::Field => LabelNeed::Name,
         Directive::Data => LabelNeed::Label,
-        _ => LabelNeed::Optional,
+        Directive::Area
+        | Directive::Entry
+        | Directive::End
+        | Directive::Export
+        | Directive::Import
+        | Directive::Extern
+        | Directive::Keep
+        | Directive::Rout
+        | Directive::Assert
+        | Directive::Nofp
+        | Directive::Opt
+        | Directive::Ttl
+        | Directive::Subt
+        | Directive::Constants(_)
+        | Directive::Space
+        | Directive::Align
+        | Directive::Ltorg
+        | Directive::Map
+        | Directive::Code16
+        | Directive::Code32
+        | Directive::FloatingPoint
+        | Directive::Expansion => LabelNeed::Optional,
     }
 }
 
@@ -52,7 +73,7 @@ fn local(alloc: Global, digits: &[u8]) -> Result<Text, NoMemory>
 }
 
 /// A number as a label.
-fn numbered(
+fn numeric_label(
     alloc: Global,
     need: LabelNeed,
     piece: &[u8],
@@ -82,7 +103,7 @@ fn label_of(
     match kind {
         TokenKind::Name => Ok(Ok(Some(Text::from_slice(alloc, piece)?))),
         TokenKind::Barred => Ok(Ok(Some(Text::from_slice(alloc, inside(piece))?))),
-        TokenKind::Number => numbered(alloc, need, piece),
+        TokenKind::Number => numeric_label(alloc, need, piece),
         _ => Ok(Err(LineKind::Syntax)),
     }
 }
@@ -196,17 +217,8 @@ fn reading(
         }
         Directive::Ttl => Ok(bare(DirectiveLine::Ttl, tokens)),
         Directive::Subt => Ok(bare(DirectiveLine::Subt, tokens)),
-        Directive::Dcd => {
-            made!(expressions(alloc, text, tokens)?, values => DirectiveLine::Dcd { values })
-        }
-        Directive::Dcdu => {
-            made!(expressions(alloc, text, tokens)?, values => DirectiveLine::Dcdu { values })
-        }
-        Directive::Dcw => {
-            made!(expressions(alloc, text, tokens)?, values => DirectiveLine::Dcw { values })
-        }
-        Directive::Dcb => {
-            made!(expressions(alloc, text, tokens)?, values => DirectiveLine::Dcb { values })
+        Directive::Constants(item) => {
+            made!(expressions(alloc, text, tokens)?, values => DirectiveLine::Constants { item, values })
         }
         Directive::Space => {
             made!(expression(alloc, text, tokens)?, size => DirectiveLine::Space { size })
@@ -227,21 +239,6 @@ fn reading(
     }
 }
 
-/// A label and a directive, where both are read.
-fn labelled(
-    label: Result<Option<Text>, LineKind>,
-    line: Result<DirectiveLine, LineKind>,
-) -> Result<(Option<Text>, DirectiveLine), LineKind>
-    ensures { result ≡ says.on_both (λ label line. (label, line)) label line }
-{
-    match (label, line) {
-        (Ok(label), Ok(line)) => Ok((label, line)),
-        (Ok(_), Err(kind)) => Err(kind),
-        (Err(kind), Ok(_)) => Err(kind),
-        (Err(kind), Err(other)) => Err(earlier(kind, other)),
-    }
-}
-
 /// The label and the directive of a line.
 pub fn read_directive(
     alloc: Global,
@@ -253,7 +250,7 @@ pub fn read_directive(
 {
     let label = label_field(alloc, label_need(directive), text, sentence.label)?;
     let line = reading(alloc, text, directive, sentence.behind)?;
-    Ok(labelled(label, line))
+    Ok(both(label, line))
 }
 
 /// The directive that an operation names.

@@ -1,9 +1,21 @@
-//! The order in which kinds of faults are told.
+//! The order in which kinds of faults are told, and readings of a line, each with a value or the kind of its fault.
 
 ghost use Rattle.std.specs.Prelude.{◌≡◌};
 ghost use Rattle.asm_model.specs.Kinds as kinds;
+ghost use Rattle.asm_model.specs.Readings as readings;
 
 use sdt_fault::kinds::LineKind;
+
+/// The value of a reading. Where it has a fault, the function's reading has the same.
+#[macro_export]
+macro_rules! or_kind {
+    ($reading:expr) => {
+        match $reading {
+            Ok(value) => value,
+            Err(kind) => return Ok(Err(kind)),
+        }
+    };
+}
 
 /// The earlier of two kinds in the order in which they are told.
 pub fn earlier(a: LineKind, b: LineKind) -> LineKind
@@ -19,21 +31,20 @@ pub fn earlier(a: LineKind, b: LineKind) -> LineKind
 fn rank(kind: LineKind) -> u8
     ensures { result ≡ kinds.rank kind }
 {
-    match kind {
-        LineKind::Syntax => 0,
-        LineKind::UnknownWord => 1,
-        LineKind::FloatingPoint => 2,
-        LineKind::BadOperand => 3,
-        LineKind::Constant => 4,
-        LineKind::Forward => 5,
-        LineKind::DuplicateName => 6,
-        LineKind::WrongType => 7,
-        LineKind::OutOfRange => 8,
-        LineKind::Nesting => 9,
-        LineKind::Assert => 10,
-        LineKind::NoArea => 11,
-        LineKind::DivideByZero => 12,
-        LineKind::TooDeep => 13,
-        LineKind::TooMany => 14,
+    kind as u8
+}
+
+/// Two readings of one line: both values, or the kind that is told.
+pub fn both<A: Drop, B: Drop>(
+    a: Result<A, LineKind>,
+    b: Result<B, LineKind>,
+) -> Result<(A, B), LineKind>
+    ensures { result ≡ readings.both a b }
+{
+    match (a, b) {
+        (Ok(a), Ok(b)) => Ok((a, b)),
+        (Ok(_), Err(kind)) => Err(kind),
+        (Err(kind), Ok(_)) => Err(kind),
+        (Err(kind), Err(other)) => Err(earlier(kind, other)),
     }
 }

@@ -1,4 +1,8 @@
-//! Expressions and directives, read from tokens, and the values of expressions.
+//! Expressions and directives, read from tokens, and the values of expressions by what a line sees of names. Public
+//! source: the SDT 2.50 Reference Guide, chapter on the assembler; the levels and meanings of operators are this
+//! project's profile of it. The layers above read by `read::expression` and `says::said_directive`, evaluate by
+//! `value_seen` over a `Seen`, and choose between faults by `told` and `kinds`; `KnownNames` is their list of names,
+//! found by hash.
 #![tactic(auto)]
 
 pub mod areas;
@@ -15,6 +19,7 @@ pub mod parts;
 pub mod read;
 pub mod readings;
 pub mod registers;
+pub mod rows;
 pub mod says;
 pub mod slots;
 pub mod told;

@@ -13,6 +13,7 @@ ghost use Rattle.asm_model.specs.Meaning as meaning;
 ghost use Rattle.asm_model.specs.declared.exprs.BinaryOp.TheVariants as op;
 
 use crate::names::{Seen, entry_named};
+use crate::or_kind;
 use asm_model::{BinaryOp, LaidName, UnaryOp, Value};
 use sdt_fault::kinds::LineKind;
 use sdt_fault::{Bytes, NoMemory, Text};
@@ -234,28 +235,19 @@ fn between_places(
 fn as_number(n: Result<u32, LineKind>) -> Result<Value, LineKind>
     ensures { result ≡ meaning.as_number n }
 {
-    match n {
-        Ok(n) => Ok(Value::Number(n)),
-        Err(kind) => Err(kind),
-    }
+    Ok(Value::Number(n?))
 }
 
 fn as_truth(truth: Result<bool, LineKind>) -> Result<Value, LineKind>
     ensures { result ≡ meaning.as_truth truth }
 {
-    match truth {
-        Ok(truth) => Ok(Value::Truth(truth)),
-        Err(kind) => Err(kind),
-    }
+    Ok(Value::Truth(truth?))
 }
 
 fn as_words(words: Result<Bytes, LineKind>) -> Result<Value, LineKind>
     ensures { result ≡ meaning.as_words words }
 {
-    match words {
-        Ok(words) => Ok(Value::Words(words)),
-        Err(kind) => Err(kind),
-    }
+    Ok(Value::Words(words?))
 }
 
 fn as_place(
@@ -265,13 +257,9 @@ fn as_place(
 ) -> Result<Result<Value, LineKind>, NoMemory>
     ensures { IfOk result (λ value. value ≡ meaning.as_place symbol.now plus) }
 {
-    match plus {
-        Ok(plus) => {
-            let symbol = symbol.try_clone(alloc)?;
-            Ok(Ok(Value::Place { symbol, plus }))
-        }
-        Err(kind) => Ok(Err(kind)),
-    }
+    let plus = or_kind!(plus);
+    let symbol = symbol.try_clone(alloc)?;
+    Ok(Ok(Value::Place { symbol, plus }))
 }
 
 fn of_numbers(op: BinaryOp, m: u32, n: u32) -> Result<Value, LineKind>

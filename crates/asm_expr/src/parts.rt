@@ -205,6 +205,7 @@ fn sign_part(piece: &[u8]) -> Part
     plain_part(piece)
 }
 
+/// An operator that has letters.
 fn worded_part(piece: &[u8]) -> Part
     ensures { result ≡ parts.worded_part piece.now }
 {
@@ -226,6 +227,13 @@ fn worded_part(piece: &[u8]) -> Part
     if is(piece, b":DEF:") {
         return Part::OfName(UnaryOp::Defined);
     }
+    worded_infix(piece)
+}
+
+/// An operator of letters between two operands.
+fn worded_infix(piece: &[u8]) -> Part
+    ensures { result ≡ parts.worded_infix piece.now }
+{
     if is(piece, b":MOD:") {
         return Part::Infix(BinaryOp::Modulo);
     }
@@ -250,6 +258,13 @@ fn worded_part(piece: &[u8]) -> Part
     if is(piece, b":SHR:") {
         return Part::Infix(BinaryOp::ShiftRight);
     }
+    worded_logic(piece)
+}
+
+/// An operator of letters between truth values, or bit by bit.
+fn worded_logic(piece: &[u8]) -> Part
+    ensures { result ≡ parts.worded_logic piece.now }
+{
     if is(piece, b":AND:") {
         return Part::Infix(BinaryOp::And);
     }
@@ -271,6 +286,7 @@ fn worded_part(piece: &[u8]) -> Part
     Part::Other
 }
 
+/// An operator or a sign without letters.
 fn plain_part(piece: &[u8]) -> Part
     ensures { result ≡ parts.plain_part piece.now }
 {
@@ -301,6 +317,13 @@ fn plain_part(piece: &[u8]) -> Part
     if is(piece, b"/") {
         return Part::Infix(BinaryOp::Divide);
     }
+    relation_part(piece)
+}
+
+/// A relation without letters.
+fn relation_part(piece: &[u8]) -> Part
+    ensures { result ≡ parts.relation_part piece.now }
+{
     if is(piece, b"=") {
         return Part::Infix(BinaryOp::Equal);
     }

@@ -55,7 +55,7 @@ pub fn parse_expr(alloc: Global, line: &Flat, tokens: &[Token]) -> Result<Expr, 
 {
     match expression(alloc, line.text.as_slice(), tokens)? {
         Ok(expression) => Ok(expression),
-        Err(kind) => Err(bad_line(alloc, &line.source, line.number, kind)),
+        Err(kind) => Err(bad_line(alloc, line.source.as_text(), line.number, kind)),
     }
 }
 

@@ -3,13 +3,15 @@
 ghost use Rattle.std.specs.Prelude.{◌≡◌, ◌∷◌, ◌++◌, [], IfOk};
 ghost use Rattle.std.specs.Option.{option_copied};
 ghost use Rattle.asm_model.specs.Operands as operands;
+ghost use Rattle.asm_model.specs.Readings as readings;
 ghost use Rattle.asm_model.specs.Says as says;
 ghost use Rattle.asm_model.specs.declared.directives.Boundary.TheVariants as limit;
 ghost use Rattle.asm_model.specs.declared.directives.DirectiveLine.TheVariants as line;
 
 use crate::areas::attributes;
-use crate::kinds::earlier;
+use crate::kinds::both;
 use crate::operands::{first_operand, is, piece_of};
+use crate::or_kind;
 use crate::parts::inside;
 use crate::read::expression;
 use crate::registers::register_named;
@@ -112,21 +114,6 @@ fn weak_mark(text: &[u8], tokens: &[Token]) -> Result<Option<bool>, LineKind>
     }
 }
 
-/// Two readings of one line.
-fn both(
-    name: Result<Text, LineKind>,
-    weak: Result<Option<bool>, LineKind>,
-) -> Result<(Text, Option<bool>), LineKind>
-    ensures { result ≡ says.on_both (λ n w. (n, w)) name weak }
-{
-    match (name, weak) {
-        (Ok(name), Ok(weak)) => Ok((name, weak)),
-        (Ok(_), Err(kind)) => Err(kind),
-        (Err(kind), Ok(_)) => Err(kind),
-        (Err(kind), Err(other)) => Err(earlier(kind, other)),
-    }
-}
-
 /// A name, and whether it is weak, where that can be told.
 pub fn import(
     alloc: Global,
@@ -149,18 +136,12 @@ fn with_one_more(
     so_far: Result<List<Expr>, LineKind>,
     reading: Result<Expr, LineKind>,
 ) -> Result<Result<List<Expr>, LineKind>, NoMemory>
-    ensures { IfOk result (λ all. all ≡ says.on_both (λ es e. es ++ e ∷ []) so_far reading) }
+    ensures { IfOk result (λ all. all ≡ readings.on_both (λ es e. es ++ e ∷ []) so_far reading) }
 {
-    match (so_far, reading) {
-        (Ok(list), Ok(expression)) => {
-            let mut items = list.into_vec();
-            items.push(expression)?;
-            Ok(Ok(List::from_vec(items)))
-        }
-        (Ok(_), Err(kind)) => Ok(Err(kind)),
-        (Err(kind), Ok(_)) => Ok(Err(kind)),
-        (Err(kind), Err(other)) => Ok(Err(earlier(kind, other))),
-    }
+    let (list, expression) = or_kind!(both(so_far, reading));
+    let mut items = list.into_vec();
+    items.push(expression)?;
+    Ok(Ok(List::from_vec(items)))
 }
 
 /// Operands, each of them an expression.
@@ -205,14 +186,10 @@ fn area_with(
     name: Result<Text, LineKind>,
     attributes: Result<AreaAttributes, LineKind>,
 ) -> Result<DirectiveLine, LineKind>
-    ensures { result ≡ says.on_both (λ n a. line.Area n a) name attributes }
+    ensures { result ≡ readings.on_both (λ n a. line.Area n a) name attributes }
 {
-    match (name, attributes) {
-        (Ok(name), Ok(attributes)) => Ok(DirectiveLine::Area { name, attributes }),
-        (Ok(_), Err(kind)) => Err(kind),
-        (Err(kind), Ok(_)) => Err(kind),
-        (Err(kind), Err(other)) => Err(earlier(kind, other)),
-    }
+    let (name, attributes) = both(name, attributes)?;
+    Ok(DirectiveLine::Area { name, attributes })
 }
 
 /// The operands of AREA.
@@ -269,12 +246,10 @@ fn number(
 ) -> Result<Result<DirectiveLine, LineKind>, NoMemory>
     ensures { IfOk result (λ line. says.Register text.now None tokens.now line) }
 {
-    match expression(alloc, text, tokens)? {
-        Ok(expression) => Ok(Ok(DirectiveLine::Rn {
-            register: RnOperand::Number(expression),
-        })),
-        Err(kind) => Ok(Err(kind)),
-    }
+    let number = or_kind!(expression(alloc, text, tokens)?);
+    Ok(Ok(DirectiveLine::Rn {
+        register: RnOperand::Number(number),
+    }))
 }
 
 /// A multiple and an offset behind it.
@@ -282,16 +257,12 @@ fn behind_multiple(
     multiple: Result<Expr, LineKind>,
     offset: Result<Expr, LineKind>,
 ) -> Result<DirectiveLine, LineKind>
-    ensures { result ≡ says.on_both (λ m o. line.Align (limit.Behind m o)) multiple offset }
+    ensures { result ≡ readings.on_both (λ m o. line.Align (limit.Behind m o)) multiple offset }
 {
-    match (multiple, offset) {
-        (Ok(multiple), Ok(offset)) => Ok(DirectiveLine::Align {
-            boundary: Boundary::Behind { multiple, offset },
-        }),
-        (Ok(_), Err(kind)) => Err(kind),
-        (Err(kind), Ok(_)) => Err(kind),
-        (Err(kind), Err(other)) => Err(earlier(kind, other)),
-    }
+    let (multiple, offset) = both(multiple, offset)?;
+    Ok(DirectiveLine::Align {
+        boundary: Boundary::Behind { multiple, offset },
+    })
 }
 
 /// One operand of ALIGN.
@@ -302,12 +273,10 @@ fn multiple(
 ) -> Result<Result<DirectiveLine, LineKind>, NoMemory>
     ensures { IfOk result (λ line. says.Aligned text.now (operand.now ∷ []) line) }
 {
-    match expression(alloc, text, operand)? {
-        Ok(of) => Ok(Ok(DirectiveLine::Align {
-            boundary: Boundary::Multiple { of },
-        })),
-        Err(kind) => Ok(Err(kind)),
-    }
+    let of = or_kind!(expression(alloc, text, operand)?);
+    Ok(Ok(DirectiveLine::Align {
+        boundary: Boundary::Multiple { of },
+    }))
 }
 
 /// Two operands of ALIGN.

@@ -3,7 +3,54 @@
 ghost use Rattle.std.specs.Prelude.{◌≡◌};
 ghost use Rattle.asm_model.specs.Registers as registers;
 
-use asm_model::is_called;
+use crate::rows::row_of;
+
+/// r0 to r15.
+static NUMBERED: [(&[u8], u8); 16] = [
+    (b"r0", 0),
+    (b"r1", 1),
+    (b"r2", 2),
+    (b"r3", 3),
+    (b"r4", 4),
+    (b"r5", 5),
+    (b"r6", 6),
+    (b"r7", 7),
+    (b"r8", 8),
+    (b"r9", 9),
+    (b"r10", 10),
+    (b"r11", 11),
+    (b"r12", 12),
+    (b"r13", 13),
+    (b"r14", 14),
+    (b"r15", 15),
+];
+
+/// The registers with a part of their own.
+static SPECIAL: [(&[u8], u8); 7] = [
+    (b"sb", 9),
+    (b"sl", 10),
+    (b"fp", 11),
+    (b"ip", 12),
+    (b"sp", 13),
+    (b"lr", 14),
+    (b"pc", 15),
+];
+
+/// Arguments and variables.
+static OF_CALLS: [(&[u8], u8); 12] = [
+    (b"a1", 0),
+    (b"a2", 1),
+    (b"a3", 2),
+    (b"a4", 3),
+    (b"v1", 4),
+    (b"v2", 5),
+    (b"v3", 6),
+    (b"v4", 7),
+    (b"v5", 8),
+    (b"v6", 9),
+    (b"v7", 10),
+    (b"v8", 11),
+];
 
 /// The register that a word names in any case, 0 to 15; None where it names none.
 #[tactic(auto, unfolding(asm_model::specs::Registers::register_named))]
@@ -19,131 +66,23 @@ pub fn register_named(word: &[u8]) -> Option<u8>
     call_register(word)
 }
 
-/// r0 to r15.
 #[tactic(auto, unfolding(asm_model::specs::Registers::numbered_register))]
 fn numbered_register(word: &[u8]) -> Option<u8>
     ensures { result ≡ registers.numbered_register word.now }
 {
-    if is_called(b"r0", word) {
-        return Some(0);
-    }
-    if is_called(b"r1", word) {
-        return Some(1);
-    }
-    if is_called(b"r2", word) {
-        return Some(2);
-    }
-    if is_called(b"r3", word) {
-        return Some(3);
-    }
-    if is_called(b"r4", word) {
-        return Some(4);
-    }
-    if is_called(b"r5", word) {
-        return Some(5);
-    }
-    if is_called(b"r6", word) {
-        return Some(6);
-    }
-    if is_called(b"r7", word) {
-        return Some(7);
-    }
-    if is_called(b"r8", word) {
-        return Some(8);
-    }
-    if is_called(b"r9", word) {
-        return Some(9);
-    }
-    if is_called(b"r10", word) {
-        return Some(10);
-    }
-    if is_called(b"r11", word) {
-        return Some(11);
-    }
-    if is_called(b"r12", word) {
-        return Some(12);
-    }
-    if is_called(b"r13", word) {
-        return Some(13);
-    }
-    if is_called(b"r14", word) {
-        return Some(14);
-    }
-    if is_called(b"r15", word) {
-        return Some(15);
-    }
-    None
+    row_of(word, &NUMBERED)
 }
 
-/// The registers with a part of their own.
 #[tactic(auto, unfolding(asm_model::specs::Registers::special_register))]
 fn special_register(word: &[u8]) -> Option<u8>
     ensures { result ≡ registers.special_register word.now }
 {
-    if is_called(b"sb", word) {
-        return Some(9);
-    }
-    if is_called(b"sl", word) {
-        return Some(10);
-    }
-    if is_called(b"fp", word) {
-        return Some(11);
-    }
-    if is_called(b"ip", word) {
-        return Some(12);
-    }
-    if is_called(b"sp", word) {
-        return Some(13);
-    }
-    if is_called(b"lr", word) {
-        return Some(14);
-    }
-    if is_called(b"pc", word) {
-        return Some(15);
-    }
-    None
+    row_of(word, &SPECIAL)
 }
 
-/// Arguments and variables.
 #[tactic(auto, unfolding(asm_model::specs::Registers::call_register))]
 fn call_register(word: &[u8]) -> Option<u8>
     ensures { result ≡ registers.call_register word.now }
 {
-    if is_called(b"a1", word) {
-        return Some(0);
-    }
-    if is_called(b"a2", word) {
-        return Some(1);
-    }
-    if is_called(b"a3", word) {
-        return Some(2);
-    }
-    if is_called(b"a4", word) {
-        return Some(3);
-    }
-    if is_called(b"v1", word) {
-        return Some(4);
-    }
-    if is_called(b"v2", word) {
-        return Some(5);
-    }
-    if is_called(b"v3", word) {
-        return Some(6);
-    }
-    if is_called(b"v4", word) {
-        return Some(7);
-    }
-    if is_called(b"v5", word) {
-        return Some(8);
-    }
-    if is_called(b"v6", word) {
-        return Some(9);
-    }
-    if is_called(b"v7", word) {
-        return Some(10);
-    }
-    if is_called(b"v8", word) {
-        return Some(11);
-    }
-    None
+    row_of(word, &OF_CALLS)
 }

@@ -3,12 +3,14 @@
 ghost use Rattle.std.specs.Prelude.{◌≡◌, [], IfOk, OnOk, if◌then◌else◌};
 ghost use Rattle.std.specs.Option.{option_copied};
 ghost use Rattle.asm_model.specs.Meaning as meaning;
+ghost use Rattle.asm_model.specs.Readings as readings;
 ghost use Rattle.asm_expr.specs.Evaluating as evaluating;
 ghost use Rattle.asm_expr.specs.Seeing.{seen_names};
 
-use crate::kinds::earlier;
+use crate::kinds::both;
 use crate::names::{Seen, entry_named};
 use crate::operators::{binary, unary};
+use crate::or_kind;
 use crate::slots::{Slot, known, slot_of};
 use asm_model::{BinaryOp, EvalFault, Expr, ExprItem, LaidName, Meaning, UnaryOp, Value};
 use sdt_fault::kinds::LineKind;
@@ -50,13 +52,11 @@ fn on_value(
     operand: Slot<'_>,
 ) -> Result<Result<Value, LineKind>, NoMemory>
     ensures { IfOk result (λ value. value
-        ≡ meaning.then_of (meaning.known (evaluating.operand_of operand.entry))
+        ≡ readings.and_then (meaning.known (evaluating.operand_of operand.entry))
         (meaning.unary_of op)) }
 {
-    match known(alloc, operand)? {
-        Ok(value) => unary(alloc, op, &value),
-        Err(kind) => Ok(Err(kind)),
-    }
+    let value = or_kind!(known(alloc, operand)?);
+    unary(alloc, op, &value)
 }
 
 /// An operator before an operand.
@@ -84,16 +84,12 @@ fn on_both(
     right: Slot<'_>,
 ) -> Result<Result<Value, LineKind>, NoMemory>
     ensures { IfOk result (λ value. value
-        ≡ meaning.on_both (meaning.known (evaluating.operand_of left.entry))
+        ≡ readings.then_both (meaning.known (evaluating.operand_of left.entry))
         (meaning.known (evaluating.operand_of right.entry))
         (meaning.binary (seen_names seen.now) op)) }
 {
-    match (known(alloc, left)?, known(alloc, right)?) {
-        (Ok(left), Ok(right)) => binary(alloc, seen, op, &left, &right),
-        (Ok(_), Err(kind)) => Ok(Err(kind)),
-        (Err(kind), Ok(_)) => Ok(Err(kind)),
-        (Err(kind), Err(other)) => Ok(Err(earlier(kind, other))),
-    }
+    let (left, right) = or_kind!(both(known(alloc, left)?, known(alloc, right)?));
+    binary(alloc, seen, op, &left, &right)
 }
 
 /// An item that is an operand.

@@ -14,8 +14,8 @@ use Rattle.asm_model.specs.Meaning.{named_in, meaning, IsValue, Evaluates}
 use Rattle.asm_model.specs.Trees.{tree_of}
 use Rattle.asm_model.proofs.TreeLemmas.{trees_read_back}
 use Rattle.layout_laws.proofs.FoundLemmas.{tree_final, final_tree}
-use Rattle.asm_names.specs.Lines.{line_of, Sees}
-use Rattle.said_model.specs.Said.{IsRead}
+use Rattle.asm_names.specs.PlacedLines.{line_of, Sees}
+use Rattle.asm_model.specs.Said.{IsRead}
 use Rattle.source_model.specs.Contexts.{Context, sees, value_of, register, or_zero}
 use Rattle.source_model.specs.Registers.{register_in}
 use Rattle.asm_instructions.specs.declared.lookups.Lookup.{Lookup}

@@ -32,9 +32,9 @@ use Rattle.asm_model.specs.declared.arm_lines.ArmLine.TheVariants as arm
 use Rattle.asm_model.specs.declared.statements.PseudoLine.{PseudoLine}
 use Rattle.asm_model.specs.declared.statements.PseudoLine.TheVariants as pseudo
 use Rattle.asm_model.specs.LayoutKinds.{is_true}
-use Rattle.asm_model.specs.Says.{mapped}
-use Rattle.said_model.specs.Said.{RegisterSaid, OperationSaid, FactorSaid, HalfSaid, IsUntranslated, ArmSaid, PseudoSaid}
-use Rattle.source_model.specs.Contexts.{Context, value_of, number_in, or_zero, register, and_then, magnitude, is_positive, offset_below, own_offset, from_pc}
+use Rattle.asm_model.specs.Readings.{and_then, mapped}
+use Rattle.asm_model.specs.Said.{RegisterSaid, OperationSaid, FactorSaid, HalfSaid, IsUntranslated, ArmSaid, PseudoSaid}
+use Rattle.source_model.specs.Contexts.{Context, value_of, number_in, or_zero, register, magnitude, is_positive, offset_below, own_offset, from_pc}
 use Rattle.source_model.specs.Registers.{register_in}
 use Rattle.source_model.specs.Immediates.{rotations, turned_back, immediate_among, immediate, negated, twin, with_immediate, twin_instruction, data_immediate, status_of}
 use Rattle.source_model.specs.ArmForms.{amount_field, shift_fields, is_before, writes_back, is_listed_by, list_bits, is_block_before, is_block_up, branch_field, branch_displacement, arm_instruction}
@@ -152,15 +152,49 @@ among_fits (r ∷ rs) n h = by_test (nat_lt (turned_back n r) 256) refl (among_f
 immediate_fits : (n : ℕ) → HoldsIn IsOperand (immediate n)
 unfolding immediate
 immediate_fits n =
-    among_fits rotations n
-    (omega arith, (omega arith, (omega arith, (omega arith, (omega arith, (omega arith, (omega arith, (omega arith, (omega arith, (omega arith, (omega arith, (omega arith, (omega arith, (omega arith, (omega arith, (omega arith, tt))))))))))))))))
+    among_fits rotations n (
+      omega arith,
+      (
+        omega arith,
+        (
+          omega arith,
+          (
+            omega arith,
+            (
+              omega arith,
+              (
+                omega arith,
+                (
+                  omega arith,
+                  (
+                    omega arith,
+                    (
+                      omega arith,
+                      (
+                        omega arith,
+                        (
+                          omega arith,
+                          (omega arith, (omega arith, (omega arith, (omega arith, (omega arith, tt))))),
+                        ),
+                      ),
+                    ),
+                  ),
+                ),
+              ),
+            ),
+          ),
+        ),
+      ),
+    )
 
-number_fits : (k : Condition) (o : Operation) (s : Bool) (n d : ℕ) (i : ℕ × ℕ) → n < 2 ^ 4 → d < 2 ^ 4 → IsOperand i → FitsOperation (operation_code o) (flag s) n d
+number_fits : (k : Condition) (o : Operation) (s : Bool) (n d : ℕ) (i : ℕ × ℕ) → n < 2 ^ 4 → d < 2 ^ 4 → IsOperand i
+    → FitsOperation (operation_code o) (flag s) n d
     → Fits (instr.DataImmediate k o s n d i.0 i.1)
 number_fits k o s n d i first to operand operation =
     record { fields = (condition_below k, (operation_below o, (flag_below s, (first, (to, (operand.0, (operand.1, tt))))))); conditions = operation }
 
-with_fits : (k : Condition) (o : Operation) (s : Bool) (n d : ℕ) (i : Option (ℕ × ℕ)) (other : Result ArmInstr LineKind) → n < 2 ^ 4 → d < 2 ^ 4 → HoldsIn IsOperand i
+with_fits : (k : Condition) (o : Operation) (s : Bool) (n d : ℕ) (i : Option (ℕ × ℕ)) (other : Result ArmInstr LineKind) → n < 2 ^ 4 → d < 2 ^ 4
+    → HoldsIn IsOperand i
     → FitsOperation (operation_code o) (flag s) n d → Holds Fits other → Holds Fits (with_immediate k o s n d i other)
 with_fits k o s n d None other first to operand operation rest = rest
 with_fits k o s n d (Some i) other first to operand operation rest = number_fits k o s n d i first to operand operation
@@ -228,7 +262,8 @@ module _ (c : Context) (named : NamesRegisters c) where
       by_option None e = omega arith
       by_option (Some n) e = named q n e
 
-  operation_fits : (o : Operation) (s : Bool) (rd rn : Register) → OperationSaid o s rd rn → FitsOperation (operation_code o) (flag s) (register c rn) (register c rd)
+  operation_fits : (o : Operation) (s : Bool) (rd rn : Register) → OperationSaid o s rd rn
+      → FitsOperation (operation_code o) (flag s) (register c rn) (register c rd)
   operation_fits Tst s rd rn h = as_comparison 8 (flag s) (register c rn) (register c rd) (omega arith) (ap flag h.flags) (ap (register c) h.none)
   operation_fits Teq s rd rn h = as_comparison 9 (flag s) (register c rn) (register c rd) (omega arith) (ap flag h.flags) (ap (register c) h.none)
   operation_fits Cmp s rd rn h = as_comparison 10 (flag s) (register c rn) (register c rd) (omega arith) (ap flag h.flags) (ap (register c) h.none)
@@ -273,11 +308,21 @@ module _ (c : Context) (named : NamesRegisters c) where
         conditions = tt;
       })
 
-  half_transfer : (k : Condition) (ix : Indexing) (u e load : Bool) (rn rd high low : ℕ) (kind : HalfKind) → HalfSaid load kind → IsUntranslated ix → rn < 2 ^ 4 → rd < 2 ^ 4
+  half_transfer : (k : Condition) (ix : Indexing) (u e load : Bool) (rn rd high low : ℕ) (kind : HalfKind) → HalfSaid load kind → IsUntranslated ix → rn < 2 ^ 4
+      → rd < 2 ^ 4
       → high < 2 ^ 4 → low < 2 ^ 4 → (flag e ≡ 0 → high ≡ 0)
       → Fits (instr.TransferHalf k (is_before ix) u e (writes_back ix) load rn rd high kind low)
   half_transfer k ix u e load rn rd high low kind moved kept base with h l free = record {
-    fields = (condition_below k, (flag_below (is_before ix), (flag_below u, (flag_below e, (flag_below (writes_back ix), (flag_below load, (base, (with, (h, (half_below kind, (l, tt)))))))))));
+    fields = (
+      condition_below k,
+      (
+        flag_below (is_before ix),
+        (
+          flag_below u,
+          (flag_below e, (flag_below (writes_back ix), (flag_below load, (base, (with, (h, (half_below kind, (l, tt)))))))),
+        ),
+      ),
+    );
     conditions = record {
       kind = half_positive kind;
       store = half_store load kind moved;
@@ -291,21 +336,67 @@ module _ (c : Context) (named : NamesRegisters c) where
       then_holds Fits (data_immediate k o s (register c rn) (register c rd)) (number_in c e)
       (λ n. data_fits k o s (register c rn) (register c rd) n (fits_register rn h.1) (fits_register rd h.0) (operation_fits o s rd rn h.2))
   arm_fits (arm.DataShifted k o s rd rn rm by) h =
-      mapped_holds (λ f. f.1 < 2 ^ 5) Fits (λ f. instr.DataShifted k o s (register c rn) (register c rd) f.1 f.0 (register c rm)) (shift_fields c by) (shift_fits by)
+      mapped_holds (λ f. f.1 < 2 ^ 5) Fits (λ f. instr.DataShifted k o s (register c rn) (register c rd) f.1 f.0 (register c rm)) (shift_fields c by)
+      (shift_fits by)
       (λ f a. record {
-        fields = (condition_below k, (operation_below o, (flag_below s, (fits_register rn h.1, (fits_register rd h.0, (a, (shift_below f.0, (fits_register rm h.3, tt))))))));
+        fields = (
+          condition_below k,
+          (
+            operation_below o,
+            (
+              flag_below s,
+              (
+                fits_register rn h.1,
+                (fits_register rd h.0, (a, (shift_below f.0, (fits_register rm h.3, tt)))),
+              ),
+            ),
+          ),
+        );
         conditions = operation_fits o s rd rn h.2;
       })
   arm_fits (arm.DataRegisterShifted k o s rd rn rm kind rs) h = record {
-    fields = (condition_below k, (operation_below o, (flag_below s, (fits_register rn h.1, (fits_register rd h.0, (fits_register rs h.4, (shift_below kind, (fits_register rm h.3, tt))))))));
+    fields = (
+      condition_below k,
+      (
+        operation_below o,
+        (
+          flag_below s,
+          (
+            fits_register rn h.1,
+            (fits_register rd h.0, (fits_register rs h.4, (shift_below kind, (fits_register rm h.3, tt)))),
+          ),
+        ),
+      ),
+    );
     conditions = operation_fits o s rd rn h.2;
   }
   arm_fits (arm.Multiply k accumulate s rd rm rs rn) h = record {
-    fields = (condition_below k, (flag_below accumulate, (flag_below s, (fits_register rd h.0, (fits_register rn h.3, (fits_register rs h.2, (fits_register rm h.1, tt)))))));
+    fields = (
+      condition_below k,
+      (
+        flag_below accumulate,
+        (
+          flag_below s,
+          (
+            fits_register rd h.0,
+            (fits_register rn h.3, (fits_register rs h.2, (fits_register rm h.1, tt))),
+          ),
+        ),
+      ),
+    );
     conditions = factor_fits accumulate rn h.4;
   }
   arm_fits (arm.MultiplyLong k signed accumulate s low high rm rs) h = record {
-    fields = (condition_below k, (flag_below signed, (flag_below accumulate, (flag_below s, (fits_register high h.1, (fits_register low h.0, (fits_register rs h.3, (fits_register rm h.2, tt))))))));
+    fields = (
+      condition_below k,
+      (
+        flag_below signed,
+        (
+          flag_below accumulate,
+          (flag_below s, (fits_register high h.1, (fits_register low h.0, (fits_register rs h.3, (fits_register rm h.2, tt))))),
+        ),
+      ),
+    );
     conditions = tt;
   }
   arm_fits (arm.Swap k byte rd rm rn) h =
@@ -317,9 +408,11 @@ module _ (c : Context) (named : NamesRegisters c) where
   arm_fits (arm.WriteStatusImmediate k saved fields e) h =
       then_holds Fits (λ n. status_of k saved fields (immediate n)) (number_in c e) (λ n. status_fits k saved fields (immediate n) h.0 (immediate_fits n))
   arm_fits (arm.TransferImmediate k load byte rd (address.Based rn ix e)) h =
-      then_holds Fits (λ n. mapped (λ o. instr.TransferImmediate k (is_before ix) o.0 byte (writes_back ix) load (register c rn) (register c rd) o.1) (offset_below 4096 n))
+      then_holds Fits (λ n. mapped (λ o. instr.TransferImmediate k (is_before ix) o.0 byte (writes_back ix) load (register c rn) (register c rd) o.1)
+      (offset_below 4096 n))
       (number_in c e)
-      (λ n. immediate_transfer k (is_before ix) byte (writes_back ix) load (register c rn) (register c rd) 4096 n (omega arith) (fits_register rn h.1.0) (fits_register rd h.0))
+      (λ n. immediate_transfer k (is_before ix) byte (writes_back ix) load (register c rn) (register c rd) 4096 n (omega arith) (fits_register rn h.1.0)
+      (fits_register rd h.0))
   arm_fits (arm.TransferImmediate k load byte rd (address.Label e)) h =
       then_holds Fits (λ at. mapped (λ o. instr.TransferImmediate k true o.0 byte false load 15 (register c rd) o.1) (offset_below 4096 (from_pc c at)))
       (own_offset c (value_of c e))
@@ -352,11 +445,13 @@ module _ (c : Context) (named : NamesRegisters c) where
       })
   arm_fits (arm.TransferHalf k load kind rd rn ix (half.Number e)) h =
       then_holds Fits
-      (λ n. mapped (λ o. instr.TransferHalf k (is_before ix) o.0 true (writes_back ix) load (register c rn) (register c rd) (o.1 / 16) kind (o.1 % 16)) (offset_below 256 n))
+      (λ n. mapped (λ o. instr.TransferHalf k (is_before ix) o.0 true (writes_back ix) load (register c rn) (register c rd) (o.1 / 16) kind (o.1 % 16))
+      (offset_below 256 n))
       (number_in c e)
       (λ n.
       mapped_holds (λ o. o.1 < 256) Fits
-      (λ o. instr.TransferHalf k (is_before ix) o.0 true (writes_back ix) load (register c rn) (register c rd) (o.1 / 16) kind (o.1 % 16)) (offset_below 256 n) (offset_fits 256 n)
+      (λ o. instr.TransferHalf k (is_before ix) o.0 true (writes_back ix) load (register c rn) (register c rd) (o.1 / 16) kind (o.1 % 16)) (offset_below 256 n)
+      (offset_fits 256 n)
       (λ o a.
       half_transfer k ix o.0 true load (register c rn) (register c rd) (o.1 / 16) (o.1 % 16) kind h.2 h.3 (fits_register rn h.1) (fits_register rd h.0)
       (omega arith) (omega arith) (λ z. absurd (omega arith))))
@@ -370,7 +465,10 @@ module _ (c : Context) (named : NamesRegisters c) where
     where
       block_fits : (k : Condition) (p u s w load : Bool) (rn bits : ℕ) → rn < 2 ^ 4 → bits < 2 ^ 16 → Fits (instr.TransferBlock k p u s w load rn bits)
       block_fits k p u s w load rn bits base low =
-          record { fields = (condition_below k, (flag_below p, (flag_below u, (flag_below s, (flag_below w, (flag_below load, (base, (low, tt)))))))); conditions = tt }
+          record {
+            fields = (condition_below k, (flag_below p, (flag_below u, (flag_below s, (flag_below w, (flag_below load, (base, (low, tt))))))));
+            conditions = tt;
+          }
   arm_fits (arm.Branch k link e) h =
       then_holds Fits (λ d. mapped (λ f. instr.Branch k link f) (branch_field d)) (branch_displacement c (value_of c e))
       (λ d. mapped_holds (λ f. f < 2 ^ 24) Fits (λ f. instr.Branch k link f) (branch_field d) (field_fits d)
@@ -385,7 +483,8 @@ module _ (c : Context) (named : NamesRegisters c) where
 
 -- ---- pseudo-instructions
 
-adding_fits : (k : Condition) (o : Operation) (n d : ℕ) (i : ℕ × ℕ) → n < 2 ^ 4 → d < 2 ^ 4 → IsOperand i → FitsOperation (operation_code o) 0 n d → Fits (adding k o n d i)
+adding_fits : (k : Condition) (o : Operation) (n d : ℕ) (i : ℕ × ℕ) → n < 2 ^ 4 → d < 2 ^ 4 → IsOperand i → FitsOperation (operation_code o) 0 n d
+    → Fits (adding k o n d i)
 adding_fits k o n d i first to operand h = number_fits k o false n d i first to operand h
 
 address_fits : (k : Condition) (rd : ℕ) (i j : Option (ℕ × ℕ)) → rd < 2 ^ 4 → HoldsIn IsOperand i → HoldsIn IsOperand j → Holds Fits (address_by k rd i j)
@@ -395,8 +494,10 @@ address_fits k rd None None to h g = tt
 
 two_fits : (k : Condition) (o : Operation) (rd : ℕ) (i j : Option (ℕ × ℕ)) → operation_code o < 8 → rd < 2 ^ 4 → HoldsIn IsOperand i → HoldsIn IsOperand j
     → HoldsIn AllFit (two_by k o rd i j)
-two_fits k o rd (Some i) (Some j) low to h g =
-    (adding_fits k o 15 rd i (omega arith) to h (plain (operation_code o) 0 15 rd low), (adding_fits k o rd rd j to to g (plain (operation_code o) 0 rd rd low), tt))
+two_fits k o rd (Some i) (Some j) low to h g = (
+  adding_fits k o 15 rd i (omega arith) to h (plain (operation_code o) 0 15 rd low),
+  (adding_fits k o rd rd j to to g (plain (operation_code o) 0 rd rd low), tt),
+)
 two_fits k o rd (Some i) None low to h g = tt
 two_fits k o rd None j low to h g = tt
 
@@ -409,7 +510,8 @@ long_fits : (k : Condition) (rd distance : ℕ) → rd < 2 ^ 4 → Holds AllFit 
 long_fits k rd n to =
     first_fits (two_of k Add rd n) (two_of k Sub rd (negated n))
     (two_fits k Add rd (immediate (first_part n)) (immediate (second_part n)) (omega arith) to (immediate_fits (first_part n)) (immediate_fits (second_part n)))
-    (two_fits k Sub rd (immediate (first_part (negated n))) (immediate (second_part (negated n))) (omega arith) to (immediate_fits (first_part (negated n))) (immediate_fits (second_part (negated n))))
+    (two_fits k Sub rd (immediate (first_part (negated n))) (immediate (second_part (negated n))) (omega arith) to (immediate_fits (first_part (negated n)))
+    (immediate_fits (second_part (negated n))))
 
 module _ (c : Context) (named : NamesRegisters c) where
   listed_fits : (r : Result ArmInstr LineKind) → Holds Fits r → Holds AllFit (mapped one r)
@@ -421,11 +523,24 @@ module _ (c : Context) (named : NamesRegisters c) where
       (λ n. listed_fits (data_immediate k Mov false 0 (register c rd) n)
       (data_fits k Mov false 0 (register c rd) n (omega arith) (fits_register c named rd h.0) (as_move 13 0 0 (register c rd) (omega arith) refl)))
   pseudo_fits (Some word) (pseudo.LoadConstant k rd e) h =
-      mapped_holds (λ o. o.1 < 4096) AllFit (λ o. one (instr.TransferImmediate k true o.0 false false true 15 (register c rd) o.1)) (offset_below 4096 (from_pc c word))
+      mapped_holds (λ o. o.1 < 4096) AllFit (λ o. one (instr.TransferImmediate k true o.0 false false true 15 (register c rd) o.1))
+      (offset_below 4096 (from_pc c word))
       (offset_fits 4096 (from_pc c word))
       (λ o low. (
         record {
-          fields = (condition_below k, (flag_below true, (flag_below o.0, (flag_below false, (flag_below false, (flag_below true, (omega arith, (fits_register c named rd h.0, (omega arith, tt)))))))));
+          fields = (
+            condition_below k,
+            (
+              flag_below true,
+              (
+                flag_below o.0,
+                (
+                  flag_below false,
+                  (flag_below false, (flag_below true, (omega arith, (fits_register c named rd h.0, (omega arith, tt))))),
+                ),
+              ),
+            ),
+          );
           conditions = tt;
         },
         tt,
@@ -433,14 +548,24 @@ module _ (c : Context) (named : NamesRegisters c) where
   pseudo_fits word (pseudo.Address k rd e) h =
       then_holds AllFit (λ at. mapped one (address_instruction k (register c rd) (from_pc c at))) (own_offset c (value_of c e))
       (λ at. listed_fits (address_instruction k (register c rd) (from_pc c at))
-      (address_fits k (register c rd) (immediate (from_pc c at)) (immediate (negated (from_pc c at))) (fits_register c named rd h.0) (immediate_fits (from_pc c at))
+      (address_fits k (register c rd) (immediate (from_pc c at)) (immediate (negated (from_pc c at))) (fits_register c named rd h.0)
+      (immediate_fits (from_pc c at))
       (immediate_fits (negated (from_pc c at)))))
   pseudo_fits word (pseudo.LongAddress k rd e) h =
       then_holds AllFit (λ at. long_address k (register c rd) (from_pc c at)) (own_offset c (value_of c e))
       (λ at. long_fits k (register c rd) (from_pc c at) (fits_register c named rd h.0))
   pseudo_fits word pseudo.NoOperation h = (
     record {
-      fields = (condition_below condition.Al, (operation_below Mov, (flag_below false, (omega arith, (omega arith, (omega arith, (shift_below Lsl, (omega arith, tt))))))));
+      fields = (
+        condition_below condition.Al,
+        (
+          operation_below Mov,
+          (
+            flag_below false,
+            (omega arith, (omega arith, (omega arith, (shift_below Lsl, (omega arith, tt))))),
+          ),
+        ),
+      );
       conditions = as_move 13 0 0 0 (omega arith) refl;
     },
     tt,

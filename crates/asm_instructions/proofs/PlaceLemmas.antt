@@ -39,7 +39,8 @@ bits_step c is k bits more total b low e m fits h =
       subst (λ z. bits + z + list_bits c is (suc k) (16 - suc k) ≡ total) (sym now) (bits_next c is k (16 - k) (16 - suc k) bits total n h),
     )
 
-pub block_said : (c : Context) (condition : Condition) (load : Bool) (m : BlockMode) (rn : Register) (write_back : Bool) (list : RegisterList) (user p u : Bool) (n bits : ℕ)
+pub block_said : (c : Context) (condition : Condition) (load : Bool) (m : BlockMode) (rn : Register) (write_back : Bool) (list : RegisterList) (user p u : Bool)
+    (n bits : ℕ)
     → p ≡ is_block_before m → u ≡ is_block_up m → n ≡ register c rn → bits ≡ list_bits c list.items 0 16
     → Ok (instr.TransferBlock condition p u user write_back load n bits) ≡ arm_instruction c (arm.TransferBlock condition load m rn write_back list user)
 block_said c condition load m rn write_back list user p u n bits before up number listed =

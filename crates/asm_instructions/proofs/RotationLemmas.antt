@@ -39,7 +39,25 @@ Undone r = (n : ℕ) → n < 2 ^ 32 → operand r (turned_back n r) ≡ n
 undone : (r : ℕ) → r < 16 → Undone r
 undone r h =
     of_each Undone 0 16 r
-    ((undone_0, (undone_30, (undone_28, (undone_26, (undone_24, (undone_22, (undone_20, (undone_18, (undone_16, (undone_14, (undone_12, (undone_10, (undone_8, (undone_6, (undone_4, (undone_2, tt)))))))))))))))))
+    ((
+      undone_0,
+      (
+        undone_30,
+        (
+          undone_28,
+          (
+            undone_26,
+            (
+              undone_24,
+              (
+                undone_22,
+                (undone_20, (undone_18, (undone_16, (undone_14, (undone_12, (undone_10, (undone_8, (undone_6, (undone_4, (undone_2, tt)))))))))),
+              ),
+            ),
+          ),
+        ),
+      ),
+    ))
     (omega arith) (omega arith)
 
 abbrev Back : ℕ → Type 0
@@ -96,7 +114,31 @@ back_15 byte h = omega arith
 back : (r : ℕ) → r < 16 → Back r
 back r h =
     of_each Back 0 16 r
-    ((back_0, (back_1, (back_2, (back_3, (back_4, (back_5, (back_6, (back_7, (back_8, (back_9, (back_10, (back_11, (back_12, (back_13, (back_14, (back_15, tt)))))))))))))))))
+    ((
+      back_0,
+      (
+        back_1,
+        (
+          back_2,
+          (
+            back_3,
+            (
+              back_4,
+              (
+                back_5,
+                (
+                  back_6,
+                  (
+                    back_7,
+                    (back_8, (back_9, (back_10, (back_11, (back_12, (back_13, (back_14, (back_15, tt)))))))),
+                  ),
+                ),
+              ),
+            ),
+          ),
+        ),
+      ),
+    ))
     (omega arith) (omega arith)
 
 -- ---- the first of the rotations

@@ -30,14 +30,14 @@ use Rattle.asm_model.specs.declared.statements.PseudoLine.{PseudoLine}
 use Rattle.asm_model.specs.declared.statements.PseudoLine.TheVariants as pseudo
 use Rattle.asm_model.specs.declared.thumb_lines.ThumbLine.{ThumbLine}
 use Rattle.asm_model.specs.declared.thumb_lines.ThumbLine.TheVariants as thumb
-use Rattle.asm_model.specs.Says.{mapped}
-use Rattle.said_model.specs.Said.{HighSaid, IsConditional, ThumbSaid}
+use Rattle.asm_model.specs.Readings.{and_then, both, mapped}
+use Rattle.asm_model.specs.Said.{HighSaid, IsConditional, ThumbSaid}
 use Rattle.source_model.specs.declared.codes.ThumbCode.{ThumbCode}
 use Rattle.source_model.specs.declared.codes.ThumbCode.TheVariants.{One, Pair}
-use Rattle.source_model.specs.Contexts.{Context, and_then, number_in, own_offset, register, value_of}
+use Rattle.source_model.specs.Contexts.{Context, number_in, own_offset, register, value_of}
 use Rattle.source_model.specs.ArmForms.{list_bits}
 use Rattle.source_model.specs.Immediates.{negated}
-use Rattle.source_model.specs.ThumbForms.{address_of, adding, amount_of, both, branch_by, from_word_pc, half_words, high_pair, immediate_below, immediate_by, link_bit, listed, literal_at, literal_transfer, low, low_immediate, low_list, low_number, low_pair, low_sum, low_three, low_transfer, low_two, no_row, offset_in, one, or_other, pair_fields, pair_of, stack_immediate, stack_sum, stack_transfer, sum_by, summed, thumb_displacement, thumb_instruction, thumb_pseudo, transfer_by, transfer_unit, units_below, word_offset, words_to}
+use Rattle.source_model.specs.ThumbForms.{address_of, adding, amount_of, branch_by, from_word_pc, half_words, high_pair, immediate_below, immediate_by, link_bit, listed, literal_at, literal_transfer, low, low_immediate, low_list, low_number, low_pair, low_sum, low_three, low_transfer, low_two, no_row, offset_in, one, or_other, pair_fields, pair_of, stack_immediate, stack_sum, stack_transfer, sum_by, summed, thumb_displacement, thumb_instruction, thumb_pseudo, transfer_by, transfer_unit, units_below, word_offset, words_to}
 use Rattle.asm_instructions.specs.ThumbFits.{CodeFits, CodeIsWritten, ThumbFits}
 use Rattle.asm_instructions.proofs.FitLemmas.{Holds, amount_fits, condition_below, flag_below, mapped_holds, then_holds, where_holds}
 
@@ -131,7 +131,8 @@ other_fits limit s (Err k) (Err l) h g = tt
 
 summed_fits : (unit limit : ℕ) (s : Bool) (n : ℕ) → Holds (λ t. t.1 < limit) (summed unit limit s n)
 summed_fits unit limit s n =
-    other_fits limit s (immediate_below unit limit n) (immediate_below unit limit (negated n)) (immediate_fits unit limit n) (immediate_fits unit limit (negated n))
+    other_fits limit s (immediate_below unit limit n) (immediate_below unit limit (negated n)) (immediate_fits unit limit n)
+    (immediate_fits unit limit (negated n))
 
 amounts_fit : (k : ThumbShift) (n : ℕ) → Holds (Below (2 ^ 5)) (amount_of k n)
 amounts_fit shift.Lsl n = amount_fits kind.Lsl n
@@ -258,7 +259,8 @@ immediates_fit o d number =
 
 low_transfer_fits : (load byte : Bool) (d n v : ℕ) → IsLow d → IsLow n → Holds ThumbFits (low_transfer load byte d n v)
 low_transfer_fits load byte d n v to base =
-    mapped_holds (Below 32) ThumbFits (λ i. instr.TransferImmediate byte load i n d) (units_below (transfer_unit byte) 32 v) (units_fit (transfer_unit byte) 32 v)
+    mapped_holds (Below 32) ThumbFits (λ i. instr.TransferImmediate byte load i n d) (units_below (transfer_unit byte) 32 v)
+    (units_fit (transfer_unit byte) 32 v)
     (λ i h. record { fields = (flag_below byte, (flag_below load, (h, (base, (to, tt))))); conditions = tt })
 
 stack_transfer_fits : (load : Bool) (d v : ℕ) → IsLow d → Holds ThumbFits (stack_transfer load d v)
@@ -418,7 +420,8 @@ module _ (c : Context) where
   pseudo_fits word (pseudo.LoadConstant k rd e) =
       loads_fit (λ d i. instr.LoadLiteral d i) rd (word_offset word) (λ d i x y. record { fields = (x, (y, tt)); conditions = tt })
   pseudo_fits word (pseudo.Address k rd e) =
-      loads_fit (λ d i. instr.LoadAddress false d i) rd (own_offset c (value_of c e)) (λ d i x y. record { fields = (flag_below false, (x, (y, tt))); conditions = tt })
+      loads_fit (λ d i. instr.LoadAddress false d i) rd (own_offset c (value_of c e))
+      (λ d i x y. record { fields = (flag_below false, (x, (y, tt))); conditions = tt })
   pseudo_fits word (pseudo.LongAddress k rd e) = tt
   pseudo_fits word pseudo.NoOperation = record {
     fields = (omega arith, (flag_below true, (flag_below true, (omega arith, (omega arith, tt)))));

@@ -6,7 +6,7 @@ use Rattle.arm_isa.specs.ArmRows.{arm_row, arm_fields, FitsConditions, ReadsArm}
 use Rattle.asm_model.specs.declared.arm_lines.ArmLine.{ArmLine}
 use Rattle.asm_model.specs.declared.statements.PseudoLine.{PseudoLine}
 use Rattle.sdt_word.specs.Rows.{FitsRow, word_of}
-use Rattle.said_model.specs.Said.{ArmSaid, PseudoSaid}
+use Rattle.asm_model.specs.Said.{ArmSaid, PseudoSaid}
 use Rattle.source_model.specs.Contexts.{Context}
 use Rattle.source_model.specs.Registers.{register_in}
 use Rattle.source_model.specs.ArmForms.{arm_instruction}

@@ -1,6 +1,6 @@
 -- What the operands of a line are found by, as code keeps it and as definitions have it. This project's.
 use Rattle.std.specs.Prelude.{◌≡◌, ℕ, ◌<◌, List, Some}
-use Rattle.asm_names.specs.Lines.{line_of, Sees}
+use Rattle.asm_names.specs.PlacedLines.{line_of, Sees}
 use Rattle.source_model.specs.Contexts.{Context}
 use Rattle.source_model.specs.Registers.{register_in}
 use Rattle.asm_instructions.specs.declared.lookups.Lookup.{Lookup}

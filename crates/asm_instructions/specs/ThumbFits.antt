@@ -7,7 +7,7 @@ use Rattle.thumb_isa.specs.declared.instr.ThumbInstr.TheVariants.{BranchLink}
 use Rattle.thumb_isa.specs.ThumbRows.{thumb_row, thumb_fields, FitsConditions, ReadsThumb}
 use Rattle.asm_model.specs.declared.statements.PseudoLine.{PseudoLine}
 use Rattle.asm_model.specs.declared.thumb_lines.ThumbLine.{ThumbLine}
-use Rattle.said_model.specs.Said.{ThumbSaid}
+use Rattle.asm_model.specs.Said.{ThumbSaid}
 use Rattle.source_model.specs.declared.codes.ThumbCode.{ThumbCode}
 use Rattle.source_model.specs.declared.codes.ThumbCode.TheVariants.{One, Pair}
 use Rattle.source_model.specs.Contexts.{Context}

@@ -3,13 +3,13 @@
 ghost use Rattle.std.specs.Prelude.{◌≡◌, Ok, IfOk};
 ghost use Rattle.std.specs.Option.{option_copied};
 ghost use Rattle.arm_isa.specs.declared.instr.ArmInstr.TheVariants as instr;
-ghost use Rattle.asm_model.specs.Says.{mapped};
 ghost use Rattle.asm_model.specs.declared.arm_lines.ArmLine.TheVariants as arm;
 ghost use Rattle.asm_model.specs.declared.values.Value.TheVariants as value;
+ghost use Rattle.asm_model.specs.Readings.{and_then, mapped};
 ghost use Rattle.asm_model.specs.Symbols as symbols;
-ghost use Rattle.said_model.specs.Said.{IsRead};
+ghost use Rattle.asm_model.specs.Said.{IsRead};
 ghost use Rattle.source_model.specs.ArmForms as forms;
-ghost use Rattle.source_model.specs.Contexts.{and_then, value_of};
+ghost use Rattle.source_model.specs.Contexts.{value_of};
 ghost use Rattle.source_model.specs.Units as units;
 ghost use Rattle.asm_instructions.specs.Lookups.{context_of};
 

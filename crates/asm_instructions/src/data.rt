@@ -2,11 +2,10 @@
 
 ghost use Rattle.std.specs.Prelude.{◌≡◌, Ok, IfOk};
 ghost use Rattle.arm_isa.specs.declared.instr.ArmInstr.TheVariants as instr;
-ghost use Rattle.asm_model.specs.Says.{mapped};
 ghost use Rattle.asm_model.specs.declared.arm_lines.ArmLine.TheVariants as arm;
-ghost use Rattle.said_model.specs.Said.{IsRead, ShiftSaid};
+ghost use Rattle.asm_model.specs.Readings.{and_then, mapped};
+ghost use Rattle.asm_model.specs.Said.{IsRead, ShiftSaid};
 ghost use Rattle.source_model.specs.ArmForms as forms;
-ghost use Rattle.source_model.specs.Contexts.{and_then};
 ghost use Rattle.source_model.specs.Immediates as immediates;
 ghost use Rattle.asm_instructions.specs.Lookups.{context_of};
 
@@ -32,10 +31,8 @@ pub fn data_with_number(
     ensures { result ≡ and_then number
         (immediates.data_immediate condition operation set_flags rn rd) }
 {
-    match number {
-        Ok(number) => data_immediate(condition, operation, set_flags, rn, rd, number),
-        Err(kind) => Err(kind),
-    }
+    let number = number?;
+    data_immediate(condition, operation, set_flags, rn, rd, number)
 }
 
 pub fn data_number(
@@ -71,19 +68,17 @@ fn data_with_shift(
     ensures { result ≡ mapped
         (λ f. instr.DataShifted condition operation set_flags rn rd f.1 f.0 rm) fields }
 {
-    match fields {
-        Ok((shift, amount)) => Ok(ArmInstr::DataShifted {
-            condition,
-            operation,
-            set_flags,
-            rn,
-            rd,
-            amount,
-            shift,
-            rm,
-        }),
-        Err(kind) => Err(kind),
-    }
+    let (shift, amount) = fields?;
+    Ok(ArmInstr::DataShifted {
+        condition,
+        operation,
+        set_flags,
+        rn,
+        rd,
+        amount,
+        shift,
+        rm,
+    })
 }
 
 pub fn data_shifted(
@@ -214,10 +209,8 @@ fn status_with_number(
     ensures { result ≡ and_then number
         (λ n. immediates.status_of condition saved fields (immediates.immediate n)) }
 {
-    match number {
-        Ok(number) => status_of(condition, saved, fields, number),
-        Err(kind) => Err(kind),
-    }
+    let number = number?;
+    status_of(condition, saved, fields, number)
 }
 
 pub fn status_number(

@@ -1,12 +1,15 @@
-//! The instruction that a line of ARM or Thumb state says, with its operands' values.
+//! The instruction that a line of ARM or Thumb state says, with its operands' values, or the kind of its fault. Public
+//! sources: the ARM Architecture Reference Manual, and the SDT 2.50 Reference Guide, chapter on the assembler.
+//! `asm_units` calls `arm_instruction`, `thumb_instruction`, `pseudo_instructions` and their like over a `Lookup`,
+//! which finds names and values of the line; `armasm_core` calls the laws that what fits is written.
 #![tactic(auto)]
 
+pub mod arm_lines;
 pub mod blocks;
 pub mod branches;
 pub mod data;
 pub mod immediates;
 pub mod laws;
-pub mod lines;
 pub mod lookups;
 pub mod pseudo;
 pub mod shifts;
@@ -18,13 +21,13 @@ pub mod thumb_values;
 pub mod transfers;
 pub mod values;
 
+pub use crate::arm_lines::{arm_instruction, branch_symbol, is_true, link_symbol};
 pub use crate::laws::{
     fitting_instructions_are_written, fitting_thumb_codes_are_written, instructions_fit,
     pseudo_instructions_fit, thumb_instructions_fit, thumb_pseudo_instructions_fit,
 };
-pub use crate::lines::{arm_instruction, branch_symbol, link_symbol};
 pub use crate::lookups::Lookup;
 pub use crate::pseudo::pseudo_instructions;
-pub use crate::thumb_data::Said;
+pub use crate::thumb_data::ThumbResult;
 pub use crate::thumb_lines::{thumb_instruction, thumb_pseudo_instruction};
 pub use crate::values::{number_in, value_of};

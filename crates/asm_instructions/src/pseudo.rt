@@ -5,12 +5,12 @@ ghost use Rattle.sdt_word.specs.declared.codes.Condition.TheVariants as conditio
 ghost use Rattle.sdt_word.specs.declared.codes.ShiftKind.TheVariants as shift;
 ghost use Rattle.arm_isa.specs.declared.instr.Operation.TheVariants as operation;
 ghost use Rattle.arm_isa.specs.declared.instr.ArmInstr.TheVariants as instr;
-ghost use Rattle.asm_model.specs.Says.{mapped};
-ghost use Rattle.said_model.specs.Said.{PseudoSaid, IsRead};
+ghost use Rattle.asm_model.specs.Said.{PseudoSaid, IsRead};
 ghost use Rattle.source_model.specs.Contexts as contexts;
-ghost use Rattle.source_model.specs.Contexts.{Context, and_then};
+ghost use Rattle.source_model.specs.Contexts.{Context};
 ghost use Rattle.source_model.specs.PseudoForms as forms;
 ghost use Rattle.asm_model.specs.declared.statements.PseudoLine.TheVariants as pseudo;
+ghost use Rattle.asm_model.specs.Readings.{and_then, mapped};
 ghost use Rattle.asm_instructions.specs.Lookups.{Shows, context_of};
 
 use crate::data::data_with_number;
@@ -19,6 +19,7 @@ use crate::lookups::{Lookup, register};
 use crate::transfers::behind_pc;
 use crate::values::{from_pc, number_there, own_offset, value_there};
 use arm_isa::{ArmInstr, Operation};
+use asm_expr::or_kind;
 use asm_model::{Expr, PseudoLine, Register};
 use sdt_fault::kinds::LineKind;
 use sdt_fault::{List, NoMemory};
@@ -124,13 +125,9 @@ fn one(
 ) -> Result<Result<List<ArmInstr>, LineKind>, NoMemory>
     ensures { IfOk result (λ list. list ≡ mapped forms.one instruction) }
 {
-    match instruction {
-        Ok(instruction) => {
-            let list = listed(alloc, &[instruction])?;
-            Ok(Ok(list))
-        }
-        Err(kind) => Ok(Err(kind)),
-    }
+    let instruction = or_kind!(instruction);
+    let list = listed(alloc, &[instruction])?;
+    Ok(Ok(list))
 }
 
 fn two(
@@ -139,13 +136,9 @@ fn two(
 ) -> Result<Result<List<ArmInstr>, LineKind>, NoMemory>
     ensures { IfOk result (λ list. list ≡ instructions) }
 {
-    match instructions {
-        Ok(instructions) => {
-            let list = listed(alloc, &instructions)?;
-            Ok(Ok(list))
-        }
-        Err(kind) => Ok(Err(kind)),
-    }
+    let instructions = or_kind!(instructions);
+    let list = listed(alloc, &instructions)?;
+    Ok(Ok(list))
 }
 
 /// A literal that has no word is moved.
@@ -217,10 +210,8 @@ fn address_at(
         (λ at. forms.address_instruction condition rd
         (contexts.from_pc (context_of lookup.now) at)) }
 {
-    match label {
-        Ok(at) => address_instruction(condition, rd, from_pc(lookup, at)),
-        Err(kind) => Err(kind),
-    }
+    let at = label?;
+    address_instruction(condition, rd, from_pc(lookup, at))
 }
 
 fn address(
@@ -250,10 +241,8 @@ fn long_address_at(
     ensures { result ≡ and_then label
         (λ at. forms.long_address condition rd (contexts.from_pc (context_of lookup.now) at)) }
 {
-    match label {
-        Ok(at) => long_address(condition, rd, from_pc(lookup, at)),
-        Err(kind) => Err(kind),
-    }
+    let at = label?;
+    long_address(condition, rd, from_pc(lookup, at))
 }
 
 fn far_address(

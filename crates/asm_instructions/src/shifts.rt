@@ -2,10 +2,10 @@
 
 ghost use Rattle.std.specs.Prelude.{◌≡◌, IfOk};
 ghost use Rattle.sdt_word.specs.declared.codes.ShiftKind.TheVariants as shift;
-ghost use Rattle.asm_model.specs.Says.{mapped};
-ghost use Rattle.said_model.specs.Said.{IsRead, ShiftSaid};
+ghost use Rattle.asm_model.specs.Readings.{and_then, mapped};
+ghost use Rattle.asm_model.specs.Said.{IsRead, ShiftSaid};
 ghost use Rattle.source_model.specs.ArmForms as forms;
-ghost use Rattle.source_model.specs.Contexts.{and_then, number_in};
+ghost use Rattle.source_model.specs.Contexts.{number_in};
 ghost use Rattle.asm_instructions.specs.Lookups.{context_of};
 
 use crate::lookups::Lookup;

@@ -3,16 +3,18 @@
 ghost use Rattle.std.specs.Prelude.{◌≡◌, ◌<◌, ◌≤◌, ◌^◌, Ok, IfOk};
 ghost use Rattle.asm_model.specs.declared.thumb_lines.ThumbLine.TheVariants as thumb;
 ghost use Rattle.asm_model.specs.declared.values.Value.TheVariants as value;
-ghost use Rattle.said_model.specs.Said.{IsRead};
-ghost use Rattle.source_model.specs.Contexts.{value_of, and_then};
+ghost use Rattle.asm_model.specs.Readings.{and_then};
+ghost use Rattle.asm_model.specs.Said.{IsRead};
+ghost use Rattle.source_model.specs.Contexts.{value_of};
 ghost use Rattle.source_model.specs.ThumbForms as forms;
 ghost use Rattle.asm_instructions.specs.Lookups.{context_of};
 
 use crate::branches::{has_symbol, is_settled, offset_at};
 use crate::lookups::{Lookup, stands_at};
-use crate::thumb_data::Said;
+use crate::thumb_data::ThumbResult;
 use crate::thumb_values::offset_below;
 use crate::values::{number_there, value_there};
+use asm_expr::or_kind;
 use asm_model::{Expr, Value};
 use sdt_fault::kinds::LineKind;
 use sdt_fault::{NoMemory, Text};
@@ -128,10 +130,8 @@ fn field_to(
     ensures below { IfOk result (λ f. IfOk f (λ field. field < limit)) }
 {
     let value = value_there(alloc, lookup, target)?;
-    match displacement(link, lookup, value) {
-        Ok(distance) => Ok(half_words(limit, distance)),
-        Err(kind) => Ok(Err(kind)),
-    }
+    let distance = or_kind!(displacement(link, lookup, value));
+    Ok(half_words(limit, distance))
 }
 
 pub fn branch_conditional(
@@ -139,55 +139,43 @@ pub fn branch_conditional(
     lookup: &Lookup<'_>,
     condition: Condition,
     target: &Expr,
-) -> Said
+) -> ThumbResult
     requires { IsRead target.now }
     ensures { IfOk result (λ i. i
         ≡ forms.thumb_instruction (context_of lookup.now)
         (thumb.BranchConditional condition target.now)) }
 {
-    match field_to(alloc, lookup, false, 256, target)? {
-        Ok(field) => {
-            let offset = field as u8;
-            Ok(Ok(ThumbCode::One(ThumbInstr::BranchConditional { condition, offset })))
-        }
-        Err(kind) => Ok(Err(kind)),
-    }
+    let field = or_kind!(field_to(alloc, lookup, false, 256, target)?);
+    let offset = field as u8;
+    Ok(Ok(ThumbCode::One(ThumbInstr::BranchConditional { condition, offset })))
 }
 
-pub fn branch(alloc: Global, lookup: &Lookup<'_>, target: &Expr) -> Said
+pub fn branch(alloc: Global, lookup: &Lookup<'_>, target: &Expr) -> ThumbResult
     requires { IsRead target.now }
     ensures { IfOk result (λ i. i
         ≡ forms.thumb_instruction (context_of lookup.now) (thumb.Branch target.now)) }
 {
-    match field_to(alloc, lookup, false, 0x800, target)? {
-        Ok(field) => {
-            let offset = field as u16;
-            Ok(Ok(ThumbCode::One(ThumbInstr::Branch { offset })))
-        }
-        Err(kind) => Ok(Err(kind)),
-    }
+    let field = or_kind!(field_to(alloc, lookup, false, 0x800, target)?);
+    let offset = field as u16;
+    Ok(Ok(ThumbCode::One(ThumbInstr::Branch { offset })))
 }
 
 /// BL: both halves.
-pub fn branch_link(alloc: Global, lookup: &Lookup<'_>, target: &Expr) -> Said
+pub fn branch_link(alloc: Global, lookup: &Lookup<'_>, target: &Expr) -> ThumbResult
     requires { IsRead target.now }
     ensures { IfOk result (λ i. i
         ≡ forms.thumb_instruction (context_of lookup.now) (thumb.BranchLink target.now)) }
 {
-    match field_to(alloc, lookup, true, 0x40_0000, target)? {
-        Ok(field) => Ok(Ok(ThumbCode::Pair((field / 0x800) as u16, (field % 0x800) as u16))),
-        Err(kind) => Ok(Err(kind)),
-    }
+    let field = or_kind!(field_to(alloc, lookup, true, 0x40_0000, target)?);
+    Ok(Ok(ThumbCode::Pair((field / 0x800) as u16, (field % 0x800) as u16)))
 }
 
-pub fn software_interrupt(alloc: Global, lookup: &Lookup<'_>, number: &Expr) -> Said
+pub fn software_interrupt(alloc: Global, lookup: &Lookup<'_>, number: &Expr) -> ThumbResult
     requires { IsRead number.now }
     ensures { IfOk result (λ i. i
         ≡ forms.thumb_instruction (context_of lookup.now) (thumb.SoftwareInterrupt number.now)) }
 {
     let number = number_there(alloc, lookup, number)?;
-    match offset_below(1, 256, number) {
-        Ok(number) => Ok(Ok(ThumbCode::One(ThumbInstr::SoftwareInterrupt { number }))),
-        Err(kind) => Ok(Err(kind)),
-    }
+    let number = or_kind!(offset_below(1, 256, number));
+    Ok(Ok(ThumbCode::One(ThumbInstr::SoftwareInterrupt { number })))
 }

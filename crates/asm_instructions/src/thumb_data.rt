@@ -2,20 +2,20 @@
 
 ghost use Rattle.std.specs.Prelude.{◌≡◌, ◌&&◌, IfOk, true};
 ghost use Rattle.thumb_isa.specs.declared.instr.ThumbInstr.TheVariants as instr;
-ghost use Rattle.asm_model.specs.Says.{mapped};
 ghost use Rattle.asm_model.specs.declared.operands.ThumbOperand.TheVariants as operand;
 ghost use Rattle.asm_model.specs.declared.thumb_lines.ThumbLine.TheVariants as thumb;
-ghost use Rattle.said_model.specs.Said.{IsRead, ThumbOperandSaid};
-ghost use Rattle.source_model.specs.Contexts.{and_then, register};
+ghost use Rattle.asm_model.specs.Readings.{and_then, mapped};
+ghost use Rattle.asm_model.specs.Said.{IsRead, ThumbOperandSaid};
+ghost use Rattle.source_model.specs.Contexts.{register};
 ghost use Rattle.source_model.specs.ThumbForms as forms;
 ghost use Rattle.asm_instructions.specs.Lookups.{context_of};
 
 use crate::lookups::{Lookup, register};
 use crate::shifts::amount_field;
-use crate::thumb_values::{
-    both, immediate_below, low, low_number, low_three, low_two, no_row, summed,
-};
+use crate::thumb_values::{immediate_below, low, low_number, low_three, low_two, no_row, summed};
 use crate::values::number_there;
+use asm_expr::kinds::both;
+use asm_expr::or_kind;
 use asm_model::{Expr, Register, ThumbOperand};
 use sdt_fault::NoMemory;
 use sdt_fault::kinds::LineKind;
@@ -25,16 +25,13 @@ use std::alloc::Global;
 use thumb_isa::{HighOperation, ImmediateOperation, ThumbInstr, ThumbOperation, ThumbShift};
 
 /// What a line says, or the kind of its fault.
-pub type Said = Result<Result<ThumbCode, LineKind>, NoMemory>;
+pub type ThumbResult = Result<Result<ThumbCode, LineKind>, NoMemory>;
 
 /// An instruction alone.
 pub fn one(instruction: Result<ThumbInstr, LineKind>) -> Result<ThumbCode, LineKind>
     ensures { result ≡ forms.one instruction }
 {
-    match instruction {
-        Ok(instruction) => Ok(ThumbCode::One(instruction)),
-        Err(kind) => Err(kind),
-    }
+    Ok(ThumbCode::One(instruction?))
 }
 
 fn amount_of(shift: ThumbShift, amount: Result<u32, LineKind>) -> Result<u8, LineKind>
@@ -55,22 +52,20 @@ pub fn shift_immediate(
     rd: &Register,
     rs: &Register,
     amount: &Expr,
-) -> Said
+) -> ThumbResult
     requires { IsRead amount.now }
     ensures { IfOk result (λ i. i
         ≡ forms.thumb_instruction (context_of lookup.now)
         (thumb.ShiftImmediate shift rd.now rs.now amount.now)) }
 {
     let number = number_there(alloc, lookup, amount)?;
-    match both(low_two(lookup, rd, rs), amount_of(shift, number)) {
-        Ok(((rd, rs), amount)) => Ok(Ok(ThumbCode::One(ThumbInstr::ShiftImmediate {
-            shift,
-            amount,
-            rs,
-            rd,
-        }))),
-        Err(kind) => Ok(Err(kind)),
-    }
+    let ((rd, rs), amount) = or_kind!(both(low_two(lookup, rd, rs), amount_of(shift, number)));
+    Ok(Ok(ThumbCode::One(ThumbInstr::ShiftImmediate {
+        shift,
+        amount,
+        rs,
+        rd,
+    })))
 }
 
 pub fn data_register(
@@ -82,10 +77,8 @@ pub fn data_register(
     ensures { result ≡ forms.thumb_instruction (context_of lookup.now)
         (thumb.DataRegister operation rd.now rs.now) }
 {
-    match low_two(lookup, rd, rs) {
-        Ok((rd, rs)) => Ok(ThumbCode::One(ThumbInstr::DataRegister { operation, rs, rd })),
-        Err(kind) => Err(kind),
-    }
+    let (rd, rs) = low_two(lookup, rd, rs)?;
+    Ok(ThumbCode::One(ThumbInstr::DataRegister { operation, rs, rd }))
 }
 
 fn high_pair(operation: HighOperation, rd: u8, rs: u8) -> ThumbInstr
@@ -209,23 +202,23 @@ pub fn add_subtract(
     rd: &Register,
     rs: &Register,
     operand: &ThumbOperand,
-) -> Said
+) -> ThumbResult
     requires { ThumbOperandSaid operand.now }
     ensures { IfOk result (λ i. i
         ≡ forms.thumb_instruction (context_of lookup.now)
         (thumb.AddSubtract subtract rd.now rs.now operand.now)) }
 {
     match operand {
-        ThumbOperand::Register(rn) => match low_three(lookup, rd, rs, rn) {
-            Ok(((rd, rs), operand)) => Ok(Ok(ThumbCode::One(ThumbInstr::AddSubtract {
+        ThumbOperand::Register(rn) => {
+            let ((rd, rs), operand) = or_kind!(low_three(lookup, rd, rs, rn));
+            Ok(Ok(ThumbCode::One(ThumbInstr::AddSubtract {
                 immediate: false,
                 subtract,
                 operand,
                 rs,
                 rd,
-            }))),
-            Err(kind) => Ok(Err(kind)),
-        },
+            })))
+        }
         ThumbOperand::Number(value) => {
             let number = number_there(alloc, lookup, value)?;
             let to = register(lookup, rd);
@@ -327,7 +320,7 @@ pub fn data_immediate(
     operation: ImmediateOperation,
     rd: &Register,
     value: &Expr,
-) -> Said
+) -> ThumbResult
     requires { IsRead value.now }
     ensures { IfOk result (λ i. i
         ≡ forms.thumb_instruction (context_of lookup.now)
@@ -343,28 +336,31 @@ pub fn load_address(
     stack: bool,
     rd: &Register,
     offset: &Expr,
-) -> Said
+) -> ThumbResult
     requires { IsRead offset.now }
     ensures { IfOk result (λ i. i
         ≡ forms.thumb_instruction (context_of lookup.now)
         (thumb.LoadAddress stack rd.now offset.now)) }
 {
     let number = number_there(alloc, lookup, offset)?;
-    match both(low(lookup, rd), words_of(number)) {
-        Ok((rd, offset)) => Ok(Ok(ThumbCode::One(ThumbInstr::LoadAddress { stack, rd, offset }))),
-        Err(kind) => Ok(Err(kind)),
-    }
+    let (rd, offset) = or_kind!(both(low(lookup, rd), immediate_words(number)));
+    Ok(Ok(ThumbCode::One(ThumbInstr::LoadAddress { stack, rd, offset })))
 }
 
 /// An immediate operand of words.
-fn words_of(number: Result<u32, LineKind>) -> Result<u8, LineKind>
+fn immediate_words(number: Result<u32, LineKind>) -> Result<u8, LineKind>
     ensures { result ≡ and_then number (forms.immediate_below 4 256) }
 {
     let number = number?;
     immediate_below(4, 256, number)
 }
 
-pub fn adjust_stack(alloc: Global, lookup: &Lookup<'_>, subtract: bool, offset: &Expr) -> Said
+pub fn adjust_stack(
+    alloc: Global,
+    lookup: &Lookup<'_>,
+    subtract: bool,
+    offset: &Expr,
+) -> ThumbResult
     requires { IsRead offset.now }
     ensures { IfOk result (λ i. i
         ≡ forms.thumb_instruction (context_of lookup.now) (thumb.AdjustStack subtract offset.now)) }

@@ -2,7 +2,7 @@
 
 ghost use Rattle.std.specs.Prelude.{◌≡◌, IfOk};
 ghost use Rattle.asm_model.specs.declared.statements.PseudoLine.TheVariants as pseudo;
-ghost use Rattle.said_model.specs.Said.{IsRead, PseudoSaid, ThumbSaid};
+ghost use Rattle.asm_model.specs.Said.{IsRead, PseudoSaid, ThumbSaid};
 ghost use Rattle.source_model.specs.Contexts.{Context};
 ghost use Rattle.source_model.specs.ThumbForms as forms;
 ghost use Rattle.asm_instructions.specs.Lookups.{Shows, context_of};
@@ -11,15 +11,17 @@ ghost use Rattle.asm_instructions.specs.ThumbGroups.{IsWide};
 use crate::lookups::Lookup;
 use crate::thumb_branches::{branch, branch_conditional, branch_link, software_interrupt};
 use crate::thumb_data::{
-    Said, add_subtract, adjust_stack, data_immediate, data_register, high_register, load_address,
-    shift_immediate,
+    ThumbResult, add_subtract, adjust_stack, data_immediate, data_register, high_register,
+    load_address, shift_immediate,
 };
 use crate::thumb_transfers::{
     load_literal, push_pop, transfer_half, transfer_immediate, transfer_multiple,
     transfer_register, transfer_signed, transfer_stack, words_to,
 };
-use crate::thumb_values::{both, low};
+use crate::thumb_values::low;
 use crate::values::{own_offset, value_there};
+use asm_expr::kinds::both;
+use asm_expr::or_kind;
 use asm_model::{Expr, PseudoLine, Register, ThumbLine};
 use sdt_fault::NoMemory;
 use sdt_fault::kinds::LineKind;
@@ -27,7 +29,7 @@ use std::alloc::Global;
 use thumb_isa::{HighOperation, ThumbInstr};
 
 /// What a line of many operands says.
-fn wide_there(alloc: Global, lookup: &Lookup<'_>, line: &ThumbLine) -> Said
+fn wide_there(alloc: Global, lookup: &Lookup<'_>, line: &ThumbLine) -> ThumbResult
     requires said { ThumbSaid line.now }
     requires wide { IsWide line.now }
     ensures { IfOk result (λ i. i ≡ forms.thumb_instruction (context_of lookup.now) line.now) }
@@ -70,7 +72,7 @@ fn wide_there(alloc: Global, lookup: &Lookup<'_>, line: &ThumbLine) -> Said
 }
 
 /// What a line says with what the lookup finds, or the kind of its fault.
-fn instruction_there(alloc: Global, lookup: &Lookup<'_>, line: &ThumbLine) -> Said
+fn instruction_there(alloc: Global, lookup: &Lookup<'_>, line: &ThumbLine) -> ThumbResult
     requires { ThumbSaid line.now }
     ensures { IfOk result (λ i. i ≡ forms.thumb_instruction (context_of lookup.now) line.now) }
 {
@@ -115,7 +117,7 @@ fn instruction_there(alloc: Global, lookup: &Lookup<'_>, line: &ThumbLine) -> Sa
 
 /// What a line of Thumb state says, or the kind of its fault. A BL that is left to the linker holds its number less how
 /// far pc stands behind the start of the area.
-pub fn thumb_instruction(alloc: Global, lookup: &Lookup<'_>, line: &ThumbLine) -> Said
+pub fn thumb_instruction(alloc: Global, lookup: &Lookup<'_>, line: &ThumbLine) -> ThumbResult
     requires { ThumbSaid line.now }
     ensures { IfOk result (λ i. (c : Context) → Shows lookup.now c → i
         ≡ forms.thumb_instruction c line.now) }
@@ -139,10 +141,8 @@ fn load_constant(
 ) -> Result<ThumbInstr, LineKind>
     ensures { result ≡ forms.loaded (context_of lookup.now) word rd.now }
 {
-    match both(low(lookup, rd), words_to(lookup, word_offset(word))) {
-        Ok((rd, offset)) => Ok(ThumbInstr::LoadLiteral { rd, offset }),
-        Err(kind) => Err(kind),
-    }
+    let (rd, offset) = both(low(lookup, rd), words_to(lookup, word_offset(word)))?;
+    Ok(ThumbInstr::LoadLiteral { rd, offset })
 }
 
 fn address(
@@ -155,13 +155,9 @@ fn address(
     ensures { IfOk result (λ i. i ≡ forms.addressed (context_of lookup.now) rd.now target.now) }
 {
     let value = value_there(alloc, lookup, target)?;
-    match both(low(lookup, rd), words_to(lookup, own_offset(lookup, value))) {
-        Ok((rd, offset)) => {
-            let stack = false;
-            Ok(Ok(ThumbInstr::LoadAddress { stack, rd, offset }))
-        }
-        Err(kind) => Ok(Err(kind)),
-    }
+    let (rd, offset) = or_kind!(both(low(lookup, rd), words_to(lookup, own_offset(lookup, value))));
+    let stack = false;
+    Ok(Ok(ThumbInstr::LoadAddress { stack, rd, offset }))
 }
 
 /// The instruction of a pseudo-instruction with what the lookup finds, or the kind of its fault.

@@ -2,16 +2,18 @@
 
 ghost use Rattle.std.specs.Prelude.{◌≡◌, ◌+◌, ◌-◌, ◌/◌, ◌%◌, ◌*◌, ◌^◌, IfOk};
 ghost use Rattle.asm_model.specs.declared.thumb_lines.ThumbLine.TheVariants as thumb;
-ghost use Rattle.said_model.specs.Said.{IsRead, LiteralSaid};
+ghost use Rattle.asm_model.specs.Said.{IsRead, LiteralSaid};
 ghost use Rattle.source_model.specs.ArmForms.{list_bits};
 ghost use Rattle.source_model.specs.ThumbForms as forms;
 ghost use Rattle.asm_instructions.specs.Lookups.{context_of};
 
 use crate::blocks::list_bits;
 use crate::lookups::{Lookup, register};
-use crate::thumb_data::{Said, one};
-use crate::thumb_values::{both, low, low_number, low_three, low_two, no_row, offset_below};
+use crate::thumb_data::{ThumbResult, one};
+use crate::thumb_values::{low, low_number, low_three, low_two, no_row, offset_below};
 use crate::values::{number_there, own_offset, value_there};
+use asm_expr::kinds::both;
+use asm_expr::or_kind;
 use asm_model::{Expr, LiteralAddress, Register, RegisterList};
 use sdt_fault::NoMemory;
 use sdt_fault::kinds::LineKind;
@@ -61,16 +63,14 @@ pub fn load_literal(
     lookup: &Lookup<'_>,
     rd: &Register,
     address: &LiteralAddress,
-) -> Said
+) -> ThumbResult
     requires { LiteralSaid address.now }
     ensures { IfOk result (λ i. i
         ≡ forms.thumb_instruction (context_of lookup.now) (thumb.LoadLiteral rd.now address.now)) }
 {
     let at = literal_at(alloc, lookup, address)?;
-    match both(low(lookup, rd), at) {
-        Ok((rd, offset)) => Ok(Ok(ThumbCode::One(ThumbInstr::LoadLiteral { rd, offset }))),
-        Err(kind) => Ok(Err(kind)),
-    }
+    let (rd, offset) = or_kind!(both(low(lookup, rd), at));
+    Ok(Ok(ThumbCode::One(ThumbInstr::LoadLiteral { rd, offset })))
 }
 
 pub fn transfer_register(
@@ -84,16 +84,14 @@ pub fn transfer_register(
     ensures { result ≡ forms.thumb_instruction (context_of lookup.now)
         (thumb.TransferRegister load byte rd.now rn.now ro.now) }
 {
-    match low_three(lookup, rd, rn, ro) {
-        Ok(((rd, rn), ro)) => Ok(ThumbCode::One(ThumbInstr::TransferRegister {
-            load,
-            byte,
-            ro,
-            rn,
-            rd,
-        })),
-        Err(kind) => Err(kind),
-    }
+    let ((rd, rn), ro) = low_three(lookup, rd, rn, ro)?;
+    Ok(ThumbCode::One(ThumbInstr::TransferRegister {
+        load,
+        byte,
+        ro,
+        rn,
+        rd,
+    }))
 }
 
 pub fn transfer_signed(
@@ -106,10 +104,8 @@ pub fn transfer_signed(
     ensures { result ≡ forms.thumb_instruction (context_of lookup.now)
         (thumb.TransferSigned kind rd.now rn.now ro.now) }
 {
-    match low_three(lookup, rd, rn, ro) {
-        Ok(((rd, rn), ro)) => Ok(ThumbCode::One(ThumbInstr::TransferSigned { kind, ro, rn, rd })),
-        Err(fault) => Err(fault),
-    }
+    let ((rd, rn), ro) = low_three(lookup, rd, rn, ro)?;
+    Ok(ThumbCode::One(ThumbInstr::TransferSigned { kind, ro, rn, rd }))
 }
 
 fn transfer_unit(byte: bool) -> u32
@@ -189,7 +185,7 @@ pub fn transfer_immediate(
     rd: &Register,
     rn: &Register,
     offset: &Expr,
-) -> Said
+) -> ThumbResult
     requires { IsRead offset.now }
     ensures { IfOk result (λ i. i
         ≡ forms.thumb_instruction (context_of lookup.now)
@@ -208,22 +204,20 @@ pub fn transfer_half(
     rd: &Register,
     rn: &Register,
     offset: &Expr,
-) -> Said
+) -> ThumbResult
     requires { IsRead offset.now }
     ensures { IfOk result (λ i. i
         ≡ forms.thumb_instruction (context_of lookup.now)
         (thumb.TransferHalf load rd.now rn.now offset.now)) }
 {
     let number = number_there(alloc, lookup, offset)?;
-    match both(low_two(lookup, rd, rn), offset_below(2, 32, number)) {
-        Ok(((rd, rn), offset)) => Ok(Ok(ThumbCode::One(ThumbInstr::TransferHalf {
-            load,
-            offset,
-            rn,
-            rd,
-        }))),
-        Err(kind) => Ok(Err(kind)),
-    }
+    let ((rd, rn), offset) = or_kind!(both(low_two(lookup, rd, rn), offset_below(2, 32, number)));
+    Ok(Ok(ThumbCode::One(ThumbInstr::TransferHalf {
+        load,
+        offset,
+        rn,
+        rd,
+    })))
 }
 
 pub fn transfer_stack(
@@ -232,17 +226,15 @@ pub fn transfer_stack(
     load: bool,
     rd: &Register,
     offset: &Expr,
-) -> Said
+) -> ThumbResult
     requires { IsRead offset.now }
     ensures { IfOk result (λ i. i
         ≡ forms.thumb_instruction (context_of lookup.now)
         (thumb.TransferStack load rd.now offset.now)) }
 {
     let number = number_there(alloc, lookup, offset)?;
-    match both(low(lookup, rd), offset_below(4, 256, number)) {
-        Ok((rd, offset)) => Ok(Ok(ThumbCode::One(ThumbInstr::TransferStack { load, rd, offset }))),
-        Err(kind) => Ok(Err(kind)),
-    }
+    let (rd, offset) = or_kind!(both(low(lookup, rd), offset_below(4, 256, number)));
+    Ok(Ok(ThumbCode::One(ThumbInstr::TransferStack { load, rd, offset })))
 }
 
 /// A bit for each register of a list.
@@ -279,10 +271,8 @@ pub fn push_pop(lookup: &Lookup<'_>, load: bool, list: &RegisterList) -> Result<
     ensures { result ≡ forms.thumb_instruction (context_of lookup.now)
         (thumb.PushPop load list.now) }
 {
-    match listed(link_bit(load), bits_of(lookup, list)) {
-        Ok((link, list)) => Ok(ThumbCode::One(ThumbInstr::PushPop { load, link, list })),
-        Err(kind) => Err(kind),
-    }
+    let (link, list) = listed(link_bit(load), bits_of(lookup, list))?;
+    Ok(ThumbCode::One(ThumbInstr::PushPop { load, link, list }))
 }
 
 fn low_list(bits: u16) -> Result<u8, LineKind>
@@ -303,8 +293,6 @@ pub fn transfer_multiple(
     ensures { result ≡ forms.thumb_instruction (context_of lookup.now)
         (thumb.TransferMultiple load rn.now list.now) }
 {
-    match both(low(lookup, rn), low_list(bits_of(lookup, list))) {
-        Ok((rn, list)) => Ok(ThumbCode::One(ThumbInstr::TransferMultiple { load, rn, list })),
-        Err(kind) => Err(kind),
-    }
+    let (rn, list) = both(low(lookup, rn), low_list(bits_of(lookup, list)))?;
+    Ok(ThumbCode::One(ThumbInstr::TransferMultiple { load, rn, list }))
 }

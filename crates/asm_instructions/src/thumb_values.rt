@@ -1,31 +1,16 @@
 //! Operands of lines of Thumb state.
 
 ghost use Rattle.std.specs.Prelude.{◌≡◌, ◌<◌, ◌≤◌, IfOk};
-ghost use Rattle.source_model.specs.Contexts.{and_then};
+ghost use Rattle.asm_model.specs.Readings.{and_then};
 ghost use Rattle.source_model.specs.ThumbForms as forms;
 ghost use Rattle.asm_instructions.specs.Lookups.{context_of};
 
 use crate::immediates::negated;
 use crate::lookups::{Lookup, register};
-use asm_expr::kinds::earlier;
+use asm_expr::kinds::{both, earlier};
 use asm_model::Register;
 use sdt_fault::kinds::LineKind;
 use thumb_isa::ThumbInstr;
-
-/// Two operands, of whose faults the one that is told counts.
-pub fn both<A: Drop, B: Drop>(
-    a: Result<A, LineKind>,
-    b: Result<B, LineKind>,
-) -> Result<(A, B), LineKind>
-    ensures { result ≡ forms.both a b }
-{
-    match (a, b) {
-        (Ok(a), Ok(b)) => Ok((a, b)),
-        (Ok(_), Err(kind)) => Err(kind),
-        (Err(kind), Ok(_)) => Err(kind),
-        (Err(kind), Err(other)) => Err(earlier(kind, other)),
-    }
-}
 
 /// Registers that have no row, with a number.
 pub fn no_row(number: Result<u32, LineKind>) -> Result<ThumbInstr, LineKind>
@@ -112,10 +97,7 @@ fn or_other(
 {
     match first {
         Ok(number) => Ok((subtract, number)),
-        Err(_) => match other {
-            Ok(number) => Ok((!subtract, number)),
-            Err(kind) => Err(kind),
-        },
+        Err(_) => Ok((!subtract, other?)),
     }
 }
 

@@ -2,12 +2,11 @@
 
 ghost use Rattle.std.specs.Prelude.{◌≡◌, ◌/◌, ◌%◌, not, true, false, Ok, IfOk};
 ghost use Rattle.arm_isa.specs.declared.instr.ArmInstr.TheVariants as instr;
-ghost use Rattle.asm_model.specs.Says.{mapped};
 ghost use Rattle.asm_model.specs.declared.arm_lines.ArmLine.TheVariants as arm;
-ghost use Rattle.said_model.specs.Said.{IsRead, ShiftSaid, AddressSaid, HalfOffsetSaid};
+ghost use Rattle.asm_model.specs.Readings.{and_then, mapped};
+ghost use Rattle.asm_model.specs.Said.{IsRead, ShiftSaid, AddressSaid, HalfOffsetSaid};
 ghost use Rattle.source_model.specs.ArmForms as forms;
 ghost use Rattle.source_model.specs.Contexts as contexts;
-ghost use Rattle.source_model.specs.Contexts.{and_then};
 ghost use Rattle.asm_instructions.specs.Lookups.{context_of};
 
 use crate::lookups::{Lookup, register};
@@ -112,10 +111,8 @@ fn at_label(
         (λ at. mapped (λ o. instr.TransferImmediate condition true o.0 byte false load 15 rd o.1)
         (contexts.offset_below 4096 (contexts.from_pc (context_of lookup.now) at))) }
 {
-    match label {
-        Ok(at) => behind_pc(condition, load, byte, rd, from_pc(lookup, at)),
-        Err(kind) => Err(kind),
-    }
+    let at = label?;
+    behind_pc(condition, load, byte, rd, from_pc(lookup, at))
 }
 
 fn transfer_at(

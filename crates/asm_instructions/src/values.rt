@@ -3,7 +3,7 @@
 ghost use Rattle.std.specs.Prelude.{◌≡◌, ◌<◌, Result, IfOk};
 ghost use Rattle.sdt_fault.specs.declared.kinds.LineKind.{LineKind};
 ghost use Rattle.asm_model.specs.Extents as extents;
-ghost use Rattle.said_model.specs.Said.{IsRead};
+ghost use Rattle.asm_model.specs.Said.{IsRead};
 ghost use Rattle.source_model.specs.Contexts as contexts;
 ghost use Rattle.source_model.specs.Contexts.{Context};
 ghost use Rattle.asm_instructions.specs.Lookups.{Shows, context_of};

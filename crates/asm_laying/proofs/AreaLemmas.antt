@@ -102,7 +102,8 @@ goes_on a b n is updates more at ends behind names current pieces h =
     let here : b.current ≡ Some (length names) = at ∙ ap Some count in
     subst (λ (l : List (List ℕ)). AreNumbered l (Some (place_of n l)) pieces b) (sym more_names)
     (record {
-      numbers = λ q. noted a.numbers b.numbers n a.count is updates q ∙ ap (λ o. or_number o n a.count q) (h.numbers q) ∙ ap (λ k. or_number (number_of q names) n k q) count ∙ sym (numbered_more q names n);
+      numbers = λ q. noted a.numbers b.numbers n a.count is updates q ∙ ap (λ o. or_number o n a.count q) (h.numbers q)
+          ∙ ap (λ k. or_number (number_of q names) n k q) count ∙ sym (numbered_more q names n);
       count = omega arith;
       here = here ∙ ap Some (sym new.1);
       there = subst (λ (o : Option ℕ). IsThere o b.ends) (sym at) (omega arith);

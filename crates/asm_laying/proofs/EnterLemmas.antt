@@ -11,9 +11,9 @@ use Rattle.asm_model.specs.Before.{thumb_behind, area_named, with_name, areas_be
 use Rattle.asm_model.specs.Laid.{LaidLine, statements_of, pieces_of, aligned_end}
 use Rattle.asm_model.specs.Offsets.{Piece}
 use Rattle.asm_laying.specs.declared.areas.Areas.{Areas}
-use Rattle.asm_laying.specs.declared.behind.Behind.{Behind}
+use Rattle.asm_laying.specs.declared.carried.CarriedState.{CarriedState}
 use Rattle.asm_laying.specs.declared.laying.Laying.{Laying}
-use Rattle.asm_laying.specs.Behind.{behind, stepped, most_statements}
+use Rattle.asm_laying.specs.Carried.{behind, stepped, most_statements}
 use Rattle.asm_laying.specs.Laying.{IsLaying, MayStep, Reaches}
 use Rattle.asm_laying.specs.Numbered.{AreNumbered, Enters, ArePlaceable}
 
@@ -48,7 +48,8 @@ placeable state w areas h g =
 
 -- ---- a statement is reached
 
-pub reaches : (d : List LaidName) (s : Statement) (before : List LaidLine) (old new : Laying) (next : Behind) (offset : ℕ) (label : Bool) → IsLaying d before old
+pub reaches : (d : List LaidName) (s : Statement) (before : List LaidLine) (old new : Laying) (next : CarriedState) (offset : ℕ) (label : Bool)
+    → IsLaying d before old
     → next ≡ stepped s.what old.behind → new.behind ≡ next → Enters (area_named s.what) old.areas new.areas
     → ((pieces : List Piece) → IsBehind pieces new.areas.ends → offset ≡ aligned_end new.areas.current pieces old.behind.thumb s.what)
     → new.map ≡ old.map → new.names ≡ old.names → new.all_known ≡ old.all_known → label ≡ (old.behind.thumb && next.code)
@@ -59,13 +60,14 @@ reaches d s before old new next offset label h steps standing enters starts map 
     let areas : AreNumbered (areas_behind (s ∷ statements_of before)) area pieces new.areas =
     enters (areas_behind (statements_of before)) (area_behind (statements_of before)) pieces h.areas in
     let after : next ≡ behind (s ∷ statements_of before) = steps ∙ ap (stepped s.what) h.standing in
-    let thumb : old.behind.thumb ≡ thumb_behind (statements_of before) = ap (λ (b : Behind). b.thumb) h.standing in
-    let code : next.code ≡ code_behind (s ∷ statements_of before) = ap (λ (b : Behind). b.code) after in
+    let thumb : old.behind.thumb ≡ thumb_behind (statements_of before) = ap (λ (b : CarriedState). b.thumb) h.standing in
+    let code : next.code ≡ code_behind (s ∷ statements_of before) = ap (λ (b : CarriedState). b.code) after in
     record {
       at = record { standing = standing ∙ after; areas = areas; map = map ∙ h.map; names = names ∙ h.names; known = λ k. h.known (sym known ∙ k) };
       location = record {
         area = areas.here;
-        offset = starts pieces areas.ends ∙ ap (λ a. aligned_end a pieces old.behind.thumb s.what) areas.here ∙ ap (λ t. aligned_end area pieces t s.what) thumb;
+        offset =
+            starts pieces areas.ends ∙ ap (λ a. aligned_end a pieces old.behind.thumb s.what) areas.here ∙ ap (λ t. aligned_end area pieces t s.what) thumb;
         map = h.map;
         thumb = thumb;
         label_thumb = thumbed ∙ ap (λ t. t && next.code) thumb ∙ ap (λ c. thumb_behind (statements_of before) && c) code;

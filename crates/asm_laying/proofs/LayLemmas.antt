@@ -13,16 +13,16 @@ use Rattle.asm_model.specs.declared.statements.What.{What}
 use Rattle.asm_model.specs.declared.statements.What.TheVariants as what
 use Rattle.asm_model.specs.AtLine.{SourceLine, names_at, added_names, seen_behind}
 use Rattle.asm_model.specs.Kinds.{earlier, told_kind, kind_if}
-use Rattle.asm_model.specs.Says.{mapped}
 use Rattle.asm_model.specs.Before.{area_behind, is_thumb_label}
 use Rattle.asm_model.specs.Extents.{Extent, Block, number_there, extent_of}
 use Rattle.asm_model.specs.Labels.{Defined, Unnamed, defined_by, imported_in, imported_entries}
 use Rattle.asm_model.specs.Laid.{LaidLine, statements_of, lines_of, taken, pieces_of, map_behind, map_from, added, set_or, offset_behind, definition_of, line_behind, imported_lines, names_behind, laid_behind}
 use Rattle.asm_model.specs.LayoutKinds.{fault_kinds, map_kinds, area_bytes}
 use Rattle.asm_model.specs.Offsets.{Piece, offset_of, size_behind, start_in}
+use Rattle.asm_model.specs.Readings.{mapped}
 use Rattle.asm_model.proofs.LaidLemmas.{starts_there}
 use Rattle.asm_offsets.specs.declared.extents.Extent.{Extent as Code}
-use Rattle.asm_offsets.specs.declared.extents.Placed.{Placed as Put}
+use Rattle.asm_offsets.specs.declared.extents.PlacedExtent.{PlacedExtent as Put}
 use Rattle.asm_offsets.specs.Coded.{extent_of_code, IsExtent}
 use Rattle.asm_offsets.specs.Running.{Standing, piece, IsStanding, IsBehind, IsPlaced, IsThere, entry_behind}
 use Rattle.asm_offsets.specs.Laws.{ExtentsArePlaceable}
@@ -30,8 +30,8 @@ use Rattle.asm_expr.specs.Places.{number_in}
 use Rattle.asm_laying.specs.declared.finding.Equated.{Equated}
 use Rattle.asm_laying.specs.declared.finding.Location.{Location}
 use Rattle.asm_laying.specs.declared.laying.Laying.{Laying}
-use Rattle.asm_laying.specs.declared.laying.Placed.{Placed}
-use Rattle.asm_names.specs.declared.lines.Place.{Place}
+use Rattle.asm_laying.specs.declared.laying.PlacedStatement.{PlacedStatement}
+use Rattle.asm_names.specs.declared.placed_lines.StatementPlace.{StatementPlace}
 use Rattle.asm_names.specs.Defining.{own_entry}
 use Rattle.asm_names.specs.Steps.{one_entry}
 use Rattle.asm_laying.specs.Laying.{IsAt, IsLocation, AreNeeded, Reaches, OkExtent, equal_names, told_of, IsLaid, IsPlaced as IsPlacedLine, Tells}
@@ -125,14 +125,16 @@ pub fault_is : (k : LineKind) (r : Result Extent LineKind) → coded (Err k) ≡
 fault_is k (Ok e) h = absurd (cc)
 fault_is k (Err j) h = cc
 
-standing_any : (area : ℕ) (before : List Piece) (e f : Extent) (o : Option Standing) → IsStanding area (piece None e ∷ before) o → IsStanding area (piece None f ∷ before) o
+standing_any : (area : ℕ) (before : List Piece) (e f : Extent) (o : Option Standing) → IsStanding area (piece None e ∷ before) o
+    → IsStanding area (piece None f ∷ before) o
 standing_any area before e f None h = h
 standing_any area before e f (Some a) h = record { end = h.end; waiting = h.waiting; placed = h.placed; pools = h.pools }
 
 all_there : (n : ℕ) (m : ℕ) → min n most_bytes ≡ m → m ≤ 2 ^ 24 → min n most_bytes ≡ n
 all_there n m h g = omega arith
 
-pub placed_all : (area : Option ℕ) (e : Extent) (before : List Piece) (areas : List Standing) (p : Put) → IsPlaced area (capped e) before areas p → IsPlaced area e before areas p
+pub placed_all : (area : Option ℕ) (e : Extent) (before : List Piece) (areas : List Standing) (p : Put) → IsPlaced area (capped e) before areas p
+    → IsPlaced area e before areas p
 placed_all None (Block a n) before areas p h = record {
   offset = h.offset;
   size = h.size;
@@ -169,11 +171,15 @@ found_fits law s w x h =
 
 -- a definition adds its own name, or that of an expression; what a name for an expression means does not hang on its size
 adds : (d : List LaidName) (s : Statement) (before : List LaidLine) (size : Option ℕ) (x : Defined)
-    → added_names (names_at d (seen_behind d (lines_of before)) (line_behind s before (definition_of d x (area_behind (s ∷ statements_of before)) (offset_behind s before) size (is_thumb_label s (statements_of before)) (map_behind before))))
+    → added_names (names_at d (seen_behind d (lines_of before)) (line_behind s before
+    (definition_of d x (area_behind (s ∷ statements_of before)) (offset_behind s before) size (is_thumb_label s (statements_of before))
+    (map_behind before))))
     (definition_of d x (area_behind (s ∷ statements_of before)) (offset_behind s before) size (is_thumb_label s (statements_of before)) (map_behind before))
-    ≡ one_entry (own_entry x (area_behind (s ∷ statements_of before)) (offset_behind s before) size (is_thumb_label s (statements_of before)) (map_behind before))
+    ≡ one_entry (own_entry x (area_behind (s ∷ statements_of before)) (offset_behind s before) size (is_thumb_label s (statements_of before))
+    (map_behind before))
     ++ equal_names d (area_behind (s ∷ statements_of before))
-    (names_at d (seen_behind d (lines_of before)) (line_behind s before (definition_of d x (area_behind (s ∷ statements_of before)) (offset_behind s before) None (is_thumb_label s (statements_of before)) (map_behind before)))) x
+    (names_at d (seen_behind d (lines_of before)) (line_behind s before (definition_of d x (area_behind (s ∷ statements_of before)) (offset_behind s before)
+    None (is_thumb_label s (statements_of before)) (map_behind before)))) x
 adds d s before size Unnamed = refl
 adds d s before size x = refl
 
@@ -182,8 +188,10 @@ imports : (d : List LaidName) (s : Statement) (before : List LaidLine) (rest : L
 imports d s before rest None = sym (append-nil (seen_behind d rest))
 imports d s before rest (Some name) = refl
 
-pub names_more : (d : List LaidName) (s : Statement) (before : List LaidLine) (e : Extent) (own equal : List LaidName) → extent_of (names_behind d s before) s.what ≡ Ok e
-    → own ≡ one_entry (own_entry (defined_by s) (area_behind (s ∷ statements_of before)) (offset_behind s before) (Some (laid_behind d s before).size) (is_thumb_label s (statements_of before)) (map_behind before))
+pub names_more : (d : List LaidName) (s : Statement) (before : List LaidLine) (e : Extent) (own equal : List LaidName)
+    → extent_of (names_behind d s before) s.what ≡ Ok e
+    → own ≡ one_entry (own_entry (defined_by s) (area_behind (s ∷ statements_of before)) (offset_behind s before) (Some (laid_behind d s before).size)
+    (is_thumb_label s (statements_of before)) (map_behind before))
     → equal ≡ equal_names d (area_behind (s ∷ statements_of before)) (names_behind d s before) (defined_by s)
     → seen_behind d (lines_of before) ++ own ++ equal ++ imported_entries (imported_in s.what) ≡ seen_behind d (lines_of (laid_behind d s before ∷ before))
 names_more d s before e own equal h o q =
@@ -191,7 +199,9 @@ names_more d s before e own equal h o q =
     let import = imported_entries (imported_in s.what) in
     let laid = laid_behind d s before in
     let one : seen ++ own ++ equal ≡ seen_behind d (laid.line ∷ lines_of before) =
-    append_assoc seen own equal ∙ ap (λ x. seen ++ (x ++ equal)) o ∙ ap (λ x. seen ++ (one_entry (own_entry (defined_by s) (area_behind (s ∷ statements_of before)) (offset_behind s before) (Some laid.size) (is_thumb_label s (statements_of before)) (map_behind before)) ++ x)) q
+    append_assoc seen own equal ∙ ap (λ x. seen ++ (x ++ equal)) o ∙ ap (λ x. seen
+    ++ (one_entry (own_entry (defined_by s) (area_behind (s ∷ statements_of before)) (offset_behind s before) (Some laid.size)
+    (is_thumb_label s (statements_of before)) (map_behind before)) ++ x)) q
     ∙ ap (λ x. seen ++ x) (sym (adds d s before (Some laid.size) (defined_by s))) in
     ap (λ x. x ++ import) one ∙ sym (imports d s before (laid.line ∷ lines_of before) (imported_in s.what))
 
@@ -203,7 +213,8 @@ fits_low a b c d h g f = le-ltb area_bytes (c + d) (omega arith)
 fits_not : (a b c d : ℕ) → a ≡ c → b ≡ d → 2 ^ 24 < a + b → nat_lt area_bytes (c + d) ≡ true
 fits_not a b c d h g f = lt-ltb area_bytes (c + d) (omega arith)
 
-pub told_too_large : (d : List LaidName) (s : Statement) (before : List LaidLine) (location : Location) (x : Code) (map : ℕ) (equal : Equated) → IsLocation s before location
+pub told_too_large : (d : List LaidName) (s : Statement) (before : List LaidLine) (location : Location) (x : Code) (map : ℕ) (equal : Equated)
+    → IsLocation s before location
     → AreNeeded d location (names_behind d s before) s (Ok x) (Ok map) equal
     → 2 ^ 24 < offset_of location.area (pieces_of before) (extent_of_code x) + size_behind location.area (pieces_of before) (extent_of_code x)
     → told_of (laid_behind d s before) ≡ Some TooMany
@@ -228,16 +239,19 @@ both_hold : (a b : Bool) → (a && b) ≡ true → (a ≡ true) × (b ≡ true)
 both_hold true b h = (refl, h)
 both_hold false b h = absurd (cc)
 
-abbrev placed_at : Location → ℕ → ℕ → Place
+abbrev placed_at : Location → ℕ → ℕ → StatementPlace
 placed_at location offset size =
     record { area = location.area; offset = offset; size = size; thumb = location.thumb; thumb_label = location.label_thumb; map = location.map }
 
-pub lays : (d : List LaidName) (s : Statement) (before : List LaidLine) (old new : Laying) (location : Location) (x : Code) (map : ℕ) (equal : Equated) (p : Put)
+pub lays : (d : List LaidName) (s : Statement) (before : List LaidLine) (old new : Laying) (location : Location) (x : Code) (map : ℕ) (equal : Equated)
+    (p : Put)
     → IsAt d s before old → IsLocation s before location
     → AreNeeded d location (names_behind d s before) s (Ok x) (Ok map) equal
     → IsPlaced location.area (extent_of_code x) (pieces_of before) new.areas.ends p → length new.areas.ends ≡ length old.areas.ends
-    → new.behind ≡ old.behind → new.map ≡ map → new.areas.numbers ≡ old.areas.numbers → new.areas.count ≡ old.areas.count → new.areas.current ≡ old.areas.current
-    → new.names ≡ old.names ++ one_entry (own_entry (defined_by s) location.area location.offset (Some p.size) location.label_thumb location.map) ++ one_entry equal.entry ++ imported_entries (imported_in s.what)
+    → new.behind ≡ old.behind → new.map ≡ map → new.areas.numbers ≡ old.areas.numbers → new.areas.count ≡ old.areas.count
+    → new.areas.current ≡ old.areas.current
+    → new.names ≡ old.names ++ one_entry (own_entry (defined_by s) location.area location.offset (Some p.size) location.label_thumb location.map)
+    ++ one_entry equal.entry ++ imported_entries (imported_in s.what)
     → new.all_known ≡ (old.all_known && equal.known)
     → (strings : List Bool) → strings ≡ string_marks (names_behind d s before) s.what
     → IsLaid d (laid_behind d s before) before new (record { place = placed_at location p.offset p.size; literal = p.literal; strings = strings })
@@ -255,8 +269,10 @@ lays d s before old new location x map equal p at sp found placed long behind ma
     let size : p.size ≡ l.size = here.size ∙ ap (λ q. size_behind area pieces (taken q)) (sym e.1) in
     let mine = one_entry (own_entry (defined_by s) location.area location.offset (Some p.size) location.label_thumb location.map) in
     let import = imported_entries (imported_in s.what) in
-    let own_eq : mine ≡ one_entry (own_entry (defined_by s) area (offset_behind s before) (Some l.size) (is_thumb_label s (statements_of before)) (map_behind before)) =
-    ap one_entry (own_there (defined_by s) location.area area location.offset (offset_behind s before) (Some p.size) (Some l.size) location.label_thumb (is_thumb_label s (statements_of before)) location.map (map_behind before)
+    let own_eq : mine ≡ one_entry (own_entry (defined_by s) area (offset_behind s before) (Some l.size) (is_thumb_label s (statements_of before))
+    (map_behind before)) =
+    ap one_entry (own_there (defined_by s) location.area area location.offset (offset_behind s before) (Some p.size) (Some l.size) location.label_thumb
+    (is_thumb_label s (statements_of before)) location.map (map_behind before)
     sp.area sp.offset (ap Some size) sp.label_thumb sp.map) in
     let equal_eq : one_entry equal.entry ≡ equal_names d area r (defined_by s) = found.equal_is.entry ∙ ap (λ a. equal_names d a r (defined_by s)) sp.area in
     record {
@@ -284,7 +300,8 @@ lays d s before old new location x map equal p at sp found placed long behind ma
 
 -- ---- other answers
 
-pub told_no_extent : (d : List LaidName) (s : Statement) (before : List LaidLine) (location : Location) (k : LineKind) (map : Result ℕ LineKind) (equal : Equated)
+pub told_no_extent : (d : List LaidName) (s : Statement) (before : List LaidLine) (location : Location) (k : LineKind) (map : Result ℕ LineKind)
+    (equal : Equated)
     → AreNeeded d location (names_behind d s before) s (Err k) map equal
     → told_of (laid_behind d s before) ≡ Some k
 told_no_extent d s before location k map equal found = told_extent d s before k (fault_is k (extent_of (names_behind d s before) s.what) found.extent_is)
@@ -296,14 +313,17 @@ told_no_map d s before location x k equal found =
     let e = coded_is x (extent_of (names_behind d s before) s.what) found.extent_is in
     told_map d s before e.0 location.map k e.1 (sym found.after_is)
 
-pub may_place : (d : List LaidName) (s : Statement) (before : List LaidLine) (state : Laying) (location : Location) → Reaches d s before state location → IsThere location.area state.areas.ends
-may_place d s before state location h = there_same state.areas.current location.area state.areas.ends state.areas.ends (h.location.area ∙ sym h.at.areas.here) refl h.at.areas.there
+pub may_place : (d : List LaidName) (s : Statement) (before : List LaidLine) (state : Laying) (location : Location) → Reaches d s before state location
+    → IsThere location.area state.areas.ends
+may_place d s before state location h =
+    there_same state.areas.current location.area state.areas.ends state.areas.ends (h.location.area ∙ sym h.at.areas.here) refl h.at.areas.there
 
 pub fits_all : ExtentsArePlaceable → (s : Names) (w : What) (r : Result Code LineKind) → coded r ≡ all_capped (extent_of s w) → OkExtent r
 fits_all law s w (Ok x) h = found_fits law s w x h
 fits_all law s w (Err k) h = tt
 
-pub tells : (d : List LaidName) (s : Statement) (before : List LaidLine) (location : Location) (number : Result ℕ LineKind) (placed : Result Placed LineKind) (state : Laying)
+pub tells : (d : List LaidName) (s : Statement) (before : List LaidLine) (location : Location) (number : Result ℕ LineKind)
+    (placed : Result PlacedStatement LineKind) (state : Laying)
     → IsLocation s before location → number ≡ said_number (names_behind d s before) s.what → IsPlacedLine d (laid_behind d s before) before state placed
     → Tells d (laid_behind d s before) before state (record { area = location.area; thumb = location.thumb; number = number; placed = placed })
 tells d s before location number placed state sp h g = record { area = sp.area; thumb = sp.thumb; number = h; placed = g }

@@ -4,3 +4,4 @@ pub mod LayLemmas
 pub mod NumberLemmas
 pub mod ReadLemmas
 pub mod SeeLemmas
+pub mod TakenLemmas

@@ -10,7 +10,7 @@ use Rattle.asm_model.specs.Meaning.{IsValue, Evaluates}
 use Rattle.asm_model.specs.Extents.{tree_value, tree_literal, value_there, number_there, literal_there, as_number}
 use Rattle.asm_model.proofs.TreeLemmas.{trees_read_back}
 use Rattle.asm_names.specs.Values.{SeesNumber, SeesLiteral, IsNumber}
-use Rattle.said_model.specs.Said.{IsRead, AllRead}
+use Rattle.asm_model.specs.Said.{IsRead, AllRead}
 
 pub value_read : (s : Names) (e : Expr) (r : Result Value EvalFault) → IsRead e → Evaluates s e.items r → IsValue (value_there s e) r
 value_read s e r read sees =

@@ -23,9 +23,9 @@ use Rattle.asm_model.specs.Trees.{tree_of}
 use Rattle.asm_model.proofs.TreeLemmas.{trees_read_back}
 use Rattle.asm_names.specs.Defining.{own_entry}
 use Rattle.asm_names.specs.Steps.{one_entry}
-use Rattle.said_model.specs.Said.{IsRead, WhatSaid}
+use Rattle.asm_model.specs.Said.{IsRead, WhatSaid}
 use Rattle.asm_laying.specs.declared.finding.Equated.{Equated}
-use Rattle.asm_laying.specs.declared.finding.Found.{Found}
+use Rattle.asm_laying.specs.declared.finding.StatementValues.{StatementValues}
 use Rattle.asm_laying.specs.declared.finding.Location.{Location}
 use Rattle.asm_laying.specs.Laying.{unsized_entry, names_shown, DefinedRead, IsEquated, IsFound, IsLocation}
 
@@ -52,11 +52,13 @@ shown : (d : List LaidName) (s : Statement) (before : List LaidLine) (names : Li
 shown d s before names own p sp known owned =
     let label = is_thumb_label s (statements_of before) in
     let owns : one_entry own ≡ own_names (definition_behind d s before None) =
-    ap one_entry (owned ∙ own_there (defined_by s) p.area (area_behind (s ∷ statements_of before)) p.offset (offset_behind s before) None None p.label_thumb label p.map (map_behind before) sp.area sp.offset refl sp.label_thumb sp.map)
+    ap one_entry (owned ∙ own_there (defined_by s) p.area (area_behind (s ∷ statements_of before)) p.offset (offset_behind s before) None None p.label_thumb
+    label p.map (map_behind before) sp.area sp.offset refl sp.label_thumb sp.map)
     ∙ own_is d (defined_by s) (area_behind (s ∷ statements_of before)) (offset_behind s before) None label (map_behind before) in
     rw (known, owns, sp.area, sp.offset, sp.map, sp.thumb) refl
 
-pub found_shown : (d : List LaidName) (s : Statement) (before : List LaidLine) (names : List LaidName) (own : Option LaidName) (p : Location) (f : Found) → IsLocation s before p
+pub found_shown : (d : List LaidName) (s : Statement) (before : List LaidLine) (names : List LaidName) (own : Option LaidName) (p : Location)
+    (f : StatementValues) → IsLocation s before p
     → names ≡ seen_behind d (lines_of before) → own ≡ unsized_entry (defined_by s) p
     → IsFound d p (names_shown d names (one_entry own) p) s f → IsFound d p (names_behind d s before) s f
 found_shown d s before names own p f at known owned = subst (λ (x : Names). IsFound d p x s f) (shown d s before names own p at known owned)

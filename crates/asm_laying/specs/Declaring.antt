@@ -6,8 +6,8 @@ use Rattle.asm_model.specs.Before.{code_from}
 use Rattle.asm_model.specs.Entries.{later_entry}
 use Rattle.asm_model.specs.Labels.{Defined, Unnamed, Label, Equal, MapField, RegisterName, defined_by, imported_in, declared_imports}
 use Rattle.asm_names.specs.Steps.{one_entry}
-use Rattle.asm_laying.specs.declared.behind.Behind.{Behind}
-use Rattle.asm_laying.specs.Behind.{stepped}
+use Rattle.asm_laying.specs.declared.carried.CarriedState.{CarriedState}
+use Rattle.asm_laying.specs.Carried.{stepped}
 
 -- the entry of a name of the source, which means something later
 abbrev pub declared_entry : Defined → Bool → Option LaidName
@@ -18,6 +18,7 @@ declared_entry (MapField name) thumb = Some (later_entry name false)
 declared_entry (RegisterName name r) thumb = Some (later_entry name false)
 
 -- what a statement more declares
-pub record Declares (s : Statement) (b : Behind) (old new : List LaidName) (next : Behind) : Type 0 where
-  pub names : new ≡ old ++ one_entry (declared_entry (defined_by s) (b.thumb && code_from s.what b.code)) ++ declared_imports (imported_in s.what)
+pub record Declares (s : Statement) (b : CarriedState) (old new : List LaidName) (next : CarriedState) : Type 0 where
+  pub names : new ≡ old ++ one_entry (declared_entry (defined_by s) (b.thumb && code_from s.what b.code))
+      ++ declared_imports (imported_in s.what)
   pub steps : next ≡ stepped s.what b

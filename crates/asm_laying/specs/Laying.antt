@@ -16,21 +16,21 @@ use Rattle.asm_model.specs.Laid.{LaidLine, statements_of, lines_of, taken, piece
 use Rattle.asm_model.specs.Trees.{tree_of}
 use Rattle.asm_model.specs.LayoutKinds.{fault_kinds, map_kinds, area_bytes}
 use Rattle.asm_names.specs.Defining.{own_entry}
-use Rattle.asm_names.specs.Lines.{IsPlace}
+use Rattle.asm_names.specs.PlacedLines.{IsPlace}
 use Rattle.asm_names.specs.Steps.{one_entry}
 use Rattle.asm_offsets.specs.Running.{IsBehind, entry_behind}
 use Rattle.asm_offsets.specs.declared.extents.Extent.{Extent as Code}
 use Rattle.asm_offsets.specs.Coded.{extent_of_code, IsExtent}
 use Rattle.layout_laws.specs.Final.{IsEqualKnown, AreEqualsKnown}
-use Rattle.said_model.specs.Said.{IsRead}
+use Rattle.asm_model.specs.Said.{IsRead}
 use Rattle.asm_laying.specs.declared.finding.Equated.{Equated}
-use Rattle.asm_laying.specs.declared.finding.Found.{Found}
+use Rattle.asm_laying.specs.declared.finding.StatementValues.{StatementValues}
 use Rattle.asm_laying.specs.declared.finding.Location.{Location}
 use Rattle.asm_laying.specs.declared.laying.Ended.{Ended}
-use Rattle.asm_laying.specs.declared.laying.Laid.{Laid}
+use Rattle.asm_laying.specs.declared.laying.LaidOutcome.{LaidOutcome}
 use Rattle.asm_laying.specs.declared.laying.Laying.{Laying}
-use Rattle.asm_laying.specs.declared.laying.Placed.{Placed}
-use Rattle.asm_laying.specs.Behind.{behind, most_statements}
+use Rattle.asm_laying.specs.declared.laying.PlacedStatement.{PlacedStatement}
+use Rattle.asm_laying.specs.Carried.{behind, most_statements}
 use Rattle.asm_laying.specs.Numbered.{AreNumbered}
 use Rattle.asm_laying.specs.Reading.{all_capped, coded, map_after, said_number, string_marks}
 
@@ -123,18 +123,19 @@ abbrev pub with_entries : List LaidName → Option LaidName → Option LaidName 
 with_entries names own equal s = names ++ one_entry own ++ one_entry equal ++ imported_entries (imported_in s.what)
 
 -- what a statement takes up, the storage map behind it and its name for an expression
-pub record AreNeeded (names : List LaidName) (p : Location) (s : Names) (statement : Statement) (extent : Result Code LineKind) (after : Result ℕ LineKind) (equal : Equated) : Type 0 where
+pub record AreNeeded (names : List LaidName) (p : Location) (s : Names) (statement : Statement) (extent : Result Code LineKind)
+    (after : Result ℕ LineKind) (equal : Equated) : Type 0 where
   pub extent_is : coded extent ≡ all_capped (extent_of s statement.what)
   pub after_is : after ≡ map_after p.map s statement.what
   pub equal_is : IsEquated names p.area s (defined_by statement) equal
 
-pub record IsFound (names : List LaidName) (p : Location) (s : Names) (statement : Statement) (f : Found) : Type 0 where
+pub record IsFound (names : List LaidName) (p : Location) (s : Names) (statement : Statement) (f : StatementValues) : Type 0 where
   pub needed : AreNeeded names p s statement f.extent f.map f.equal
   pub number : f.number ≡ said_number s statement.what
   pub strings : f.strings ≡ string_marks s statement.what
 
 -- what is found for a statement at a location, where these names are known and its own besides
-abbrev pub Finds : List LaidName → List LaidName → Option LaidName → Location → Statement → Found → Type 0
+abbrev pub Finds : List LaidName → List LaidName → Option LaidName → Location → Statement → StatementValues → Type 0
 Finds declared names own p s f =
     (before : List LaidLine) → IsLocation s before p → names ≡ seen_behind declared (lines_of before) → own ≡ unsized_entry (defined_by s) p
     → IsFound declared p (names_behind declared s before) s f
@@ -154,7 +155,7 @@ abbrev pub told_of : LaidLine → Option LineKind
 told_of l =
     told_kind (fault_kinds l.extent ++ map_kinds l.seen l.statement.what ++ kind_if (nat_lt area_bytes (l.offset + l.size)) TooMany)
 
-pub record IsLaid (declared : List LaidName) (l : LaidLine) (before : List LaidLine) (state : Laying) (p : Placed) : Type 0 where
+pub record IsLaid (declared : List LaidName) (l : LaidLine) (before : List LaidLine) (state : Laying) (p : PlacedStatement) : Type 0 where
   pub told : told_of l ≡ None
   pub place : IsPlace p.place l before
   pub literal : p.literal ≡ entry_behind l.area (pieces_of before) (taken l.extent)
@@ -162,31 +163,32 @@ pub record IsLaid (declared : List LaidName) (l : LaidLine) (before : List LaidL
   pub laying : IsLaying declared (l ∷ before) state
 
 -- where a line more stands, or the kind that is told of it
-abbrev pub IsPlaced : List LaidName → LaidLine → List LaidLine → Laying → Result Placed LineKind → Type 0
+abbrev pub IsPlaced : List LaidName → LaidLine → List LaidLine → Laying → Result PlacedStatement LineKind → Type 0
 IsPlaced declared l before state (Ok p) = IsLaid declared l before state p
 IsPlaced declared l before state (Err kind) = told_of l ≡ Some kind
 
 -- a statement that is reached gets its place, by what it needs of values
 abbrev pub Puts : Statement → Location → Result Code LineKind → Result ℕ LineKind → Option LaidName → Equated → List Bool → Laying → Laying
-    → Result (Result Placed LineKind) NoMemory → Type 0
+    → Result (Result PlacedStatement LineKind) NoMemory → Type 0
 Puts s p extent map own equal strings old new result =
     (declared : List LaidName) (before : List LaidLine) → Reaches declared s before old p
-    → AreNeeded declared p (names_behind declared s before) s extent map equal → strings ≡ string_marks (names_behind declared s before) s.what
+    → AreNeeded declared p (names_behind declared s before) s extent map equal
+    → strings ≡ string_marks (names_behind declared s before) s.what
     → own ≡ unsized_entry (defined_by s) p → IfOk result (λ placed. IsPlaced declared (laid_behind declared s before) before new placed)
 
 -- what laying a line tells of it
-pub record Tells (declared : List LaidName) (l : LaidLine) (before : List LaidLine) (state : Laying) (x : Laid) : Type 0 where
+pub record Tells (declared : List LaidName) (l : LaidLine) (before : List LaidLine) (state : Laying) (x : LaidOutcome) : Type 0 where
   pub area : x.area ≡ l.area
   pub thumb : x.thumb ≡ l.thumb
   pub number : x.number ≡ said_number l.seen l.statement.what
   pub placed : IsPlaced declared l before state x.placed
 
 -- what a line more gives
-abbrev pub Lays : List LaidName → LaidLine → List LaidLine → Laying → Result Laid NoMemory → Type 0
+abbrev pub Lays : List LaidName → LaidLine → List LaidLine → Laying → Result LaidOutcome NoMemory → Type 0
 Lays declared l before state (Ok x) = Tells declared l before state x
 Lays declared l before state (Err m) = Unit {0}
 
 -- what a statement more gives behind lines of a source that declares these names
-abbrev pub LaysNext : List LaidName → Statement → Laying → Laying → Result Laid NoMemory → Type 0
+abbrev pub LaysNext : List LaidName → Statement → Laying → Laying → Result LaidOutcome NoMemory → Type 0
 LaysNext declared s old new result =
     (before : List LaidLine) → IsLaying declared before old → Lays declared (laid_behind declared s before) before new result

@@ -1,5 +1,5 @@
 -- What the clauses of the crate cite.
-pub mod Behind
+pub mod Carried
 pub mod Declaring
 pub mod Laying
 pub mod Numbered

@@ -8,13 +8,14 @@ ghost use Rattle.asm_model.specs.Before as before;
 ghost use Rattle.asm_model.specs.Extents as extents;
 ghost use Rattle.asm_model.specs.Extents.{pool_alignment as aligned_for};
 ghost use Rattle.asm_model.specs.Laid.{aligned_end};
+ghost use Rattle.asm_model.specs.OccupiedCode.{occupied_of_code};
 ghost use Rattle.asm_model.specs.Offsets.{Piece};
 ghost use Rattle.asm_offsets.specs.Coded.{IsAlignment};
 ghost use Rattle.asm_offsets.specs.Running.{IsBehind};
-ghost use Rattle.asm_laying.specs.Behind.{most_statements};
+ghost use Rattle.asm_laying.specs.Carried.{most_statements};
 ghost use Rattle.asm_laying.specs.Numbered.{AreNumbered, ArePlaceable, Enters};
 
-use asm_model::{DirectiveLine, PseudoLine, What};
+use asm_model::{DirectiveLine, Occupied, PseudoLine, What, item_alignment, occupied_by};
 use asm_offsets::Ends;
 use sdt_fault::{NoMemory, Text};
 use std::alloc::Global;
@@ -57,7 +58,27 @@ fn pseudo_alignment(line: &PseudoLine, thumb: bool) -> u32
 {
     match line {
         PseudoLine::LongAddress { .. } => 4,
-        _ => instruction_alignment(thumb),
+        PseudoLine::LoadConstant { .. } | PseudoLine::Address { .. } | PseudoLine::NoOperation => {
+            instruction_alignment(thumb)
+        }
+    }
+}
+
+fn occupied_alignment(occupied: Occupied<'_>, thumb: bool, pool: u32) -> u32
+    requires { IsAlignment pool }
+    ensures alignment { (literals : List Value) → pool ≡ aligned_for literals → result
+        ≡ extents.occupied_alignment thumb literals (occupied_of_code occupied.entry) }
+    ensures small { IsAlignment result }
+{
+    match occupied {
+        Occupied::Entering => instruction_alignment(thumb),
+        Occupied::Items(item, _) => item_alignment(item),
+        Occupied::Literals => pool,
+        Occupied::Unplaced
+        | Occupied::Opening(_)
+        | Occupied::Marking
+        | Occupied::Zeroes(_)
+        | Occupied::UpTo(_) => 1,
     }
 }
 
@@ -67,13 +88,7 @@ fn directive_alignment(line: &DirectiveLine, thumb: bool, pool: u32) -> u32
         ≡ extents.directive_alignment thumb literals line.now }
     ensures small { IsAlignment result }
 {
-    match line {
-        DirectiveLine::Entry => instruction_alignment(thumb),
-        DirectiveLine::Dcd { .. } => 4,
-        DirectiveLine::Dcw { .. } => 2,
-        DirectiveLine::Ltorg => pool,
-        _ => 1,
-    }
+    occupied_alignment(occupied_by(line), thumb, pool)
 }
 
 /// The alignment of a statement, by that of a pool that would stand there.

@@ -6,12 +6,12 @@ ghost use Rattle.asm_model.specs.Labels as labels;
 ghost use Rattle.asm_names.specs.Defining.{defined_of};
 ghost use Rattle.asm_laying.specs.Declaring.{declared_entry, Declares};
 
-use crate::behind::Behind;
-use asm_model::{LaidName, Statement, What};
+use crate::carried::CarriedState;
+use asm_model::{LaidName, Statement, What, imported_name};
 use asm_names::KnownNames;
 use asm_names::defining::{Defines, defined_by};
 use asm_names::listing::add_entry;
-use asm_names::made::{imported_name, later_entry};
+use asm_names::made::later_entry;
 use sdt_fault::{NoMemory, Text};
 use std::alloc::Global;
 
@@ -66,9 +66,9 @@ fn add_imported(alloc: Global, names: &mut KnownNames, what: &What) -> Result<()
 pub fn declare_one(
     alloc: Global,
     names: &mut KnownNames,
-    behind: Behind,
+    behind: CarriedState,
     statement: &Statement,
-) -> Result<Behind, NoMemory>
+) -> Result<CarriedState, NoMemory>
     ensures { IfOk result (λ next. Declares statement.now behind names.old names.new next) }
 {
     let defines = defined_by(statement);

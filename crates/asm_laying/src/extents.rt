@@ -1,35 +1,40 @@
 //! What statements take up in their areas.
 
 ghost use Rattle.std.specs.Prelude.{◌≡◌, ◌*◌, [], length, min, if◌then◌else◌, IfOk};
-ghost use Rattle.asm_model.specs.Says.{mapped, on_both};
 ghost use Rattle.asm_model.specs.Extents as extents;
 ghost use Rattle.asm_model.specs.Extents.{Block, Padding, Loading};
+ghost use Rattle.asm_model.specs.Readings.{mapped, on_both};
 ghost use Rattle.asm_model.specs.declared.values.Value.TheVariants as value;
 ghost use Rattle.asm_model.specs.declared.statements.What.TheVariants as kinds;
 ghost use Rattle.asm_offsets.specs.Coded.{extent_of_code};
 ghost use Rattle.asm_expr.specs.Seeing.{seen_names};
-ghost use Rattle.said_model.specs.Said.{AllRead, BoundaryRead, DirectiveSaid, PseudoSaid, WhatSaid};
-ghost use Rattle.asm_model.specs.declared.directives.DirectiveLine.TheVariants as lines;
-ghost use Rattle.asm_laying.specs.Reading.{all_capped, capped, coded, is_words, marks, most_bytes, IsTaken};
+ghost use Rattle.asm_model.specs.Said.{AllRead, BoundaryRead, DirectiveSaid, PseudoSaid, WhatSaid};
+ghost use Rattle.asm_model.specs.declared.directives.Held.TheVariants as held;
+ghost use Rattle.asm_model.specs.OccupiedCode.{occupied_of_code};
+ghost use Rattle.asm_model.specs.SaidParts.{OccupiedSaid};
+ghost use Rattle.asm_laying.specs.Reading.{all_capped, capped, coded, is_words, marks, most_bytes, IsHeld, IsOccupied, IsTaken};
 
 use crate::numbers::{as_multiple, bytes_of, is_moved, more_bytes};
 use crate::values::{literal_there, number_there, value_there};
 use asm_expr::Seen;
 use asm_expr::kinds::earlier;
-use asm_model::{Boundary, DirectiveLine, Expr, PseudoLine, ThumbLine, Value, What};
+use asm_model::{
+    Boundary, DirectiveLine, Expr, Held, Occupied, PseudoLine, ThumbLine, Value, What, held_by,
+    item_alignment, occupied_by,
+};
 use asm_offsets::Extent;
 use sdt_fault::kinds::LineKind;
 use sdt_fault::{List as Listed, NoMemory};
 use std::alloc::Global;
 
-/// What a statement takes up, and of each operand of DCB whether it is a string.
+/// What a statement takes up, and of each value that may be a string whether it is one.
 #[derive(Debug, Drop)]
-pub struct Taken {
+pub struct SizedStatement {
     pub extent: Result<Extent, LineKind>,
     pub strings: Listed<bool>,
 }
 
-/// The bytes of operands of DCB, and of each whether it is a string.
+/// The bytes of values that may be strings, and of each whether it is one.
 #[derive(Debug, Drop)]
 pub struct Counted {
     pub bytes: u32,
@@ -77,7 +82,24 @@ fn thumb_extent(line: &ThumbLine) -> Extent
 {
     match line {
         ThumbLine::BranchLink { .. } => block(2, 4),
-        _ => block(2, 2),
+        ThumbLine::ShiftImmediate { .. }
+        | ThumbLine::AddSubtract { .. }
+        | ThumbLine::DataImmediate { .. }
+        | ThumbLine::DataRegister { .. }
+        | ThumbLine::HighRegister { .. }
+        | ThumbLine::LoadLiteral { .. }
+        | ThumbLine::TransferRegister { .. }
+        | ThumbLine::TransferSigned { .. }
+        | ThumbLine::TransferImmediate { .. }
+        | ThumbLine::TransferHalf { .. }
+        | ThumbLine::TransferStack { .. }
+        | ThumbLine::LoadAddress { .. }
+        | ThumbLine::AdjustStack { .. }
+        | ThumbLine::PushPop { .. }
+        | ThumbLine::TransferMultiple { .. }
+        | ThumbLine::BranchConditional { .. }
+        | ThumbLine::SoftwareInterrupt { .. }
+        | ThumbLine::Branch { .. } => block(2, 2),
     }
 }
 
@@ -149,7 +171,7 @@ fn pseudo_extent(
     }
 }
 
-/// The bytes of an operand of DCB.
+/// The bytes of a value that may be a string.
 fn byte_count(value: &Result<Value, LineKind>) -> usize
     ensures { result ≡ extents.byte_count value.now }
 {
@@ -159,7 +181,7 @@ fn byte_count(value: &Result<Value, LineKind>) -> usize
     }
 }
 
-/// Whether an operand of DCB is a string.
+/// Whether a value is a string.
 fn is_string(value: &Result<Value, LineKind>) -> bool
     ensures { result ≡ is_words value.now }
 {
@@ -169,7 +191,7 @@ fn is_string(value: &Result<Value, LineKind>) -> bool
     }
 }
 
-/// The bytes and marks of operands of DCB.
+/// The bytes and marks of values that may be strings.
 fn byte_counts(alloc: Global, seen: &Seen<'_>, operands: &[Expr]) -> Result<Counted, NoMemory>
     requires { AllRead operands.now }
     ensures bytes { IfOk result (λ counted. counted.bytes
@@ -193,29 +215,31 @@ fn byte_counts(alloc: Global, seen: &Seen<'_>, operands: &[Expr]) -> Result<Coun
     }
 }
 
-/// What operands of DCB take up.
-fn bytes_taken(alloc: Global, seen: &Seen<'_>, operands: &[Expr]) -> Result<Taken, NoMemory>
-    requires { AllRead operands.now }
+/// What values that may be strings take up.
+fn bytes_taken(
+    alloc: Global,
+    seen: &Seen<'_>,
+    alignment: u32,
+    values: &[Expr],
+) -> Result<SizedStatement, NoMemory>
+    requires { AllRead values.now }
     ensures { IfOk result
-        (λ taken. IsTaken (seen_names seen.now) (kinds.Directive (lines.Dcb operands.now)) taken) }
+        (λ taken. IsHeld (seen_names seen.now) alignment held.Strings values.now taken) }
 {
-    let counted = byte_counts(alloc, seen, operands)?;
+    let counted = byte_counts(alloc, seen, values)?;
     let Counted { bytes, strings } = counted;
-    Ok(Taken {
-        extent: Ok(Extent::Block {
-            alignment: 1,
-            bytes,
-        }),
+    Ok(SizedStatement {
+        extent: Ok(Extent::Block { alignment, bytes }),
         strings: Listed::from_vec(strings),
     })
 }
 
 /// What a statement without strings takes up.
-fn plainly(alloc: Global, extent: Result<Extent, LineKind>) -> Taken
+fn plainly(alloc: Global, extent: Result<Extent, LineKind>) -> SizedStatement
     ensures extent { result.extent ≡ extent }
     ensures strings { result.strings ≡ [] }
 {
-    Taken {
+    SizedStatement {
         extent,
         strings: Listed::from_vec(Vec::new(alloc)),
     }
@@ -282,41 +306,68 @@ fn padding(
     }
 }
 
-fn directive_extent(alloc: Global, seen: &Seen<'_>, line: &DirectiveLine) -> Result<Taken, NoMemory>
+/// What values that are held so take up.
+fn held_extent(
+    alloc: Global,
+    seen: &Seen<'_>,
+    alignment: u32,
+    held: Held,
+    values: &[Expr],
+) -> Result<SizedStatement, NoMemory>
+    requires { AllRead values.now }
+    ensures { IfOk result
+        (λ taken. IsHeld (seen_names seen.now) alignment held values.now taken) }
+{
+    match held {
+        Held::Relocatable => Ok(plainly(alloc, Ok(items(alignment, 4, values.len())))),
+        Held::Fixed(width) => Ok(plainly(alloc, Ok(items(alignment, width as u32, values.len())))),
+        Held::Strings => bytes_taken(alloc, seen, alignment, values),
+    }
+}
+
+fn occupied_extent(
+    alloc: Global,
+    seen: &Seen<'_>,
+    occupied: Occupied<'_>,
+) -> Result<SizedStatement, NoMemory>
+    requires { OccupiedSaid (occupied_of_code occupied) }
+    ensures { IfOk result
+        (λ taken. IsOccupied (seen_names seen.now) (occupied_of_code occupied.entry) taken) }
+{
+    match occupied {
+        Occupied::Unplaced | Occupied::Opening(_) | Occupied::Marking => {
+            Ok(plainly(alloc, Ok(block(1, 0))))
+        }
+        Occupied::Entering => Ok(plainly(alloc, Ok(entry(seen.thumb)))),
+        Occupied::Items(item, values) => {
+            held_extent(alloc, seen, item_alignment(item), held_by(item), values)
+        }
+        Occupied::Zeroes(size) => {
+            let number = number_there(alloc, size, seen)?;
+            Ok(plainly(alloc, space_of(number)))
+        }
+        Occupied::UpTo(boundary) => {
+            let extent = padding(alloc, seen, boundary)?;
+            Ok(plainly(alloc, extent))
+        }
+        Occupied::Literals => Ok(plainly(alloc, Ok(Extent::Pool))),
+    }
+}
+
+fn directive_extent(
+    alloc: Global,
+    seen: &Seen<'_>,
+    line: &DirectiveLine,
+) -> Result<SizedStatement, NoMemory>
     requires { DirectiveSaid line.now }
     ensures { IfOk result
         (λ taken. IsTaken (seen_names seen.now) (kinds.Directive line.now) taken) }
 {
-    match line {
-        DirectiveLine::Entry => Ok(plainly(alloc, Ok(entry(seen.thumb)))),
-        DirectiveLine::Dcd { values } => Ok(plainly(
-            alloc,
-            Ok(items(4, 4, values.as_slice().len())),
-        )),
-        DirectiveLine::Dcdu { values } => Ok(plainly(
-            alloc,
-            Ok(items(1, 4, values.as_slice().len())),
-        )),
-        DirectiveLine::Dcw { values } => Ok(plainly(
-            alloc,
-            Ok(items(2, 2, values.as_slice().len())),
-        )),
-        DirectiveLine::Dcb { values } => bytes_taken(alloc, seen, values.as_slice()),
-        DirectiveLine::Space { size } => {
-            let number = number_there(alloc, size, seen)?;
-            Ok(plainly(alloc, space_of(number)))
-        }
-        DirectiveLine::Align { boundary } => {
-            let extent = padding(alloc, seen, boundary)?;
-            Ok(plainly(alloc, extent))
-        }
-        DirectiveLine::Ltorg => Ok(plainly(alloc, Ok(Extent::Pool))),
-        _ => Ok(plainly(alloc, Ok(block(1, 0)))),
-    }
+    occupied_extent(alloc, seen, occupied_by(line))
 }
 
 /// What a statement takes up, by what is known at its line, or the kind of its fault; and which operands are strings.
-pub fn extent_of(alloc: Global, seen: &Seen<'_>, what: &What) -> Result<Taken, NoMemory>
+pub fn extent_of(alloc: Global, seen: &Seen<'_>, what: &What) -> Result<SizedStatement, NoMemory>
     requires { WhatSaid what.now }
     ensures { IfOk result (λ taken. IsTaken (seen_names seen.now) what.now taken) }
 {

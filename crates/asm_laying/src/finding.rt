@@ -5,12 +5,12 @@ ghost use Rattle.std.specs.Option.{option_copied};
 ghost use Rattle.asm_expr.specs.Seeing.{seen_names};
 ghost use Rattle.asm_model.specs.AtLine.{is_value};
 ghost use Rattle.asm_model.specs.Entries.{equal_entry as entry_of_equal};
-ghost use Rattle.said_model.specs.Said.{IsSaid};
+ghost use Rattle.asm_model.specs.Said.{IsSaid};
 ghost use Rattle.asm_model.specs.Labels as labels;
 ghost use Rattle.asm_names.specs.Defining.{defined_of};
 ghost use Rattle.asm_laying.specs.Laying.{unsized_entry, DefinedRead, Finds, IsEquated};
 
-use crate::extents::{Taken, extent_of};
+use crate::extents::{SizedStatement, extent_of};
 use crate::values::{map_after, said_number, value_there};
 use asm_model::{LaidName, Statement, Value};
 use asm_names::defining::{Defines, defined_by, own_entry};
@@ -44,7 +44,7 @@ pub struct Equated {
 
 /// What laying a statement needs of the values of its expressions.
 #[derive(Debug, Drop)]
-pub struct Found {
+pub struct StatementValues {
     pub extent: Result<Extent, LineKind>,
     /// The storage map behind the statement.
     pub map: Result<u32, LineKind>,
@@ -133,7 +133,7 @@ pub fn find(
     own: Option<&LaidName>,
     location: &Location,
     statement: &Statement,
-) -> Result<Found, NoMemory>
+) -> Result<StatementValues, NoMemory>
     requires { IsSaid statement.now }
     ensures { IfOk result
         (λ found. Finds declared.now names.now
@@ -150,10 +150,10 @@ pub fn find(
     };
     let defines = defined_by(statement);
     let equal = equal_there(alloc, declared, &seen, &defines)?;
-    let Taken { extent, strings } = extent_of(alloc, &seen, &statement.what)?;
+    let SizedStatement { extent, strings } = extent_of(alloc, &seen, &statement.what)?;
     let map = map_after(alloc, location.map, &seen, &statement.what)?;
     let number = said_number(alloc, &statement.what, &seen)?;
-    Ok(Found {
+    Ok(StatementValues {
         extent,
         map,
         equal,

@@ -4,7 +4,7 @@ ghost use Rattle.std.specs.Prelude.{◌≡◌, ◌++◌, ◌&&◌, [], ℕ, Bool
 ghost use Rattle.asm_model.specs.declared.names.LaidName.{LaidName};
 ghost use Rattle.asm_model.specs.Labels as labels;
 ghost use Rattle.asm_model.specs.Laid.{laid_behind, names_behind, LaidLine};
-ghost use Rattle.said_model.specs.Said.{IsSaid};
+ghost use Rattle.asm_model.specs.Said.{IsSaid};
 ghost use Rattle.asm_names.specs.Defining.{own_entry};
 ghost use Rattle.asm_names.specs.Steps.{one_entry};
 ghost use Rattle.asm_offsets.specs.Coded.{extent_of_code, IsExtent};
@@ -13,13 +13,13 @@ ghost use Rattle.asm_laying.specs.Laying as laying;
 ghost use Rattle.asm_laying.specs.Reading.{string_marks};
 
 use crate::areas::Areas;
-use crate::behind::{Behind, START};
+use crate::carried::{CarriedState, START};
 use crate::declarations::is_thumb_label;
-use crate::finding::{Equated, Found, Location, find, unsized_entry};
+use crate::finding::{Equated, Location, StatementValues, find, unsized_entry};
 use asm_model::{LaidName, Statement};
 use asm_names::defining::{Defines, defined_by};
 use asm_names::listing::{add_entry, add_imported};
-use asm_names::{KnownNames, Place};
+use asm_names::{KnownNames, StatementPlace};
 use asm_offsets::{Ends, Extent, TooLarge, extents_are_placeable};
 use sdt_fault::kinds::LineKind;
 use sdt_fault::{List as Listed, NoMemory};
@@ -27,8 +27,8 @@ use std::alloc::Global;
 
 /// A statement with its place.
 #[derive(Debug, Drop)]
-pub struct Placed {
-    pub place: Place,
+pub struct PlacedStatement {
+    pub place: StatementPlace,
     /// The number of its literal's entry in the pools of its area.
     pub literal: Option<u32>,
     /// For DCB, of each operand whether it is a string by what is known at its line.
@@ -37,7 +37,7 @@ pub struct Placed {
 
 /// What laying a statement tells of it.
 #[derive(Debug, Drop)]
-pub struct Laid {
+pub struct LaidOutcome {
     /// Its area, counted from 0; None before the first.
     pub area: Option<u32>,
     /// Whether it stands in Thumb state.
@@ -45,13 +45,13 @@ pub struct Laid {
     /// The number that checks ask for: the exponent of an AREA's alignment, or what RN gives a name.
     pub number: Result<u32, LineKind>,
     /// The statement with its place, or the kind of its fault that is told, of those that laying finds.
-    pub placed: Result<Placed, LineKind>,
+    pub placed: Result<PlacedStatement, LineKind>,
 }
 
 /// The state behind the lines so far.
 #[derive(Debug, Drop)]
 pub struct Laying {
-    behind: Behind,
+    behind: CarriedState,
     areas: Areas,
     map: u32,
     /// The names that are known.
@@ -161,7 +161,7 @@ impl Laying {
         own: Option<LaidName>,
         equal: Equated,
         strings: Listed<bool>,
-    ) -> Result<Result<Placed, LineKind>, NoMemory>
+    ) -> Result<Result<PlacedStatement, LineKind>, NoMemory>
         requires there { IsThere location.now.area self.old.areas.ends }
         requires extent { IsExtent (extent_of_code extent) }
         ensures { laying.Puts statement.now location.now (Ok extent)
@@ -176,8 +176,8 @@ impl Laying {
                 self.all_known = still_known(self.all_known, known);
                 let own = sized(statement, own, placed.size);
                 add_names(&mut self.names, alloc, statement, own, entry)?;
-                Ok(Ok(Placed {
-                    place: Place {
+                Ok(Ok(PlacedStatement {
+                    place: StatementPlace {
                         area: location.area,
                         offset: placed.offset,
                         size: placed.size,
@@ -203,7 +203,7 @@ impl Laying {
         own: Option<LaidName>,
         equal: Equated,
         strings: Listed<bool>,
-    ) -> Result<Result<Placed, LineKind>, NoMemory>
+    ) -> Result<Result<PlacedStatement, LineKind>, NoMemory>
         requires there { IsThere location.now.area self.old.areas.ends }
         requires extent { IsExtent (extent_of_code extent) }
         ensures { laying.Puts statement.now location.now
@@ -226,7 +226,7 @@ impl Laying {
         own: Option<LaidName>,
         equal: Equated,
         strings: Listed<bool>,
-    ) -> Result<Result<Placed, LineKind>, NoMemory>
+    ) -> Result<Result<PlacedStatement, LineKind>, NoMemory>
         requires there { IsThere location.now.area self.old.areas.ends }
         requires extent { laying.OkExtent extent }
         ensures { laying.Puts statement.now location.now extent map own equal strings
@@ -264,7 +264,7 @@ impl Laying {
         alloc: Global,
         declared: &KnownNames,
         statement: &Statement,
-    ) -> Result<Laid, NoMemory>
+    ) -> Result<LaidOutcome, NoMemory>
         requires may { laying.MayLay declared.now self.old }
         requires said { IsSaid statement.now }
         ensures { laying.LaysNext declared.now statement.now self.old self.new result }
@@ -280,7 +280,7 @@ impl Laying {
             &location,
             statement,
         )?;
-        let Found {
+        let StatementValues {
             extent,
             map,
             equal,
@@ -290,7 +290,7 @@ impl Laying {
         let placed = self.settle(
             alloc, statement, &location, extent, map, own, equal, strings,
         )?;
-        Ok(Laid {
+        Ok(LaidOutcome {
             area: location.area,
             thumb: location.thumb,
             number,

@@ -1,16 +1,17 @@
 //! Values of a statement's expressions by what is known at its line.
 
 ghost use Rattle.std.specs.Prelude.{◌≡◌, ◌+◌, ◌%◌, ◌^◌, ℕ, Result, IfOk};
-ghost use Rattle.asm_model.specs.Says.{mapped, on_both};
 ghost use Rattle.sdt_fault.specs.declared.kinds.LineKind.{LineKind};
 ghost use Rattle.asm_model.specs.Extents as extents;
 ghost use Rattle.asm_model.specs.LayoutKinds.{exponent};
+ghost use Rattle.asm_model.specs.Readings.{mapped, on_both};
 ghost use Rattle.asm_expr.specs.Seeing.{seen_names};
 ghost use Rattle.asm_names.specs.Values.{IsNumber};
-ghost use Rattle.said_model.specs.Said.{AllRead, DirectiveSaid, GivenSaid, IsRead, WhatSaid};
+ghost use Rattle.asm_model.specs.Said.{AllRead, DirectiveSaid, GivenSaid, IsRead, WhatSaid};
 ghost use Rattle.asm_model.specs.declared.statements.What.TheVariants as kinds;
 ghost use Rattle.asm_model.specs.declared.directives.DirectiveLine.TheVariants as lines;
-ghost use Rattle.asm_laying.specs.Reading.{map_after, said_number};
+ghost use Rattle.asm_model.specs.Laid.{directive_map};
+ghost use Rattle.asm_laying.specs.Reading.{map_after, said_number, step_after};
 
 use asm_expr::kinds::earlier;
 use asm_expr::told::told_value;
@@ -128,7 +129,28 @@ fn directive_number(
             seen,
         ),
         DirectiveLine::Rn { register } => given_there(alloc, register, seen),
-        _ => Ok(Ok(0)),
+        DirectiveLine::Entry
+        | DirectiveLine::End
+        | DirectiveLine::Export { .. }
+        | DirectiveLine::Import { .. }
+        | DirectiveLine::Extern { .. }
+        | DirectiveLine::Keep { .. }
+        | DirectiveLine::Equ { .. }
+        | DirectiveLine::Rout
+        | DirectiveLine::Assert { .. }
+        | DirectiveLine::Nofp
+        | DirectiveLine::Opt { .. }
+        | DirectiveLine::Ttl
+        | DirectiveLine::Subt
+        | DirectiveLine::Constants { .. }
+        | DirectiveLine::Space { .. }
+        | DirectiveLine::Align { .. }
+        | DirectiveLine::Ltorg
+        | DirectiveLine::Data
+        | DirectiveLine::Map { .. }
+        | DirectiveLine::Field { .. }
+        | DirectiveLine::Code16
+        | DirectiveLine::Code32 => Ok(Ok(0)),
     }
 }
 
@@ -142,8 +164,8 @@ pub fn said_number(
     ensures { IfOk result (λ number. number ≡ said_number (seen_names seen.now) what.now) }
 {
     match what {
+        What::Nothing | What::Arm(_) | What::Thumb(_) | What::Pseudo(_) => Ok(Ok(0)),
         What::Directive(line) => directive_number(alloc, line, seen),
-        _ => Ok(Ok(0)),
     }
 }
 
@@ -154,6 +176,47 @@ fn added(map: u32, number: Result<u32, LineKind>) -> Result<u32, LineKind>
     match number {
         Ok(number) => Ok(map.wrapping_add(number)),
         Err(kind) => Err(kind),
+    }
+}
+
+fn map_behind(
+    alloc: Global,
+    map: u32,
+    seen: &Seen<'_>,
+    line: &DirectiveLine,
+) -> Result<Result<u32, LineKind>, NoMemory>
+    requires { DirectiveSaid line.now }
+    ensures { IfOk result (λ after. after
+        ≡ step_after map (seen_names seen.now) (directive_map line.now)) }
+{
+    match line {
+        DirectiveLine::Map { value } => number_there(alloc, value, seen),
+        DirectiveLine::Field { size } => {
+            let number = number_there(alloc, size, seen)?;
+            Ok(added(map, number))
+        }
+        DirectiveLine::Area { .. }
+        | DirectiveLine::Entry
+        | DirectiveLine::End
+        | DirectiveLine::Export { .. }
+        | DirectiveLine::Import { .. }
+        | DirectiveLine::Extern { .. }
+        | DirectiveLine::Keep { .. }
+        | DirectiveLine::Equ { .. }
+        | DirectiveLine::Rn { .. }
+        | DirectiveLine::Rout
+        | DirectiveLine::Assert { .. }
+        | DirectiveLine::Nofp
+        | DirectiveLine::Opt { .. }
+        | DirectiveLine::Ttl
+        | DirectiveLine::Subt
+        | DirectiveLine::Constants { .. }
+        | DirectiveLine::Space { .. }
+        | DirectiveLine::Align { .. }
+        | DirectiveLine::Ltorg
+        | DirectiveLine::Data
+        | DirectiveLine::Code16
+        | DirectiveLine::Code32 => Ok(Ok(map)),
     }
 }
 
@@ -168,11 +231,7 @@ pub fn map_after(
     ensures { IfOk result (λ after. after ≡ map_after map (seen_names seen.now) what.now) }
 {
     match what {
-        What::Directive(DirectiveLine::Map { value }) => number_there(alloc, value, seen),
-        What::Directive(DirectiveLine::Field { size }) => {
-            let number = number_there(alloc, size, seen)?;
-            Ok(added(map, number))
-        }
-        _ => Ok(Ok(map)),
+        What::Nothing | What::Arm(_) | What::Thumb(_) | What::Pseudo(_) => Ok(Ok(map)),
+        What::Directive(line) => map_behind(alloc, map, seen, line),
     }
 }

@@ -2,8 +2,8 @@
 use Rattle.std.proofs.Common.{◌≡◌, ◌<◌, ℕ, zero, suc, Bool, false, List, [], ◌∷◌, length, map, Option, Some, None, refl, sym, ap, ◌∙◌, subst, arith}
 use Rattle.std.specs.List.{slice_get, zip}
 use Rattle.std.proofs.lemmas.Slice.Zip.{AllZip-long}
-use Rattle.asm_areas.specs.declared.starts.AreaStart.{AreaStart}
-use Rattle.asm_areas.specs.Starts.{IsStart, AreStarts}
+use Rattle.asm_checks.specs.declared.starts.AreaStart.{AreaStart}
+use Rattle.asm_checks.specs.Starts.{IsStart, AreStarts}
 use Rattle.asm_model.specs.declared.directives.DirectiveLine.{DirectiveLine}
 use Rattle.asm_model.specs.declared.directives.DirectiveLine.TheVariants as line
 use Rattle.asm_model.specs.declared.statements.Statement.{Statement}
@@ -35,7 +35,8 @@ no_attributes : (all : List LaidLine) (area : ℕ) (t : Bool) → HasNone area (
 no_attributes [] area t h = refl
 no_attributes (l ∷ before) area t h = rw (no_attributes before area t h.1) (says_none l.statement.what area l t h.0)
 
-has_laid : (ss : List Statement) (all : List LaidLine) (area : ℕ) (s : AreaStart) (o : Option LaidPools) → IsStart ss all area (Some s) → IsLaidOut area (pieces_of all) o
+has_laid : (ss : List Statement) (all : List LaidLine) (area : ℕ) (s : AreaStart) (o : Option LaidPools) → IsStart ss all area (Some s)
+    → IsLaidOut area (pieces_of all) o
     → (p : LaidPools) × (o ≡ Some p) × IsLaid area (pieces_of all) p
 has_laid ss all area s (Some p) b h = (p, refl, h)
 has_laid ss all area s None b h = let e = no_attributes all area (is_thumb_area area ss) h in absurd (cc)
@@ -47,7 +48,8 @@ within [] i less = absurd (omega arith)
 within (x ∷ xs) zero less = (x, refl)
 within (x ∷ xs) (suc i) less = within xs i (omega arith)
 
-zip_long : (ss : List AreaStart) (ps : List LaidPools) → ((i : ℕ) → i < length ss → (p : LaidPools) × (slice_get ps i ≡ Some p)) → length (zip ss ps) ≡ length ss
+zip_long : (ss : List AreaStart) (ps : List LaidPools) → ((i : ℕ) → i < length ss → (p : LaidPools) × (slice_get ps i ≡ Some p))
+    → length (zip ss ps) ≡ length ss
 zip_long [] ps h = refl
 zip_long (s ∷ ss) [] h = let r = h 0 (omega arith) in absurd (cc)
 zip_long (s ∷ ss) (p ∷ ps) h = ap suc (zip_long ss ps (λ i less. h (suc i) (omega arith)))
@@ -77,7 +79,8 @@ areas_are all ss ps yielded areas y m laid begun =
     let statements = statements_of all in
     let made : AreMade (zip ss ps) areas = subst (λ (xs : List (AreaStart × LaidPools)). AreMade xs areas) y m in
     let full : length (zip ss ps) ≡ length ss = zip_long ss ps (λ i less. let s = within ss i less in
-    let r = has_laid statements all i s.0 (slice_get ps i) (subst (λ (o : Option AreaStart). IsStart statements all i o) s.1 (begun.each i)) (laid.each i) in (r.0, r.1)) in
+    let r = has_laid statements all i s.0 (slice_get ps i) (subst (λ (o : Option AreaStart). IsStart statements all i o) s.1 (begun.each i)) (laid.each i) in
+    (r.0, r.1)) in
     record {
       count = AllZip-long IsMade (zip ss ps) areas made ∙ full ∙ sym (map_long ss) ∙ ap (λ (ns : List (List ℕ)). length ns) begun.names;
       each = λ i a e.

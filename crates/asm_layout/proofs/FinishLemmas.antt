@@ -1,8 +1,8 @@
 -- A source whose lines have no fault of their own.
 use Rattle.std.proofs.Common.{◌≡◌, ℕ, List, [], ◌∷◌, ◌++◌, Option, Some, None, Result, Ok, Err, refl, sym, ap, ◌∙◌, subst, arith}
 use Rattle.sdt_fault.specs.declared.kinds.LineKind.{LineKind}
-use Rattle.asm_areas.specs.Late.{AreWhole}
-use Rattle.asm_areas.specs.Starts.{AreStarts}
+use Rattle.asm_checks.specs.Late.{AreWhole}
+use Rattle.asm_checks.specs.Starts.{AreStarts}
 use Rattle.asm_names.specs.Source.{IsReadDefined, AreRead}
 use Rattle.asm_model.specs.declared.directives.DirectiveLine.{DirectiveLine}
 use Rattle.asm_model.specs.declared.directives.DirectiveLine.TheVariants as line
@@ -23,7 +23,7 @@ use Rattle.asm_model.specs.Laid.{LaidLine, statements_of, laid, laid_of, names_b
 use Rattle.asm_model.specs.LayoutKinds.{layout_kinds, equals_in, settled, told_at, first_fault, first_late}
 use Rattle.layout_laws.specs.Final.{KnownNamesAreFinal}
 use Rattle.layout_laws.proofs.SoundLemmas.{statements_kept}
-use Rattle.said_model.specs.Said.{WhatSaid, AllSaid}
+use Rattle.asm_model.specs.Said.{WhatSaid, AllSaid}
 use Rattle.source_model.specs.Registers.{register_names, register_kinds}
 use Rattle.source_model.specs.SourceFaults.{first_laid, layout_faults}
 use Rattle.asm_laying.specs.Laying.{AreKnownNames}
@@ -32,7 +32,7 @@ use Rattle.asm_layout.specs.declared.outline.Outline.{Outline}
 use Rattle.asm_layout.specs.declared.walking.Walk.{Walk}
 use Rattle.asm_layout.specs.Finishing.{IsNamed, IsWhole}
 use Rattle.asm_layout.proofs.ToldLemmas.{none_parts}
-use Rattle.said_model.proofs.SharedLemmas.{are_plain as all_plain}
+use Rattle.asm_model.proofs.SaidLemmas.{are_plain as all_plain}
 
 -- ---- statements as lines say them
 
@@ -80,7 +80,8 @@ sound_lines names fixed all (l ∷ before) e =
     rw (sound_lines names fixed all before (none_left (first_laid names fixed all before) told e), (none_parts layout registers whole).0) refl
 
 -- what laid lines take up can be placed
-pub extent_fits : ExtentsArePlaceable → (d : List LaidName) (s : Statement) (before : List LaidLine) (r : Result Extent LineKind) → extent_of (names_behind d s before) s.what ≡ r → IsExtent (taken r)
+pub extent_fits : ExtentsArePlaceable → (d : List LaidName) (s : Statement) (before : List LaidLine) (r : Result Extent LineKind)
+    → extent_of (names_behind d s before) s.what ≡ r → IsExtent (taken r)
 extent_fits law d s before (Ok e) h = law (names_behind d s before) s.what e h
 extent_fits law d s before (Err k) h = record { some = omega arith; small = omega arith }
 
@@ -90,11 +91,13 @@ all_extents law d (s ∷ ss) = (extent_fits law d s (laid_of d ss) (extent_of (n
 
 -- ---- the whole source
 
-pub whole_is : ExtentsArePlaceable → (statements : List Statement) (o : Outline) (w : Walk) (pools : List LaidPools) → IsWhole statements o w → AreLaid (pieces_of (laid statements)) pools
+pub whole_is : ExtentsArePlaceable → (statements : List Statement) (o : Outline) (w : Walk) (pools : List LaidPools) → IsWhole statements o w
+    → AreLaid (pieces_of (laid statements)) pools
     → AreWhole (laid statements) pools
 whole_is law statements o w pools h l = record { laid = l; extents = all_extents law (declared_names statements) statements }
 
-pub begun_is : (statements : List Statement) (o : Outline) (w : Walk) → IsWhole statements o w → AreStarts (statements_of (laid statements)) (laid statements) w.starts
+pub begun_is : (statements : List Statement) (o : Outline) (w : Walk) → IsWhole statements o w
+    → AreStarts (statements_of (laid statements)) (laid statements) w.starts
 begun_is statements o w h =
     subst (λ (all : List Statement). AreStarts all (laid statements) w.starts) (sym (statements_kept (declared_names statements) statements)) h.walked.begun
 

@@ -63,17 +63,20 @@ pub begins : (statements : List Statement) (n : ℕ) → statements ≡ take n s
 begins statements n = sym (take-append-drop n statements)
 
 -- a statement is next, with those behind it and those that are left out
-pub next_is : (statements : List Statement) (n : ℕ) (x : Statement) (zs rest : List Statement) → rest ≡ x ∷ zs → rest ++ drop n statements ≡ x ∷ (zs ++ drop n statements)
+pub next_is : (statements : List Statement) (n : ℕ) (x : Statement) (zs rest : List Statement) → rest ≡ x ∷ zs → rest ++ drop n statements ≡ x
+    ∷ (zs ++ drop n statements)
 next_is statements n x zs rest e = ap (λ (l : List Statement). l ++ drop n statements) e
 
 pub nothing : (xs : List Statement) → length xs < 1 → xs ≡ []
 nothing [] less = refl
 nothing (x ∷ xs) less = absurd (omega arith)
 
-pub front_ends : (statements ys : List Statement) (n : ℕ) (w : Walk) → IsAlong statements ys (drop n statements) w → IsFrontWalked (reversed statements []) n (Ok w)
+pub front_ends : (statements ys : List Statement) (n : ℕ) (w : Walk) → IsAlong statements ys (drop n statements) w
+    → IsFrontWalked (reversed statements []) n (Ok w)
 front_ends statements ys n w h =
     let s = reversed statements [] in
-    subst (λ (ls : List LaidLine). IsWalking (declared_names s) (register_names s) (settled (equals_in s)) s ls w) (sym (front_is statements ys n h.whole)) h.walks
+    subst (λ (ls : List LaidLine). IsWalking (declared_names s) (register_names s) (settled (equals_in s)) s ls w) (sym (front_is statements ys n h.whole))
+    h.walks
 
 -- ---- a faulty line
 

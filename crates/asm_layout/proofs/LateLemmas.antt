@@ -3,10 +3,10 @@ use Rattle.std.proofs.Common.{◌≡◌, List, [], ◌∷◌, ◌++◌, Option, 
 use Rattle.std.specs.List.{AllZip}
 use Rattle.sdt_fault.specs.declared.answer.Fault.{Fault}
 use Rattle.sdt_fault.specs.declared.kinds.LineKind.{LineKind}
-use Rattle.asm_areas.specs.Late.{IsPosition}
-use Rattle.asm_names.specs.Lines.{IsPlace}
-use Rattle.asm_names.specs.declared.lines.Place.{Place}
-use Rattle.asm_names.specs.declared.lines.PlacedLine.{PlacedLine}
+use Rattle.asm_checks.specs.Late.{IsPosition}
+use Rattle.asm_names.specs.PlacedLines.{IsPlace}
+use Rattle.asm_names.specs.declared.placed_lines.StatementPlace.{StatementPlace}
+use Rattle.asm_names.specs.declared.placed_lines.PlacedLine.{PlacedLine}
 use Rattle.asm_names.specs.Source.{AreEach}
 use Rattle.asm_model.specs.declared.statements.Statement.{Statement}
 use Rattle.asm_model.specs.Directives.{or_else}
@@ -16,11 +16,12 @@ use Rattle.asm_model.specs.Laid.{LaidLine, pieces_of, taken, reversed}
 use Rattle.asm_model.specs.LayoutKinds.{entry_kinds, literal_kinds, first_late, told_at}
 use Rattle.asm_layout.specs.Layout.{IsStatement, AreStatements, IsTold}
 use Rattle.asm_layout.specs.Late.{position_of, AreOn, IsLeft}
-use Rattle.asm_layout.specs.Lines.{IsLineOf}
+use Rattle.asm_layout.specs.PlacedLines.{IsLineOf}
 
 -- ---- from the first line on
 
-pub lines_on : (before rest : List LaidLine) (front back : List LaidStatement) → AreStatements before front → AreOn before rest back → AreOn [] (reversed before rest) (front ++ back)
+pub lines_on : (before rest : List LaidLine) (front back : List LaidStatement) → AreStatements before front → AreOn before rest back
+    → AreOn [] (reversed before rest) (front ++ back)
 lines_on [] rest front back h k = rw h k
 lines_on (l ∷ before) rest front back h k =
     subst (λ (xs : List LaidStatement). AreOn [] (reversed before (l ∷ rest)) (xs ++ back)) (sym h.2)
@@ -63,7 +64,8 @@ pub record Next (all : List LaidLine) (x : LaidStatement) (more : List LaidState
 pub next_of : (all : List LaidLine) (x : LaidStatement) (more : List LaidStatement) → IsLeft all (x ∷ more) → Next all x more
 next_of all x more h = by_rest h.rest h.parts h.lines h.none
   where
-    by_rest : (rest : List LaidLine) → all ≡ reversed rest h.before → AreOn h.before rest (x ∷ more) → first_late all [] (reversed all []) ≡ first_late all h.before rest → Next all x more
+    by_rest : (rest : List LaidLine) → all ≡ reversed rest h.before → AreOn h.before rest (x ∷ more)
+        → first_late all [] (reversed all []) ≡ first_late all h.before rest → Next all x more
     by_rest [] parts lines none = absurd (cc)
     by_rest (l ∷ rest) parts lines none =
         let same : lines.0 ≡ x = cc in
@@ -78,7 +80,8 @@ next_of all x more h = by_rest h.rest h.parts h.lines h.none
           none = none;
         }
 
-pub stands : (all : List LaidLine) (x : LaidStatement) (more : List LaidStatement) (n : Next all x more) → IsPosition all n.before n.rest n.l x.statement.what (position_of x)
+pub stands : (all : List LaidLine) (x : LaidStatement) (more : List LaidStatement) (n : Next all x more)
+    → IsPosition all n.before n.rest n.l x.statement.what (position_of x)
 stands all x more n = record {
   parts = n.parts;
   said = ap (λ (s : Statement). s.what) (sym n.line.statement);
@@ -92,7 +95,8 @@ pub told_here : (all : List LaidLine) (x : LaidStatement) (more : List LaidState
     → IsTold (Some (x.statement, k)) f → IsTold (first_late all [] (reversed all [])) f
 told_here all x more n k f e h =
     subst (λ (o : Option (Statement × LineKind)). IsTold o f)
-    (ap (λ (s : Statement). Some (s, k)) n.line.statement ∙ ap (λ (o : Option LineKind). or_else (told_at n.l.statement o) (first_late all (n.l ∷ n.before) n.rest)) e ∙ sym n.none) h
+    (ap (λ (s : Statement). Some (s, k)) n.line.statement ∙ ap (λ (o : Option LineKind). or_else (told_at n.l.statement o)
+    (first_late all (n.l ∷ n.before) n.rest)) e ∙ sym n.none) h
 
 pub none_here : (all : List LaidLine) (x : LaidStatement) (more : List LaidStatement) (n : Next all x more)
     → None ≡ told_kind (entry_kinds n.l.area n.l all ++ literal_kinds n.l.area (taken n.l.extent) (pieces_of (n.l ∷ n.before)) (pieces_of n.rest))
@@ -108,7 +112,8 @@ none_here all x more n e = record {
 pub none_left : (all : List LaidLine) → IsLeft all [] → first_late all [] (reversed all []) ≡ None
 none_left all h = by_rest h.rest h.lines h.none
   where
-    by_rest : (rest : List LaidLine) → AreOn h.before rest [] → first_late all [] (reversed all []) ≡ first_late all h.before rest → first_late all [] (reversed all []) ≡ None
+    by_rest : (rest : List LaidLine) → AreOn h.before rest [] → first_late all [] (reversed all []) ≡ first_late all h.before rest
+        → first_late all [] (reversed all []) ≡ None
     by_rest [] lines none = none
     by_rest (l ∷ rest) lines none = absurd (cc)
 
@@ -135,7 +140,7 @@ each_of (l ∷ before) xs ys z h =
       r.2,
       record {
         statement = r.4.statement ∙ h.3.statement;
-        place = subst (λ (p : Place). IsPlace p l before) (sym r.4.place) h.3.place;
+        place = subst (λ (p : StatementPlace). IsPlace p l before) (sym r.4.place) h.3.place;
       },
       each_of before h.0 r.0 r.3 h.4,
     )

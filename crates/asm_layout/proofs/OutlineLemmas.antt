@@ -41,7 +41,8 @@ one_named q name thumb = by_test (same name q) (same q name) (same_back name q)
     by_test true false e = absurd (cc)
     by_test false true e = absurd (cc)
 
-own_named : (q : List ℕ) (x : Defined) (s : Statement) (before : List Statement) → is_some (named_in q (declared_entries x s before)) ≡ list_any (same q) (own_name x)
+own_named : (q : List ℕ) (x : Defined) (s : Statement) (before : List Statement)
+    → is_some (named_in q (declared_entries x s before)) ≡ list_any (same q) (own_name x)
 own_named q Unnamed s before = refl
 own_named q (Label name) s before = one_named q name (is_thumb_label s before)
 own_named q (Equal name e) s before = one_named q name false
@@ -64,7 +65,8 @@ is_named q (s ∷ ss) =
     let c = list_any (same q) (listed i) in
     let turned : ((is_some (named_in q (declared_names ss)) || is_some (named_in q own)) || is_some (named_in q (declared_imports i))) ≡ ((b || c) || a) =
     rw (is_named q ss, own_named q x s ss, import_named q i) (or_assoc a b c ∙ or_comm a (b || c)) in
-    any_named q (declared_names ss ++ own) (declared_imports i) ∙ ap (λ (t : Bool). t || is_some (named_in q (declared_imports i))) (any_named q (declared_names ss) own)
+    any_named q (declared_names ss ++ own) (declared_imports i) ∙ ap (λ (t : Bool). t || is_some (named_in q (declared_imports i)))
+    (any_named q (declared_names ss) own)
     ∙ turned
     ∙ sym (list_any-append (same q) (own_name x ++ listed i) (names_behind ss) ∙ ap (λ (t : Bool). t || a) (list_any-append (same q) (own_name x) (listed i)))
 
@@ -80,7 +82,8 @@ pub record AreListed (x : Defined) (name : List ℕ) (e : Expr) (first : Bool) (
 pub are_listed : (x : Defined) (name : List ℕ) (e : Expr) (first : Bool) (old : List LaidName) (before : List Statement) → x ≡ Equal name e
     → not first ≡ is_some (named_in name old) → old ≡ declared_names before → AreListed x name e first before
 are_listed x name e first old before is test names =
-    let both = by_tests first (list_any (same name) (names_behind before)) (test ∙ ap (λ (ns : List LaidName). is_some (named_in name ns)) names ∙ is_named name before) in
+    let both = by_tests first (list_any (same name) (names_behind before)) (test ∙ ap (λ (ns : List LaidName). is_some (named_in name ns)) names
+    ∙ is_named name before) in
     record { equal = rw is both.0; mark = rw is both.1 }
   where
     by_tests : (a b : Bool) → not a ≡ b → (pair_if a name e ≡ cond b [] ((name, e) ∷ [])) × (a ∷ [] ≡ not b ∷ [])

@@ -15,7 +15,8 @@ use Rattle.layout_laws.proofs.RoundLemmas.{named_joined}
 
 -- ---- what a line adds
 
-added_none : (q : List ℕ) (N : List LaidName) (l : SourceLine) (x : Definition) → named_in q (entries_with N l x) ≡ None → named_in q (added_names (with_names l N) x) ≡ None
+added_none : (q : List ℕ) (N : List LaidName) (l : SourceLine) (x : Definition) → named_in q (entries_with N l x) ≡ None
+    → named_in q (added_names (with_names l N) x) ≡ None
 added_none q N l Nameless h = refl
 added_none q N l (Named n) h = h
 added_none q N l (Equated make t) h = h
@@ -35,13 +36,15 @@ imported_none q d s before ls (Some name) h k =
 -- ---- lines
 
 statement_parts : (q : List ℕ) (s : Statement) (ss : List Statement) → named_in q (declared_names (s ∷ ss)) ≡ None
-    → (named_in q (declared_names ss) ≡ None) × (named_in q (declared_entries (defined_by s) s ss) ≡ None) × (named_in q (declared_imports (imported_in s.what)) ≡ None)
+    → (named_in q (declared_names ss) ≡ None) × (named_in q (declared_entries (defined_by s) s ss) ≡ None)
+    × (named_in q (declared_imports (imported_in s.what)) ≡ None)
 statement_parts q s ss h =
     let own = declared_entries (defined_by s) s ss in
     let p = none_parts q (declared_names ss ++ own) (declared_imports (imported_in s.what)) h in
     let r = none_parts q (declared_names ss) own p.0 in (r.0, r.1, p.1)
 
-seen_none : (d : List LaidName) (q : List ℕ) (ss : List Statement) → named_in q (declared_names ss) ≡ None → named_in q (seen_behind d (lines_of (laid_of d ss))) ≡ None
+seen_none : (d : List LaidName) (q : List ℕ) (ss : List Statement) → named_in q (declared_names ss) ≡ None
+    → named_in q (seen_behind d (lines_of (laid_of d ss))) ≡ None
 seen_none d q [] h = refl
 seen_none d q (s ∷ ss) h =
     let before = laid_of d ss in

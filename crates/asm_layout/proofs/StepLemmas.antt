@@ -4,7 +4,7 @@ use Rattle.std.specs.Prelude.{nat_lt}
 use Rattle.std.specs.List.{list_any}
 use Rattle.sdt_fault.specs.declared.kinds.LineKind.{LineKind}
 use Rattle.sdt_fault.specs.declared.kinds.LineKind.TheVariants.{BadOperand}
-use Rattle.asm_areas.specs.Starts.{IsSmall, IsAligned}
+use Rattle.asm_checks.specs.Starts.{IsSmall, IsAligned}
 use Rattle.asm_checks.specs.Areas.{IsExponent}
 use Rattle.asm_checks.specs.Checked.{checked_kinds, IsCircular}
 use Rattle.asm_laying.specs.Reading.{said_number}
@@ -24,12 +24,12 @@ use Rattle.asm_model.specs.LayoutKinds.{exponent, exponent_kinds, area_kinds, no
 use Rattle.asm_model.specs.OwnKinds.{own_kinds}
 use Rattle.std.specs.Global.{Vec}
 use Rattle.sdt_fault.specs.declared.answer.Fault.{Fault}
-use Rattle.asm_areas.specs.declared.starts.AreaStart.{AreaStart}
-use Rattle.asm_areas.specs.Starts.{AreStarts, IsLineOf}
+use Rattle.asm_checks.specs.declared.starts.AreaStart.{AreaStart}
+use Rattle.asm_checks.specs.Starts.{AreStarts, IsLineOf}
 use Rattle.asm_checks.specs.declared.checks.Checks.{Checks}
 use Rattle.asm_checks.specs.Checked.{IsChecked}
 use Rattle.asm_laying.specs.declared.laying.Laying.{Laying}
-use Rattle.asm_laying.specs.declared.laying.Placed.{Placed}
+use Rattle.asm_laying.specs.declared.laying.PlacedStatement.{PlacedStatement}
 use Rattle.asm_laying.specs.Laying.{IsLaying, IsLaid, IsPlaced, told_of}
 use Rattle.asm_layout.specs.declared.laid.LaidStatement.{LaidStatement}
 use Rattle.asm_registers.specs.declared.registers.Registers.{Registers}
@@ -71,10 +71,12 @@ exponent_small (Ok n) e = by_test (nat_lt n 2 || nat_lt 16 n) refl e
     by_test false t e = grind arith
 
 -- nothing is told of an AREA's attributes
-area_part : (w : What) (settled : List (List ℕ)) (all : List Statement) (l : LaidLine) (before : List LaidLine) → l.statement.what ≡ w → told_kind (checked_kinds settled all l before) ≡ None
+area_part : (w : What) (settled : List (List ℕ)) (all : List Statement) (l : LaidLine) (before : List LaidLine) → l.statement.what ≡ w
+    → told_kind (checked_kinds settled all l before) ≡ None
     → told_kind (area_kinds l.seen w before) ≡ None
 area_part w settled all l before is none =
-    let here = no_area_kinds l.area (defined_by l.statement) l.statement.what ++ contents_kinds (contents_behind (l.statement ∷ statements_of before)) l.thumb l.statement.what in
+    let here = no_area_kinds l.area (defined_by l.statement) l.statement.what
+    ++ contents_kinds (contents_behind (l.statement ∷ statements_of before)) l.thumb l.statement.what in
     let areas = area_kinds l.seen l.statement.what before in
     let names = name_kinds l.statement (statements_of before) in
     let last = settled_kinds settled (first_equal (defined_by l.statement) (statements_of before)) in
@@ -84,7 +86,8 @@ area_part w settled all l before is none =
     let part = none_parts (here ++ areas) names (none_parts (here ++ areas ++ names) last most.0).0 in
     subst (λ (v : What). told_kind (area_kinds l.seen v before) ≡ None) is (none_parts here areas part.0).1
 
-directive_aligned : (d : DirectiveLine) (l : LaidLine) (before : List LaidLine) (settled : List (List ℕ)) (all : List Statement) (x : Result ℕ LineKind) → l.statement.what ≡ what.Directive d
+directive_aligned : (d : DirectiveLine) (l : LaidLine) (before : List LaidLine) (settled : List (List ℕ)) (all : List Statement) (x : Result ℕ LineKind)
+    → l.statement.what ≡ what.Directive d
     → IsExponent l.seen (what.Directive d) x → told_kind (checked_kinds settled all l before) ≡ None → IsAligned (what.Directive d) x l
 directive_aligned (line.Area name a) l before settled all x w e none =
     let parts = area_part (what.Directive (line.Area name a)) settled all l before w none in (
@@ -124,31 +127,36 @@ count_is settled marks n m (RegisterName name r) before h k = h ∙ omega arith
 
 -- ---- what is told of a checked line
 
-pub checked_told : (d : List LaidName) (names settled : List (List ℕ)) (all : List Statement) (l : LaidLine) (before : List LaidLine) (old new : Walk) (j : CheckedLine)
+pub checked_told : (d : List LaidName) (names settled : List (List ℕ)) (all : List Statement) (l : LaidLine) (before : List LaidLine) (old new : Walk)
+    (j : CheckedLine)
     → IsCheckedLine d names settled all l before old new j → told_by names settled all l before ≡ first_told (told_of l) j.found
 checked_told d names settled all l before old new j h = told_parts names settled all l before ∙ ap (first_told (told_of l)) (sym h.told)
 
-pub err_told : (d : List LaidName) (l : LaidLine) (before : List LaidLine) (state : Laying) (r : Result Placed LineKind) (k : LineKind) → r ≡ Err k → IsPlaced d l before state r
+pub err_told : (d : List LaidName) (l : LaidLine) (before : List LaidLine) (state : Laying) (r : Result PlacedStatement LineKind) (k : LineKind) → r ≡ Err k
+    → IsPlaced d l before state r
     → told_of l ≡ Some k
-err_told d l before state r k e h = subst (λ (x : Result Placed LineKind). IsPlaced d l before state x) e h
+err_told d l before state r k e h = subst (λ (x : Result PlacedStatement LineKind). IsPlaced d l before state x) e h
 
-pub ok_laid : (d : List LaidName) (l : LaidLine) (before : List LaidLine) (state : Laying) (r : Result Placed LineKind) (p : Placed) → r ≡ Ok p → IsPlaced d l before state r
+pub ok_laid : (d : List LaidName) (l : LaidLine) (before : List LaidLine) (state : Laying) (r : Result PlacedStatement LineKind) (p : PlacedStatement)
+    → r ≡ Ok p → IsPlaced d l before state r
     → IsLaid d l before state p
-ok_laid d l before state r p e h = subst (λ (x : Result Placed LineKind). IsPlaced d l before state x) e h
+ok_laid d l before state r p e h = subst (λ (x : Result PlacedStatement LineKind). IsPlaced d l before state x) e h
 
 pub tells : (s : Statement) (o : Option LineKind) (k : LineKind) (f : Fault) → o ≡ Some k → IsTold (Some (s, k)) f → IsTold (told_at s o) f
 tells s o k f e h = subst (λ (x : Option LineKind). IsTold (told_at s x) f) (sym e) h
 
 -- ---- a line is kept
 
-pub keep_line : (d : List LaidName) (names settled : List (List ℕ)) (all : List Statement) (s : Statement) (before : List LaidLine) (old mid new : Walk) (j : CheckedLine) (p : Placed)
+pub keep_line : (d : List LaidName) (names settled : List (List ℕ)) (all : List Statement) (s : Statement) (before : List LaidLine) (old mid new : Walk)
+    (j : CheckedLine) (p : PlacedStatement)
     → IsWalking d names settled all before old → IsCheckedLine d names settled all (laid_behind d s before) before old mid j → j.found ≡ None
     → IsLaid d (laid_behind d s before) before mid.laying p → Keeps s j.laid.number j.thumb_area p mid new
     → IsWalking d names settled all (laid_behind d s before ∷ before) new
 keep_line d names settled all s before old mid new j p w h none laid k =
     let l = laid_behind d s before in
     let parts : None ≡ first_told (told_kind (checked_kinds settled all l before)) (told_kind (register_kinds names l before)) = sym none ∙ h.told in
-    let unchecked : told_kind (checked_kinds settled all l before) ≡ None = none_first (told_kind (checked_kinds settled all l before)) (told_kind (register_kinds names l before)) parts in
+    let unchecked : told_kind (checked_kinds settled all l before) ≡ None =
+    none_first (told_kind (checked_kinds settled all l before)) (told_kind (register_kinds names l before)) parts in
     let line : IsLineOf all s.what p.place.area j.thumb_area j.laid.number l before = record {
       said = refl;
       stands = sym laid.place.area;
@@ -180,7 +188,8 @@ keep_line d names settled all s before old mid new j p w h none laid k =
 
 -- ---- a line is checked, and kept or told
 
-pub steps_on : (o : Outline) (s t : Statement) (old mid new : Walk) (j : CheckedLine) (r : Result (Unit {0}) Fault) → t ≡ s → ChecksLine o s old mid j → KeepsOrTells t j mid new r
+pub steps_on : (o : Outline) (s t : Statement) (old mid new : Walk) (j : CheckedLine) (r : Result (Unit {0}) Fault) → t ≡ s → ChecksLine o s old mid j
+    → KeepsOrTells t j mid new r
     → StepsOn o s old new r
 steps_on o s t old mid new j r e h k = λ names settled all before states w m.
     subst (λ (x : Statement). KeepsOrTells x j mid new r) e k o.names names settled all old before w (h names settled all before states w m)

@@ -8,7 +8,8 @@ use Rattle.asm_laying.specs.Laying.{told_of}
 use Rattle.asm_model.specs.declared.statements.Statement.{Statement}
 use Rattle.asm_model.specs.FaultSets.{first_told}
 use Rattle.asm_model.specs.Kinds.{rank, earlier, told_kind, kind_if}
-use Rattle.asm_model.proofs.FaultLemmas.{takes, stays, first_assoc, told_by_parts}
+use Rattle.asm_model.proofs.FaultLemmas.{first_assoc, told_by_parts}
+use Rattle.asm_model.proofs.KindLemmas.{takes, stays}
 use Rattle.asm_model.specs.Labels.{defined_by}
 use Rattle.asm_model.specs.Laid.{LaidLine, statements_of}
 use Rattle.asm_model.specs.LayoutKinds.{fault_kinds, map_kinds, no_area_kinds, contents_kinds, contents_behind, area_kinds, name_kinds, settled_kinds, first_equal, state_kinds, area_bytes}
@@ -77,7 +78,8 @@ third_moves a b c = sym (first_assoc a b c) ∙ ap (first_told a) (first_swaps b
 
 -- what the checks find, from a part on
 flat : (a h b c d f g : Option LineKind)
-    → first_told a (first_told (first_told (first_told (first_told (first_told h b) c) d) f) g) ≡ first_told (first_told (first_told (first_told (first_told (first_told a h) b) c) d) f) g
+    → first_told a (first_told (first_told (first_told (first_told (first_told h b) c) d) f) g) ≡ first_told
+    (first_told (first_told (first_told (first_told (first_told a h) b) c) d) f) g
 flat a h b c d f g = simp first_assoc
 
 -- what laying finds of a line's end stands before what the checks find
@@ -97,11 +99,13 @@ joined_kinds es ms hs bs cs ds fs gs ts ns rs =
     (moved (first_told (told_kind es) (told_kind ms)) (told_kind hs) (told_kind bs) (told_kind cs) (told_kind ds) (told_kind fs) (told_kind gs) (told_kind ts)))
 
 pub told_parts : (names settled : List (List ℕ)) (all : List Statement) (l : LaidLine) (before : List LaidLine)
-    → told_by names settled all l before ≡ first_told (told_of l) (first_told (told_kind (checked_kinds settled all l before)) (told_kind (register_kinds names l before)))
+    → told_by names settled all l before ≡ first_told (told_of l) (first_told (told_kind (checked_kinds settled all l before))
+    (told_kind (register_kinds names l before)))
 told_parts names settled all l before =
     joined_kinds (fault_kinds l.extent) (map_kinds l.seen l.statement.what) (no_area_kinds l.area (defined_by l.statement) l.statement.what)
     (contents_kinds (contents_behind (l.statement ∷ statements_of before)) l.thumb l.statement.what) (area_kinds l.seen l.statement.what before)
-    (name_kinds l.statement (statements_of before)) (settled_kinds settled (first_equal (defined_by l.statement) (statements_of before))) (state_kinds l.area l.thumb l.statement.what all)
+    (name_kinds l.statement (statements_of before)) (settled_kinds settled (first_equal (defined_by l.statement) (statements_of before)))
+    (state_kinds l.area l.thumb l.statement.what all)
     (kind_if (nat_lt area_bytes (l.offset + l.size)) TooMany) (own_kinds l.statement) (register_kinds names l before)
 
 -- where nothing is told of two, nothing is told of each

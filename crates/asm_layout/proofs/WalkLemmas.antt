@@ -4,7 +4,7 @@ use Rattle.std.specs.List.{slice_get}
 use Rattle.std.specs.Option.{is_some}
 use Rattle.sdt_fault.specs.declared.answer.Fault.{Fault}
 use Rattle.sdt_fault.specs.declared.kinds.LineKind.{LineKind}
-use Rattle.asm_laying.specs.Behind.{most_statements}
+use Rattle.asm_laying.specs.Carried.{most_statements}
 use Rattle.asm_laying.specs.Laying.{IsLaying, MayLay}
 use Rattle.asm_model.specs.declared.statements.Statement.{Statement}
 use Rattle.layout_laws.proofs.SoundLemmas.{statements_kept}
@@ -13,7 +13,7 @@ use Rattle.asm_model.specs.Meaning.{named_in}
 use Rattle.asm_model.specs.declared.names.LaidName.{LaidName}
 use Rattle.asm_model.specs.Laid.{names_behind, laid_behind, laid_of, reversed}
 use Rattle.asm_model.specs.LayoutKinds.{equals_in, settled}
-use Rattle.said_model.specs.Said.{IsSaid, AllSaid}
+use Rattle.asm_model.specs.Said.{IsSaid, AllSaid}
 use Rattle.source_model.specs.Registers.{register_names}
 use Rattle.source_model.specs.SourceFaults.{first_laid}
 use Rattle.asm_layout.specs.declared.outline.Outline.{Outline}
@@ -80,11 +80,13 @@ mark_at front (b ∷ bs) = at front
     at [] = refl
     at (y ∷ ys) = at ys
 
-marks_stay : (fixed : List (List ℕ)) (zs ss : List Statement) (n : ℕ) (xs : List Bool) → HasMark (circles_in fixed ss) n xs → HasMark (circles_in fixed (reversed zs ss)) n xs
+marks_stay : (fixed : List (List ℕ)) (zs ss : List Statement) (n : ℕ) (xs : List Bool) → HasMark (circles_in fixed ss) n xs
+    → HasMark (circles_in fixed (reversed zs ss)) n xs
 marks_stay fixed [] ss n xs h = h
 marks_stay fixed (z ∷ zs) ss n xs h = marks_stay fixed zs (z ∷ ss) n xs (mark_stays (circles_in fixed ss) (circle_of fixed (defined_by z) ss) n xs h)
 
-pub is_outlined : (statements ys : List Statement) (x : Statement) (zs rest : List Statement) (o : Outline) (w : Walk) → IsOutline (reversed statements []) o → rest ≡ x ∷ zs
+pub is_outlined : (statements ys : List Statement) (x : Statement) (zs rest : List Statement) (o : Outline) (w : Walk) → IsOutline (reversed statements []) o
+    → rest ≡ x ∷ zs
     → IsAlong statements ys rest w
     → IsOutlined o.names (settled (equals_in (reversed statements []))) o.circular.items x (laid_of (declared_names (reversed statements [])) (reversed ys []))
 is_outlined statements ys x zs rest o w outlined e h =
@@ -99,14 +101,17 @@ is_outlined statements ys x zs rest o w outlined e h =
     (marks_stay fixed zs (x ∷ before) (length (circles_in fixed before)) (circle_of fixed (defined_by x) before)
     (mark_at (circles_in fixed before) (circle_of fixed (defined_by x) before))) in
     record {
-      mark = subst (λ (l : List Statement). HasMark o.circular.items (length (circles_in fixed l)) (circle_of fixed (defined_by x) l)) (sym (statements_kept d before)) mark;
+      mark = subst (λ (l : List Statement). HasMark o.circular.items (length (circles_in fixed l)) (circle_of fixed (defined_by x) l))
+          (sym (statements_kept d before)) mark;
       names = λ q. subst (λ (c : List LaidName). is_some (named_in q (names_behind c x (laid_of d before)).list) ≡ is_some (named_in q c)) (sym outlined.names)
-          (seen_declared d q x before (λ none. declared_before q zs (x ∷ before) (subst (λ (l : List Statement). named_in q (declared_names l) ≡ None) whole none)));
+          (seen_declared d q x before (λ none. declared_before q zs (x ∷ before)
+          (subst (λ (l : List Statement). named_in q (declared_names l) ≡ None) whole none)));
     }
 
 -- ---- a statement more
 
-pub goes_along : (statements ys : List Statement) (x : Statement) (zs rest : List Statement) (o : Outline) (old new : Walk) (r : Result (Unit {0}) Fault) (u : Unit {0})
+pub goes_along : (statements ys : List Statement) (x : Statement) (zs rest : List Statement) (o : Outline) (old new : Walk) (r : Result (Unit {0}) Fault)
+    (u : Unit {0})
     → IsOutline (reversed statements []) o → rest ≡ x ∷ zs → IsAlong statements ys rest old
     → StepsOn o x old new (Ok u) → IsAlong statements (ys ++ x ∷ []) zs new
 goes_along statements ys x zs rest o old new r u outlined e h steps =

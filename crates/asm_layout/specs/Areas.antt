@@ -1,10 +1,10 @@
 -- The areas of a layout, made of what begins and what ends each of them. This project's.
 use Rattle.std.specs.Prelude.{◌≡◌, List}
 use Rattle.std.specs.List.{AllZip}
-use Rattle.asm_areas.specs.declared.starts.AreaStart.{AreaStart}
+use Rattle.asm_checks.specs.declared.starts.AreaStart.{AreaStart}
 use Rattle.asm_offsets.specs.declared.extents.LaidPools.{LaidPools}
 use Rattle.asm_layout.specs.declared.laid.LaidArea.{LaidArea}
-use Rattle.asm_areas.specs.Starts.{AreStarts}
+use Rattle.asm_checks.specs.Starts.{AreStarts}
 use Rattle.asm_model.specs.Laid.{LaidLine, statements_of, pieces_of}
 use Rattle.asm_offsets.specs.Finished.{AreLaid}
 use Rattle.asm_layout.specs.Layout.{AreAreas}

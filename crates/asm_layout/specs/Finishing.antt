@@ -9,7 +9,7 @@ use Rattle.asm_names.specs.Source.{AreRead}
 use Rattle.asm_model.specs.Sound.{IsSound, ArePlain}
 use Rattle.asm_model.specs.Labels.{declared_names}
 use Rattle.asm_model.specs.Laid.{laid, final_names}
-use Rattle.said_model.specs.Said.{AllSaid}
+use Rattle.asm_model.specs.Said.{AllSaid}
 use Rattle.asm_layout.specs.declared.outline.Outline.{Outline}
 use Rattle.asm_layout.specs.declared.walking.Walk.{Walk}
 use Rattle.asm_layout.specs.declared.laid.Layout.{Layout}

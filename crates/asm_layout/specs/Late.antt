@@ -2,12 +2,12 @@
 use Rattle.std.specs.Prelude.{◌≡◌, List, [], ◌∷◌, Option, None, Result, Ok, Err}
 use Rattle.sdt_fault.specs.declared.answer.Fault.{Fault}
 use Rattle.sdt_fault.specs.declared.kinds.LineKind.{LineKind}
-use Rattle.asm_areas.specs.declared.late.Position.{Position}
+use Rattle.asm_checks.specs.declared.late.Position.{Position}
 use Rattle.asm_model.specs.declared.statements.Statement.{Statement}
 use Rattle.asm_layout.specs.declared.laid.LaidStatement.{LaidStatement}
 use Rattle.asm_model.specs.Laid.{LaidLine, reversed}
 use Rattle.asm_model.specs.LayoutKinds.{first_late}
-use Rattle.asm_areas.specs.Late.{AreWhole}
+use Rattle.asm_checks.specs.Late.{AreWhole}
 use Rattle.asm_offsets.specs.declared.extents.LaidPools.{LaidPools}
 use Rattle.asm_layout.specs.Layout.{IsStatement, AreStatements, IsTold}
 

@@ -4,7 +4,7 @@ pub mod Finishing
 pub mod Front
 pub mod Late
 pub mod Layout
-pub mod Lines
 pub mod Outline
+pub mod PlacedLines
 pub mod States
 pub mod Walking

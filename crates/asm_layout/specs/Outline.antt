@@ -7,9 +7,9 @@ use Rattle.asm_model.specs.Forms.{same}
 use Rattle.asm_model.specs.Labels.{Defined, Equal, defined_by, declared_names}
 use Rattle.asm_model.specs.LayoutKinds.{names_behind, first_equal, equals_in, settled}
 use Rattle.asm_model.specs.Laid.{reversed}
-use Rattle.asm_areas.specs.States.{AreStates}
-use Rattle.asm_laying.specs.declared.behind.Behind.{Behind}
-use Rattle.asm_laying.specs.Behind.{behind}
+use Rattle.asm_checks.specs.States.{AreStates}
+use Rattle.asm_laying.specs.declared.carried.CarriedState.{CarriedState}
+use Rattle.asm_laying.specs.Carried.{behind}
 use Rattle.asm_names.specs.declared.equals.Equal.{Equal as Code}
 use Rattle.asm_names.specs.Equals.{pairs_of}
 use Rattle.asm_names.specs.Order.{is_settled}
@@ -68,7 +68,7 @@ pub record IsListed (statements : List Statement) (l : Listed) : Type 0 where
   pub firsts : l.firsts.items ≡ firsts_in statements
 
 -- what is listed of statements of which these are left
-pub record IsListing (statements left : List Statement) (b : Behind) (l : Listed) : Type 0 where
+pub record IsListing (statements left : List Statement) (b : CarriedState) (l : Listed) : Type 0 where
   -- those before, the last of them first
   pub before : List Statement
   pub whole : reversed left before ≡ reversed statements []

@@ -7,10 +7,10 @@ use Rattle.asm_model.specs.declared.statements.Statement.{Statement}
 use Rattle.asm_model.specs.FaultSets.{first_told}
 use Rattle.asm_model.specs.Kinds.{told_kind}
 use Rattle.asm_layout.specs.declared.laid.LaidStatement.{LaidStatement}
-use Rattle.asm_areas.specs.States.{AreStates}
-use Rattle.asm_areas.specs.Starts.{AreStarts, IsLineOf}
+use Rattle.asm_checks.specs.States.{AreStates}
+use Rattle.asm_checks.specs.Starts.{AreStarts, IsLineOf}
 use Rattle.asm_checks.specs.Checked.{checked_kinds, IsChecked}
-use Rattle.asm_laying.specs.declared.laying.Placed.{Placed}
+use Rattle.asm_laying.specs.declared.laying.PlacedStatement.{PlacedStatement}
 use Rattle.asm_laying.specs.Laying.{IsLaying, Tells}
 use Rattle.asm_registers.specs.Kept.{AreRegisters}
 use Rattle.asm_model.specs.declared.names.LaidName.{LaidName}
@@ -56,14 +56,16 @@ HasMark marks n (b ∷ bs) = slice_get marks n ≡ Some b
 
 -- what an outline with these names and marks says of a statement behind lines: whether its name depends on itself; and names
 -- that its line knows are among the outline's
-pub record IsOutlined (d : List LaidName) (settled : List (List ℕ)) (marks : List Bool) (s : Statement) (before : List LaidLine) : Type 0 where
+pub record IsOutlined (d : List LaidName) (settled : List (List ℕ)) (marks : List Bool) (s : Statement) (before : List LaidLine) : Type
+    0 where
   pub mark : HasMark marks (length (circles_in settled (statements_of before))) (circle_of settled (defined_by s) (statements_of before))
   pub names : (q : List ℕ) → is_some (named_in q (names_behind d s before).list) ≡ is_some (named_in q d)
 
 -- ---- lines so far
 
 -- lines without faults, where a source has these names for registers, these settled names and these statements
-pub record IsWalking (d : List LaidName) (names settled : List (List ℕ)) (all : List Statement) (before : List LaidLine) (w : Walk) : Type 0 where
+pub record IsWalking (d : List LaidName) (names settled : List (List ℕ)) (all : List Statement) (before : List LaidLine) (w : Walk) : Type
+    0 where
   pub lays : IsLaying d before w.laying
   pub checked : IsChecked before w.checks
   pub named : AreRegisters names before w.registers
@@ -80,7 +82,8 @@ Begins statements w =
 -- ---- a line more
 
 -- what is known of a line before it is kept
-pub record IsCheckedLine (d : List LaidName) (names settled : List (List ℕ)) (all : List Statement) (l : LaidLine) (before : List LaidLine) (old new : Walk) (j : CheckedLine) : Type 0 where
+pub record IsCheckedLine (d : List LaidName) (names settled : List (List ℕ)) (all : List Statement) (l : LaidLine) (before : List LaidLine)
+    (old new : Walk) (j : CheckedLine) : Type 0 where
   pub tells : Tells d l before new.laying j.laid
   pub told : j.found ≡ first_told (told_kind (checked_kinds settled all l before)) (told_kind (register_kinds names l before))
   pub checked : j.found ≡ None → IsChecked (l ∷ before) new.checks
@@ -97,7 +100,7 @@ ChecksLine o s old new j =
     → IsWalking o.names names settled all before old → IsOutlined o.names settled o.circular.items s before
     → IsCheckedLine o.names names settled all (laid_behind o.names s before) before old new j
 
-abbrev pub laid_as : Statement → Placed → LaidStatement
+abbrev pub laid_as : Statement → PlacedStatement → LaidStatement
 laid_as s p = record {
   statement = s;
   place = p.place;
@@ -106,7 +109,7 @@ laid_as s p = record {
 }
 
 -- a line without a fault is kept
-pub record Keeps (s : Statement) (number : Result ℕ LineKind) (thumb_area : Bool) (p : Placed) (old new : Walk) : Type 0 where
+pub record Keeps (s : Statement) (number : Result ℕ LineKind) (thumb_area : Bool) (p : PlacedStatement) (old new : Walk) : Type 0 where
   pub laying : new.laying ≡ old.laying
   pub checks : new.checks ≡ old.checks
   pub registers : new.registers ≡ old.registers
@@ -119,7 +122,8 @@ pub record Keeps (s : Statement) (number : Result ℕ LineKind) (thumb_area : Bo
 abbrev pub told_by : List (List ℕ) → List (List ℕ) → List Statement → LaidLine → List LaidLine → Option LineKind
 told_by names settled all l before = told_kind (layout_kinds settled all l before ++ register_kinds names l before)
 
-abbrev pub Steps : List LaidName → List (List ℕ) → List (List ℕ) → List Statement → LaidLine → List LaidLine → Walk → Result (Unit {0}) Fault → Type 0
+abbrev pub Steps : List LaidName → List (List ℕ) → List (List ℕ) → List Statement → LaidLine → List LaidLine → Walk
+    → Result (Unit {0}) Fault → Type 0
 Steps d names settled all l before new (Ok u) = IsWalking d names settled all (l ∷ before) new
 Steps d names settled all l before new (Err f) = IsTold (told_at l.statement (told_by names settled all l before)) f
 
@@ -141,16 +145,20 @@ StepsOn o s old new r =
 
 -- the lines of a source, or its first with a fault that is told at it
 abbrev pub IsWalked : List Statement → Result Walk Fault → Type 0
-IsWalked statements (Ok w) = IsWalking (declared_names statements) (register_names statements) (settled (equals_in statements)) statements (laid statements) w
-IsWalked statements (Err f) = IsTold (first_laid (register_names statements) (settled (equals_in statements)) statements (laid statements)) f
+IsWalked statements (Ok w) =
+    IsWalking (declared_names statements) (register_names statements) (settled (equals_in statements)) statements (laid statements) w
+IsWalked statements (Err f) =
+    IsTold (first_laid (register_names statements) (settled (equals_in statements)) statements (laid statements)) f
 
 -- the first lines of a source, or the first of them with a fault that is told at it
 abbrev pub IsFrontWalked : List Statement → ℕ → Result Walk Fault → Type 0
-IsFrontWalked statements n (Ok w) = IsWalking (declared_names statements) (register_names statements) (settled (equals_in statements)) statements (front_lines statements n) w
+IsFrontWalked statements n (Ok w) = IsWalking (declared_names statements) (register_names statements) (settled (equals_in statements))
+    statements (front_lines statements n) w
 IsFrontWalked statements n (Err f) = IsTold (front_laid statements n) f
 
 -- lines of a source, of which these are walked and those left
 pub record IsAlong (statements yielded left : List Statement) (w : Walk) : Type 0 where
   pub whole : statements ≡ yielded ++ left
-  pub walks : IsWalking (declared_names (reversed statements [])) (register_names (reversed statements [])) (settled (equals_in (reversed statements []))) (reversed statements [])
+  pub walks : IsWalking (declared_names (reversed statements [])) (register_names (reversed statements []))
+      (settled (equals_in (reversed statements []))) (reversed statements [])
       (laid_of (declared_names (reversed statements [])) (reversed yielded [])) w

@@ -4,7 +4,7 @@ ghost use Rattle.std.specs.Prelude.{IfOk};
 ghost use Rattle.asm_layout.specs.Areas.{AreAreasOf};
 
 use crate::laid::LaidArea;
-use asm_areas::AreaStart;
+use asm_checks::AreaStart;
 use asm_offsets::LaidPools;
 use sdt_fault::NoMemory;
 use std::alloc::Global;

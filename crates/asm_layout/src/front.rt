@@ -2,8 +2,8 @@
 
 ghost use Rattle.std.specs.Prelude.{◌+◌, ◌<◌, [], length};
 ghost use Rattle.asm_model.specs.Laid.{reversed};
-ghost use Rattle.said_model.specs.Said.{AllSaid};
-ghost use Rattle.asm_laying.specs.Behind.{most_statements};
+ghost use Rattle.asm_model.specs.Said.{AllSaid};
+ghost use Rattle.asm_laying.specs.Carried.{most_statements};
 ghost use Rattle.asm_layout.specs.Front.{front_laid};
 ghost use Rattle.asm_layout.specs.Late.{IsCleared};
 

@@ -1,7 +1,7 @@
 //! What a source is laid out as.
 
 use asm_model::Statement;
-use asm_names::{KnownNames, Place};
+use asm_names::{KnownNames, StatementPlace};
 use asm_pool::Pools;
 use sdt_fault::{List, Text};
 
@@ -27,7 +27,7 @@ pub struct LaidArea {
 #[derive(Debug, Drop)]
 pub struct LaidStatement {
     pub statement: Statement,
-    pub place: Place,
+    pub place: StatementPlace,
     /// The number of its literal's entry in the pools of its area.
     pub literal: Option<u32>,
     /// For DCB, of each operand whether it is a string by what is known at its line.

@@ -5,7 +5,7 @@ ghost use Rattle.asm_layout.specs.Late as late;
 
 use crate::laid::LaidStatement;
 use crate::telling::told_of;
-use asm_areas::{Position, late_kind};
+use asm_checks::{Position, late_kind};
 use asm_offsets::LaidPools;
 use sdt_fault::answer::Fault;
 use std::alloc::Global;

@@ -1,4 +1,7 @@
-//! The layout of a source: its statements where they stand, its areas and its names, or its first faulty line.
+//! The layout of a source: its statements where they stand, its areas and its names, or the refusal of its first faulty
+//! line. Public source: the SDT 2.50 Reference Guide, chapter on the assembler; the order of faults is this project's.
+//! `armasm_core` calls `front_fault` for lines that can't be read behind others, and else `lay_out`, whose `Layout`
+//! pass 2 goes over.
 #![tactic(auto)]
 
 mod areas;
@@ -7,8 +10,8 @@ pub mod front;
 pub mod laid;
 pub mod late;
 pub mod layout;
-pub mod lines;
 mod outline;
+pub mod placed_lines;
 mod states;
 pub mod telling;
 mod walking;

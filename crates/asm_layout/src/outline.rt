@@ -3,12 +3,12 @@
 ghost use Rattle.std.specs.Prelude.{◌≡◌, ◌+◌, ◌++◌, ◌<◌, [], length, IfOk, OnOk};
 ghost use Rattle.asm_model.specs.Laid.{reversed};
 ghost use Rattle.asm_names.specs.Equals.{pairs_of};
-ghost use Rattle.asm_laying.specs.Behind.{most_statements};
+ghost use Rattle.asm_laying.specs.Carried.{most_statements};
 ghost use Rattle.asm_layout.specs.Outline.{marks_of, settled_marks, pair_if, IsOutline, IsListed, IsMarked, Lists};
 
 use crate::states::states_of;
-use asm_areas::States;
-use asm_laying::behind::START;
+use asm_checks::States;
+use asm_laying::carried::START;
 use asm_laying::declarations::declare_one;
 use asm_model::{Expr, Statement};
 use asm_names::defining::{Defines, defined_by};

@@ -2,12 +2,12 @@
 
 ghost use Rattle.std.specs.Prelude.{◌+◌, ◌<◌, [], length, IfOk};
 ghost use Rattle.asm_model.specs.Laid.{reversed};
-ghost use Rattle.asm_areas.specs.States.{AreStates};
-ghost use Rattle.asm_laying.specs.Behind.{most_statements};
+ghost use Rattle.asm_checks.specs.States.{AreStates};
+ghost use Rattle.asm_laying.specs.Carried.{most_statements};
 
-use asm_areas::States;
+use asm_checks::States;
 use asm_laying::areas::Areas;
-use asm_laying::behind::START;
+use asm_laying::carried::START;
 use asm_model::Statement;
 use sdt_fault::NoMemory;
 use std::alloc::Global;

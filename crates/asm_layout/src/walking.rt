@@ -3,8 +3,8 @@
 ghost use Rattle.std.specs.Prelude.{◌≡◌, ◌+◌, ◌<◌, [], length, Ok, IfOk, OnOk};
 ghost use Rattle.asm_model.specs.Labels as labels;
 ghost use Rattle.asm_model.specs.Laid.{reversed};
-ghost use Rattle.said_model.specs.Said.{AllSaid, IsSaid};
-ghost use Rattle.asm_laying.specs.Behind.{most_statements};
+ghost use Rattle.asm_model.specs.Said.{AllSaid, IsSaid};
+ghost use Rattle.asm_laying.specs.Carried.{most_statements};
 ghost use Rattle.asm_laying.specs.Laying as laying;
 ghost use Rattle.asm_model.specs.FaultSets as sets;
 ghost use Rattle.asm_layout.specs.Layout.{IsTold};
@@ -13,12 +13,11 @@ ghost use Rattle.asm_layout.specs.Walking as walking;
 
 use crate::laid::LaidStatement;
 use crate::outline::Outline;
-use crate::telling::told;
-use asm_areas::Starts;
-use asm_checks::Checks;
+use crate::telling::refusal_of;
+use asm_checks::{Checks, Starts};
 use asm_expr::kinds::earlier;
 use asm_expr::told::first_told;
-use asm_laying::laying::{Laid, Laying, Placed};
+use asm_laying::laying::{LaidOutcome, Laying, PlacedStatement};
 use asm_model::Statement;
 use asm_names::defining::{Defines, defined_by};
 use asm_registers::Registers;
@@ -44,7 +43,7 @@ pub struct Walk {
 /// What is known of a line before it is kept.
 #[derive(Debug, Drop)]
 struct CheckedLine {
-    laid: Laid,
+    laid: LaidOutcome,
     /// Whether its area is one of Thumb code.
     thumb_area: bool,
     /// The fault that is told, of those that need no values.
@@ -75,10 +74,10 @@ fn next_mark(equals: &mut usize, circular: &[bool]) -> bool
     }
 }
 
-fn laid_statement(statement: Statement, placed: Placed) -> LaidStatement
+fn laid_statement(statement: Statement, placed: PlacedStatement) -> LaidStatement
     ensures { result ≡ walking.laid_as statement placed }
 {
-    let Placed {
+    let PlacedStatement {
         place,
         literal,
         strings,
@@ -157,7 +156,7 @@ impl Walk {
         statement: Statement,
         number: Result<u32, LineKind>,
         thumb_area: bool,
-        placed: Placed,
+        placed: PlacedStatement,
     ) -> Result<(), NoMemory>
         ensures { OnOk result (walking.Keeps statement number thumb_area placed self.old self.new) }
     {
@@ -170,7 +169,12 @@ impl Walk {
     }
 
     /// Keeps a line, or tells its fault.
-    fn keep_or_tell(&mut self, statement: Statement, checked: CheckedLine) -> Result<(), Fault>
+    fn keep_or_tell(
+        &mut self,
+        alloc: Global,
+        statement: Statement,
+        checked: CheckedLine,
+    ) -> Result<(), Fault>
         ensures { walking.KeepsOrTells statement checked self.old self.new result }
     {
         let CheckedLine {
@@ -178,11 +182,11 @@ impl Walk {
             thumb_area,
             found,
         } = checked;
-        let Laid { number, placed, .. } = laid;
+        let LaidOutcome { number, placed, .. } = laid;
         match (placed, found) {
-            (Err(kind), None) => Err(told(statement, kind)),
-            (Err(kind), Some(other)) => Err(told(statement, earlier(kind, other))),
-            (Ok(_), Some(kind)) => Err(told(statement, kind)),
+            (Err(kind), None) => Err(refusal_of(alloc, statement, kind)),
+            (Err(kind), Some(other)) => Err(refusal_of(alloc, statement, earlier(kind, other))),
+            (Ok(_), Some(kind)) => Err(refusal_of(alloc, statement, kind)),
             (Ok(placed), None) => {
                 self.keep(statement, number, thumb_area, placed)?;
                 Ok(())
@@ -191,14 +195,14 @@ impl Walk {
     }
 
     /// Lays a line more; or tells its fault, behind which nothing more can be laid.
-    fn step(&mut self, outline: &Outline, statement: Statement) -> Result<(), Fault>
+    fn step(&mut self, alloc: Global, outline: &Outline, statement: Statement) -> Result<(), Fault>
         requires may { laying.MayLay outline.now.names self.old.laying }
         requires said { IsSaid statement }
         ensures { walking.StepsOn outline.now statement self.old self.new result }
     {
         let checked = self.check_line(outline, &statement);
         let (statement, checked) = held(statement, checked)?;
-        self.keep_or_tell(statement, checked)
+        self.keep_or_tell(alloc, statement, checked)
     }
 }
 
@@ -218,7 +222,7 @@ pub fn walked_front(
     let mut front = statements;
     front.truncate(count);
     'statements: for statement in front {
-        walk.step(outline, statement)?;
+        walk.step(alloc, outline, statement)?;
     }
     Ok(walk)
 }

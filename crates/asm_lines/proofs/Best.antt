@@ -62,7 +62,8 @@ run_best p rest =
     }
 
 -- a byte that passes, and a form behind it
-behind_yes : (test : ℕ → Bool) (f : List ℕ → Bool) (c : ℕ) (cs : List ℕ) (k : ℕ) → test c ≡ true → f [] ≡ false → IsBest f k cs → IsBest (behind test f) (added 1 k) (c ∷ cs)
+behind_yes : (test : ℕ → Bool) (f : List ℕ → Bool) (c : ℕ) (cs : List ℕ) (k : ℕ) → test c ≡ true → f [] ≡ false → IsBest f k cs
+    → IsBest (behind test f) (added 1 k) (c ∷ cs)
 behind_yes test f c cs zero passing none best =
     none_best (behind test f) (c ∷ cs) (λ m l w. after m l w)
   where
@@ -88,7 +89,8 @@ behind_no test f c cs failing = none_best (behind test f) (c ∷ cs) after
     after zero l w = absurd (omega arith)
     after (suc m) l w = and_left (test c) (f (take m cs)) failing
 
-behind_best : (test : ℕ → Bool) (f : List ℕ → Bool) (g : List ℕ → ℕ) → f [] ≡ false → ((cs : List ℕ) → IsBest f (g cs) cs) → (rest : List ℕ) → IsBest (behind test f) (behind_len test g rest) rest
+behind_best : (test : ℕ → Bool) (f : List ℕ → Bool) (g : List ℕ → ℕ) → f [] ≡ false → ((cs : List ℕ) → IsBest f (g cs) cs) → (rest : List ℕ)
+    → IsBest (behind test f) (behind_len test g rest) rest
 behind_best test f g none best [] = empty_best (behind test f)
 behind_best test f g none best (c ∷ cs) = chosen (test c) refl
   where
@@ -96,7 +98,8 @@ behind_best test f g none best (c ∷ cs) = chosen (test c) refl
     chosen true e = behind_yes test f c cs (g cs) e none (best cs)
     chosen false e = behind_no test f c cs e
 
-begun_best : (test : ℕ → Bool) (f : List ℕ → Bool) (g : List ℕ → ℕ) → ((cs : List ℕ) → IsBest f (g cs) cs) → (rest : List ℕ) → IsBest (begun test f) (begun_len test g rest) rest
+begun_best : (test : ℕ → Bool) (f : List ℕ → Bool) (g : List ℕ → ℕ) → ((cs : List ℕ) → IsBest f (g cs) cs) → (rest : List ℕ)
+    → IsBest (begun test f) (begun_len test g rest) rest
 begun_best test f g best [] = empty_best (begun test f)
 begun_best test f g best (c ∷ cs) = chosen (test c) refl
   where
@@ -140,10 +143,12 @@ bar_best (c ∷ cs) = chosen (c == 124) (is_between_bars c) refl refl (bar_len c
     ends zero l w e = absurd (omega arith)
     ends (suc m) l w e = rw (bar_after c (take m cs) (simp length-take (omega arith))) (and_left (is_between_bars c) (ends_with_bar (take m cs)) e)
 
-    goes_on : (m : ℕ) → 0 < m → m ≤ length (c ∷ cs) → (c == 124) ≡ false → ((j : ℕ) → m ≡ suc j → 0 < j → ends_with_bar (take j cs) ≡ false) → ends_with_bar (take m (c ∷ cs)) ≡ false
+    goes_on : (m : ℕ) → 0 < m → m ≤ length (c ∷ cs) → (c == 124) ≡ false → ((j : ℕ) → m ≡ suc j → 0 < j → ends_with_bar (take j cs) ≡ false)
+        → ends_with_bar (take m (c ∷ cs)) ≡ false
     goes_on zero l w e h = absurd (omega arith)
     goes_on (suc zero) l w e h = e
-    goes_on (suc (suc m)) l w e h = rw (bar_after c (take (suc m) cs) (simp length-take (omega arith))) (and_right (is_between_bars c) (ends_with_bar (take (suc m) cs)) (h (suc m) refl (omega arith)))
+    goes_on (suc (suc m)) l w e h = rw (bar_after c (take (suc m) cs) (simp length-take (omega arith)))
+        (and_right (is_between_bars c) (ends_with_bar (take (suc m) cs)) (h (suc m) refl (omega arith)))
 
     chosen : (a b : Bool) → (c == 124) ≡ a → is_between_bars c ≡ b → (k : ℕ) → IsBest ends_with_bar k cs → IsBest ends_with_bar (result a b k) (c ∷ cs)
     chosen true b ea eb k best =
@@ -151,7 +156,10 @@ bar_best (c ∷ cs) = chosen (c == 124) (is_between_bars c) refl refl (bar_len c
         let no : is_between_bars c ≡ false = rw is refl in
         record { within = omega arith; holds = λ l. ea; longest = λ m l w. ends m l w no }
     chosen false false ea eb k best =
-        none_best ends_with_bar (c ∷ cs) (λ m l w. elim (cases_lt 1 m) [ inl more ↦ ends m more w eb | inr one ↦ goes_on m l w ea (λ j e z. absurd (omega arith)) ])
+        none_best ends_with_bar (c ∷ cs) (λ m l w. elim (cases_lt 1 m) [
+          | inl more ↦ ends m more w eb
+          | inr one ↦ goes_on m l w ea (λ j e z. absurd (omega arith))
+        ])
     chosen false true ea eb zero best =
         none_best ends_with_bar (c ∷ cs) (λ m l w. goes_on m l w ea (λ j e z. best.longest j z (omega arith)))
     chosen false true ea eb (suc k) best =
@@ -159,7 +167,8 @@ bar_best (c ∷ cs) = chosen (c == 124) (is_between_bars c) refl refl (bar_len c
           within = let v = best.within in omega arith;
           holds = λ l.
               let v = best.within in
-              rw (bar_after c (take (suc k) cs) (simp length-take (omega arith))) (and_from (is_between_bars c) (ends_with_bar (take (suc k) cs)) eb (best.holds (omega arith)));
+              rw (bar_after c (take (suc k) cs) (simp length-take (omega arith)))
+              (and_from (is_between_bars c) (ends_with_bar (take (suc k) cs)) eb (best.holds (omega arith)));
           longest = λ m l w. goes_on m (omega arith) w ea (λ j e z. best.longest j (omega arith) (omega arith));
         })
 
@@ -203,18 +212,23 @@ string_best (c ∷ d ∷ cs) = chosen (c == 34) (d == 34) refl refl (string_len 
     pair_fails (suc zero) l ea h = absurd (omega arith)
     pair_fails (suc (suc m)) l ea h = cond-true (c == 34) _ _ ea ∙ and_right (d == 34) (ends_string (take m cs)) (h m refl)
 
-    goes_on : (m : ℕ) → 0 < m → (c == 34) ≡ false → ((i : ℕ) → m ≡ suc i → 0 < i → ends_string (take i (d ∷ cs)) ≡ false) → ends_string (take m (c ∷ d ∷ cs)) ≡ false
+    goes_on : (m : ℕ) → 0 < m → (c == 34) ≡ false → ((i : ℕ) → m ≡ suc i → 0 < i → ends_string (take i (d ∷ cs)) ≡ false)
+        → ends_string (take m (c ∷ d ∷ cs)) ≡ false
     goes_on zero l e h = absurd (omega arith)
     goes_on (suc zero) l e h = e
     goes_on (suc (suc m)) l e h = quote_after c (take (suc m) (d ∷ cs)) e ∙ h (suc m) refl (omega arith)
 
-    chosen : (a b : Bool) → (c == 34) ≡ a → (d == 34) ≡ b → (j k : ℕ) → IsBest ends_string j cs → IsBest ends_string k (d ∷ cs) → IsBest ends_string (result a b j k) (c ∷ d ∷ cs)
+    chosen : (a b : Bool) → (c == 34) ≡ a → (d == 34) ≡ b → (j k : ℕ) → IsBest ends_string j cs → IsBest ends_string k (d ∷ cs)
+        → IsBest ends_string (result a b j k) (c ∷ d ∷ cs)
     chosen true false ea eb j k bj bk = one ea eb
     chosen true true ea eb zero k bj bk =
         record {
           within = omega arith;
           holds = λ l. ea;
-          longest = λ m l w. pair_fails m l ea (λ i e. elim (cases_lt 0 i) [ inl some ↦ bj.longest i some (omega arith) | inr none ↦ (let z : i ≡ 0 = omega arith in rw z refl) ]);
+          longest = λ m l w. pair_fails m l ea (λ i e. elim (cases_lt 0 i) [
+            | inl some ↦ bj.longest i some (omega arith)
+            | inr none ↦ (let z : i ≡ 0 = omega arith in rw z refl)
+          ]);
         }
     chosen true true ea eb (suc j) k bj bk =
         let e : kept 1 2 (suc j) ≡ suc (suc (suc j)) = cond-false (suc j == 0) 1 (2 + suc j) (ne_eqb (suc j) 0 (λ z. omega arith)) ∙ omega arith in
@@ -264,7 +278,8 @@ character_best (a ∷ b ∷ c ∷ cs) = chosen (a == 39 && (nat_lt b 128 && c ==
     ends true false z = refl
     ends false y z = refl
 
-    fails : (m : ℕ) → 0 < m → (m ≡ 3 → (a == 39 && (nat_lt b 128 && c == 39)) ≡ false) → m ≤ length (a ∷ b ∷ c ∷ cs) → is_character (take m (a ∷ b ∷ c ∷ cs)) ≡ false
+    fails : (m : ℕ) → 0 < m → (m ≡ 3 → (a == 39 && (nat_lt b 128 && c == 39)) ≡ false) → m ≤ length (a ∷ b ∷ c ∷ cs)
+        → is_character (take m (a ∷ b ∷ c ∷ cs)) ≡ false
     fails zero l h w = absurd (omega arith)
     fails (suc zero) l h w = and_right (a == 39) false refl
     fails (suc (suc zero)) l h w = and_right (a == 39) (nat_lt b 128 && false) (and_right (nat_lt b 128) false refl)
@@ -297,7 +312,8 @@ short_best (c ∷ []) = chosen (is_digit c) refl
     chosen false e = none_best is_short (c ∷ []) (λ m l w. fails m l w e)
 short_best (c ∷ d ∷ cs) = chosen (is_digit c) (is_digit d) refl refl
   where
-    fails : (m : ℕ) → 0 < m → m ≤ length (c ∷ d ∷ cs) → (m ≡ 1 → is_digit c ≡ false) → (m ≡ 2 → (is_digit c && is_digit d) ≡ false) → is_short (take m (c ∷ d ∷ cs)) ≡ false
+    fails : (m : ℕ) → 0 < m → m ≤ length (c ∷ d ∷ cs) → (m ≡ 1 → is_digit c ≡ false) → (m ≡ 2 → (is_digit c && is_digit d) ≡ false)
+        → is_short (take m (c ∷ d ∷ cs)) ≡ false
     fails zero l w h1 h2 = absurd (omega arith)
     fails (suc zero) l w h1 h2 = h1 refl
     fails (suc (suc zero)) l w h1 h2 = h2 refl
@@ -308,13 +324,24 @@ short_best (c ∷ d ∷ cs) = chosen (is_digit c) (is_digit d) refl refl
         more (e ∷ es) z = refl
 
     chosen : (a b : Bool) → is_digit c ≡ a → is_digit d ≡ b → IsBest is_short (cond a (cond b 2 1) 0) (c ∷ d ∷ cs)
-    chosen true true ea eb = record { within = omega arith; holds = λ l. and_from (is_digit c) (is_digit d) ea eb; longest = λ m l w. fails m (omega arith) w (λ z. absurd (omega arith)) (λ z. absurd (omega arith)) }
-    chosen true false ea eb = record { within = omega arith; holds = λ l. ea; longest = λ m l w. fails m (omega arith) w (λ z. absurd (omega arith)) (λ z. and_right (is_digit c) (is_digit d) eb) }
+    chosen true true ea eb = record {
+      within = omega arith;
+      holds = λ l. and_from (is_digit c) (is_digit d) ea eb;
+      longest =
+          λ m l w. fails m (omega arith) w (λ z. absurd (omega arith)) (λ z. absurd (omega arith));
+    }
+    chosen true false ea eb = record {
+      within = omega arith;
+      holds = λ l. ea;
+      longest =
+          λ m l w. fails m (omega arith) w (λ z. absurd (omega arith)) (λ z. and_right (is_digit c) (is_digit d) eb);
+    }
     chosen false b ea eb = none_best is_short (c ∷ d ∷ cs) (λ m l w. fails m l w (λ z. ea) (λ z. and_left (is_digit c) (is_digit d) ea))
 
 pub local_best : (rest : List ℕ) → IsBest is_local (local_len rest) rest
 local_best rest =
-    behind_best (λ c. c == 37) (λ t. is_short t || behind (λ c. c == 70 || c == 66) is_short t) (λ t. max (short_len t) (behind_len (λ c. c == 70 || c == 66) short_len t)) refl
+    behind_best (λ c. c == 37) (λ t. is_short t || behind (λ c. c == 70 || c == 66) is_short t)
+    (λ t. max (short_len t) (behind_len (λ c. c == 70 || c == 66) short_len t)) refl
     (λ t. or_best is_short (behind (λ c. c == 70 || c == 66) is_short) (short_len t) (behind_len (λ c. c == 70 || c == 66) short_len t) t
     (short_best t) (behind_best (λ c. c == 70 || c == 66) is_short short_len refl short_best t)) rest
 
@@ -324,7 +351,8 @@ same_best f g n rest e best =
 
 based_best : (rest : List ℕ) → IsBest is_based (based_len rest) rest
 based_best [] = empty_best is_based
-based_best (c ∷ cs) = same_best (behind test digits) is_based (behind_len test (behind_len (λ d. d == 95) (prefix_len (is_digit_of (c - 48)))) (c ∷ cs)) (c ∷ cs) agrees
+based_best (c ∷ cs) =
+    same_best (behind test digits) is_based (behind_len test (behind_len (λ d. d == 95) (prefix_len (is_digit_of (c - 48)))) (c ∷ cs)) (c ∷ cs) agrees
     (behind_best test digits (behind_len (λ d. d == 95) (prefix_len (is_digit_of (c - 48)))) refl
     (behind_best (λ d. d == 95) (one_or_more (is_digit_of (c - 48))) (prefix_len (is_digit_of (c - 48))) refl (run_best (is_digit_of (c - 48)))) (c ∷ cs))
   where
@@ -340,10 +368,13 @@ based_best (c ∷ cs) = same_best (behind test digits) is_based (behind_len test
 
 pub number_best : (rest : List ℕ) → IsBest is_number (number_len rest) rest
 number_best rest =
-    or_best (λ s. one_or_more is_digit s || is_hexadecimal s) is_based (max (prefix_len is_digit rest) (max (zero_x_len rest) (ampersand_len rest))) (based_len rest) rest
+    or_best (λ s. one_or_more is_digit s || is_hexadecimal s) is_based (max (prefix_len is_digit rest) (max (zero_x_len rest) (ampersand_len rest)))
+    (based_len rest) rest
     (or_best (one_or_more is_digit) is_hexadecimal (prefix_len is_digit rest) (max (zero_x_len rest) (ampersand_len rest)) rest (run_best is_digit rest)
-    (or_best (behind (λ c. c == 48) (behind (λ c. c == 120) (one_or_more is_hex_digit))) (behind (λ c. c == 38) (one_or_more is_hex_digit)) (zero_x_len rest) (ampersand_len rest) rest
-    (behind_best (λ c. c == 48) (behind (λ c. c == 120) (one_or_more is_hex_digit)) (behind_len (λ c. c == 120) (prefix_len is_hex_digit)) refl (behind_best (λ c. c == 120) (one_or_more is_hex_digit) (prefix_len is_hex_digit) refl (run_best is_hex_digit)) rest)
+    (or_best (behind (λ c. c == 48) (behind (λ c. c == 120) (one_or_more is_hex_digit))) (behind (λ c. c == 38) (one_or_more is_hex_digit)) (zero_x_len rest)
+    (ampersand_len rest) rest
+    (behind_best (λ c. c == 48) (behind (λ c. c == 120) (one_or_more is_hex_digit)) (behind_len (λ c. c == 120) (prefix_len is_hex_digit)) refl
+    (behind_best (λ c. c == 120) (one_or_more is_hex_digit) (prefix_len is_hex_digit) refl (run_best is_hex_digit)) rest)
     (behind_best (λ c. c == 38) (one_or_more is_hex_digit) (prefix_len is_hex_digit) refl (run_best is_hex_digit) rest)))
     (based_best rest)
 
@@ -372,7 +403,8 @@ word_best word rest = chosen (starts_with nat_eq rest word) refl
 
 words_best : (ws : List (List ℕ)) (rest : List ℕ) → IsBest (λ s. list_any (same s) ws) (words_len ws rest) rest
 words_best [] rest = none_best (λ s. list_any (same s) []) rest (λ m l w. refl)
-words_best (w ∷ ws) rest = or_best (λ s. same s w) (λ s. list_any (same s) ws) (word_len w rest) (words_len ws rest) rest (word_best w rest) (words_best ws rest)
+words_best (w ∷ ws) rest =
+    or_best (λ s. same s w) (λ s. list_any (same s) ws) (word_len w rest) (words_len ws rest) rest (word_best w rest) (words_best ws rest)
 
 pub one_of_best : (text rest : List ℕ) → IsBest (is_one_of text) (one_of_len text rest) rest
 one_of_best text rest = words_best (slice_split (λ c. c == 32) text) rest

@@ -68,7 +68,8 @@ sign_at d rest c cs r e i t h = rw e (rw e at h ∙ sym (heads (λ e. e == d) (s
 byte_sign : (c : ℕ) (cs : List ℕ) → (c == 58) ≡ false → (c == 61) ≡ false → (c == 47) ≡ false → (c == 60) ≡ false → (c == 62) ≡ false
     → one_of_len signs (c ∷ cs) ≡ cond (list_any (λ d. d == c) byte_signs) 1 0
 byte_sign c cs e1 e2 e3 e4 e5 =
-    heads (λ d. not (d == 58) && (not (d == 61) && (not (d == 47) && (not (d == 60) && not (d == 62))))) (slice_split (λ e. e == 32) signs) c cs (rw (e1, e2, e3, e4, e5) refl)
+    heads (λ d. not (d == 58) && (not (d == 61) && (not (d == 47) && (not (d == 60) && not (d == 62))))) (slice_split (λ e. e == 32) signs) c cs
+    (rw (e1, e2, e3, e4, e5) refl)
     ∙ singles byte_signs c cs
 
 pub other_sign : (rest : List ℕ) (c : ℕ) (cs : List ℕ) (r : ℕ) → rest ≡ c ∷ cs → (c ≡ 58 → ⊥) → (c ≡ 61 → ⊥) → (c ≡ 47 → ⊥) → (c ≡ 60 → ⊥) → (c ≡ 62 → ⊥)
@@ -146,13 +147,15 @@ found c cs a b x y z w =
 at_other : (c : ℕ) (cs : List ℕ) → is_letter c ≡ false → is_digit c ≡ false
     → best_of (c ∷ cs) ≡ longer (longer (Name, 0) (form_at c (c ∷ cs)).0 (form_at c (c ∷ cs)).1) Sign (one_of_len signs (c ∷ cs))
 unfolding best_of
-at_other c cs l d = ap (λ b. longer b Sign (one_of_len signs (c ∷ cs))) (chosen (c == 124) (c == 34) (c == 39) (c == 123) (c == 37) (c == 38) refl refl refl refl refl refl)
+at_other c cs l d =
+    ap (λ b. longer b Sign (one_of_len signs (c ∷ cs))) (chosen (c == 124) (c == 34) (c == 39) (c == 123) (c == 37) (c == 38) refl refl refl refl refl refl)
   where
     name : name_of (name_len (c ∷ cs)) ≡ name_of 0
     name = ap name_of (cond-false (is_letter c) _ 0 l)
 
     chosen : (a b x y z w : Bool) → (c == 124) ≡ a → (c == 34) ≡ b → (c == 39) ≡ x → (c == 123) ≡ y → (c == 37) ≡ z → (c == 38) ≡ w
-        → longer (longer (longer (longer (longer (longer (Name, name_len (c ∷ cs)) Barred (barred_len (c ∷ cs))) Number (number_len (c ∷ cs))) Quoted (quoted_len (c ∷ cs)))
+        → longer (longer (longer (longer (longer (longer (Name, name_len (c ∷ cs)) Barred (barred_len (c ∷ cs))) Number (number_len (c ∷ cs))) Quoted
+        (quoted_len (c ∷ cs)))
         Character (character_len (c ∷ cs))) Braced (one_of_len braced_words (c ∷ cs))) Local (local_len (c ∷ cs))
         ≡ longer (Name, 0) (found c cs a b x y z w).0 (found c cs a b x y z w).1
     chosen true b x y z w e h1 h2 h3 h4 h5 =
@@ -166,7 +169,8 @@ at_other c cs l d = ap (λ b. longer b Sign (one_of_len signs (c ∷ cs))) (chos
         skip _ Local _ (local_none c cs (other c 34 37 e refl))
         ∙ skip _ Braced _ (braced_none c cs (other c 34 123 e refl))
         ∙ skip _ Character _ (character_none c cs (other c 34 39 e refl))
-        ∙ ap (λ b. longer b Quoted (quoted_len (c ∷ cs))) (skip _ Number _ (number_none c cs d (other c 34 38 e refl)) ∙ skip _ Barred _ (barred_none c cs h0) ∙ name)
+        ∙ ap (λ b. longer b Quoted (quoted_len (c ∷ cs))) (skip _ Number _ (number_none c cs d (other c 34 38 e refl)) ∙ skip _ Barred _ (barred_none c cs h0)
+        ∙ name)
     chosen false false true y z w h0 h1 e h3 h4 h5 =
         skip _ Local _ (local_none c cs (other c 39 37 e refl))
         ∙ skip _ Braced _ (braced_none c cs (other c 39 123 e refl))
@@ -175,10 +179,12 @@ at_other c cs l d = ap (λ b. longer b Sign (one_of_len signs (c ∷ cs))) (chos
     chosen false false false true z w h0 h1 h2 e h4 h5 =
         skip _ Local _ (local_none c cs (other c 123 37 e refl))
         ∙ ap (λ b. longer b Braced (one_of_len braced_words (c ∷ cs)))
-        (skip _ Character _ (character_none c cs h2) ∙ skip _ Quoted _ (quoted_none c cs h1) ∙ skip _ Number _ (number_none c cs d (other c 123 38 e refl)) ∙ skip _ Barred _ (barred_none c cs h0) ∙ name)
+        (skip _ Character _ (character_none c cs h2) ∙ skip _ Quoted _ (quoted_none c cs h1) ∙ skip _ Number _ (number_none c cs d (other c 123 38 e refl))
+        ∙ skip _ Barred _ (barred_none c cs h0) ∙ name)
     chosen false false false false true w h0 h1 h2 h3 e h5 =
         ap (λ b. longer b Local (local_len (c ∷ cs)))
-        (skip _ Braced _ (braced_none c cs h3) ∙ skip _ Character _ (character_none c cs h2) ∙ skip _ Quoted _ (quoted_none c cs h1) ∙ skip _ Number _ (number_none c cs d (other c 37 38 e refl)) ∙ skip _ Barred _ (barred_none c cs h0) ∙ name)
+        (skip _ Braced _ (braced_none c cs h3) ∙ skip _ Character _ (character_none c cs h2) ∙ skip _ Quoted _ (quoted_none c cs h1)
+        ∙ skip _ Number _ (number_none c cs d (other c 37 38 e refl)) ∙ skip _ Barred _ (barred_none c cs h0) ∙ name)
     chosen false false false false false true h0 h1 h2 h3 h4 e =
         skip _ Local _ (local_none c cs h4)
         ∙ skip _ Braced _ (braced_none c cs h3) ∙ skip _ Character _ (character_none c cs h2) ∙ skip _ Quoted _ (quoted_none c cs h1)

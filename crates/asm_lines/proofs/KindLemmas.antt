@@ -45,7 +45,8 @@ more_kinds tests has best kind len rest p q = chosen (nat_lt best.1 len) refl
         let lt = ltb-true best.1 len e in
         record {
           within = q.within;
-          holds = λ l. first_of-none (tests (take len rest)) ((kind, has (take len rest)) ∷ []) (p.longest len lt q.within) ∙ one (take len rest) true (q.holds l);
+          holds =
+              λ l. first_of-none (tests (take len rest)) ((kind, has (take len rest)) ∷ []) (p.longest len lt q.within) ∙ one (take len rest) true (q.holds l);
           longest = λ m l w. fails m (omega arith) l w;
         }
     chosen false e =
@@ -57,7 +58,8 @@ more_kinds tests has best kind len rest p q = chosen (nat_lt best.1 len) refl
         }
 
 abbrev all_kinds : List ℕ → List (TokenKind × Bool)
-all_kinds s = (Name, is_name s) ∷ (Barred, is_barred s) ∷ (Number, is_number s) ∷ (Quoted, is_quoted s) ∷ (Character, is_character s) ∷ (Braced, is_one_of braced_words s) ∷ (Local, is_local s) ∷ (Sign, is_one_of signs s) ∷ []
+all_kinds s = (Name, is_name s) ∷ (Barred, is_barred s) ∷ (Number, is_number s) ∷ (Quoted, is_quoted s) ∷ (Character, is_character s)
+    ∷ (Braced, is_one_of braced_words s) ∷ (Local, is_local s) ∷ (Sign, is_one_of signs s) ∷ []
 
 first_kind : (kind : TokenKind) (has : List ℕ → Bool) (len : ℕ) (rest : List ℕ) → IsBest has len rest → IsBestOf (λ s. (kind, has s) ∷ []) (kind, len) rest
 first_kind kind has len rest q =

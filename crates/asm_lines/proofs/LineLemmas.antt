@@ -42,7 +42,8 @@ split_last p xs none =
     slice_split_none p xs (λ k d h. fails_before_first p xs k d (omega arith))
 
 -- what passes ends the first part
-pub split_first : (p : ℕ → Bool) (xs : List ℕ) (i : ℕ) → position p xs ≡ Some i → (i < length xs) × (slice_split p xs ≡ take i xs ∷ slice_split p (drop (i + 1) xs))
+pub split_first : (p : ℕ → Bool) (xs : List ℕ) (i : ℕ) → position p xs ≡ Some i → (i < length xs)
+    × (slice_split p xs ≡ take i xs ∷ slice_split p (drop (i + 1) xs))
 split_first p xs i found =
     let h = picked _ _ _ found in
     let lt : position_or_len p xs < length xs = ltb-true (position_or_len p xs) (length xs) h.0 in

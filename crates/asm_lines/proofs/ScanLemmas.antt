@@ -45,7 +45,8 @@ module _ (text : List ℕ) (list : List Token) (due : Due) (place : ℕ) (scan :
   pub ended : is_end due (drop place text) ≡ true → Tokens text list
   ended e = rw (sym (append-nil list)) (scan.found [] e)
 
-  pub stuck : is_end due (drop place text) ≡ false → IsTheToken due (drop (blanks (drop place text)) (drop place text)) None → (all : List Token) → Tokens text all → ⊥
+  pub stuck : is_end due (drop place text) ≡ false → IsTheToken due (drop (blanks (drop place text)) (drop place text)) None → (all : List Token)
+      → Tokens text all → ⊥
   stuck e none all h = let o = scan.only all h in goes o.0 o.2
     where
       goes : (ts : List Token) → TokensFrom ts due place (drop place text) → ⊥
@@ -56,8 +57,10 @@ module _ (text : List ℕ) (list : List Token) (due : Due) (place : ℕ) (scan :
   token kind n = record { kind = kind; start = place + blanks (drop place text); end = place + blanks (drop place text) + n }
 
   moved : (ts : List Token) (n m e d : ℕ) → m ≡ n → d ≡ e
-      → TokensFrom ts (due_behind due (take m (drop (blanks (drop place text)) (drop place text)))) d (drop m (drop (blanks (drop place text)) (drop place text)))
-      → TokensFrom ts (due_behind due (take n (drop (blanks (drop place text)) (drop place text)))) e (drop n (drop (blanks (drop place text)) (drop place text)))
+      → TokensFrom ts (due_behind due (take m (drop (blanks (drop place text)) (drop place text)))) d
+      (drop m (drop (blanks (drop place text)) (drop place text)))
+      → TokensFrom ts (due_behind due (take n (drop (blanks (drop place text)) (drop place text)))) e
+      (drop n (drop (blanks (drop place text)) (drop place text)))
   moved ts n m e d p q h = rw (← p, ← q) h
 
   behind : (n : ℕ) → drop n (drop (blanks (drop place text)) (drop place text)) ≡ drop (place + blanks (drop place text) + n) text
@@ -78,7 +81,8 @@ module _ (text : List ℕ) (list : List Token) (due : Due) (place : ℕ) (scan :
     where
       again : (all ts : List Token) → all ≡ list ++ ts → TokensFrom ts due place (drop place text)
           → (more : List Token) × (all ≡ (list ++ token kind n ∷ []) ++ more)
-          × TokensFrom more (due_behind due (take n (drop (blanks (drop place text)) (drop place text)))) (place + blanks (drop place text) + n) (drop (place + blanks (drop place text) + n) text)
+          × TokensFrom more (due_behind due (take n (drop (blanks (drop place text)) (drop place text)))) (place + blanks (drop place text) + n)
+          (drop (place + blanks (drop place text) + n) text)
       again all [] q p = let r = p in absurd (cc)
       again all (t ∷ ts) q p =
           let u = the.1 t.kind p.0 p.3 in
@@ -100,7 +104,8 @@ module _ (text : List ℕ) (list : List Token) (due : Due) (place : ℕ) (rest :
   pub at_end : b ≡ true → Tokens text list
   at_end e = ended text list due place scan (end_is ∙ e)
 
-  module _ (more : b ≡ false) (count : ℕ) (count_is : count ≡ blanks rest) (front : List ℕ) (front_is : front ≡ drop count rest) (o : Option (TokenKind × ℕ)) (the : IsTheToken due front o) where
+  module _ (more : b ≡ false) (count : ℕ) (count_is : count ≡ blanks rest) (front : List ℕ) (front_is : front ≡ drop count rest) (o : Option (TokenKind × ℕ))
+      (the : IsTheToken due front o) where
     the_at : IsTheToken due (drop (blanks (drop place text)) (drop place text)) o
     the_at = rw (front_is, count_is, rest_is) at the
 
@@ -145,7 +150,8 @@ module _ where
   one_token Nothing k j n m rest p q = absurd p
   one_token Operation k j n m rest p q = chosen (is_operation_sign rest) p q
     where
-      chosen : (b : Bool) → MatchBool b ((k ≡ Sign) × (n ≡ 1)) (IsLongest k n rest) → MatchBool b ((j ≡ Sign) × (m ≡ 1)) (IsLongest j m rest) → (k ≡ j) × (n ≡ m)
+      chosen : (b : Bool) → MatchBool b ((k ≡ Sign) × (n ≡ 1)) (IsLongest k n rest) → MatchBool b ((j ≡ Sign) × (m ≡ 1)) (IsLongest j m rest) → (k ≡ j)
+          × (n ≡ m)
       chosen true p q = (p.0 ∙ sym q.0, p.1 ∙ sym q.1)
       chosen false p q = one_longest k j n m rest p q
 

@@ -1,4 +1,7 @@
-//! Lines of a source and tokens of a line.
+//! Lines of a source's text, and tokens of a line. Public source: the SDT 2.50 Reference Guide, chapter on the
+//! assembler; the limits of lines and names are this project's. `asm_expand` splits files by `split_lines`,
+//! `asm_expand` and `asm_reading` scan lines by `scan::scan`, and `asm_variables` reads names and label fields by the
+//! forms of bytes in `bytes`.
 #![tactic(auto)]
 
 pub mod bytes;

@@ -20,6 +20,6 @@ pub fn tokens(alloc: Global, line: &Flat) -> Result<Vec<Token>, Fault>
     }
     match scan(alloc, text)? {
         Some(list) => Ok(list),
-        None => Err(bad_line(alloc, &line.source, line.number, LineKind::Syntax)),
+        None => Err(bad_line(alloc, line.source.as_text(), line.number, LineKind::Syntax)),
     }
 }

@@ -5,7 +5,7 @@ ghost use Rattle.std.specs.Str.Lines.{lines, strip_carriage_return};
 ghost use Rattle.asm_model.specs.Lines.{split};
 ghost use Rattle.asm_model.specs.Told.{Gives};
 
-use asm_model::{Line, bad_line};
+use asm_model::{FileName, Line, bad_line};
 use sdt_fault::answer::Fault;
 use sdt_fault::kinds::LineKind;
 use sdt_fault::{Bytes, List, NoMemory, Text};
@@ -22,6 +22,7 @@ pub const LINE_BYTES: usize = 65_536;
 pub fn split_lines(alloc: Global, source: &Text, text: &[u8]) -> Result<List<Line>, Fault>
     ensures { Gives (split source.now text.now) result }
 {
+    let file = FileName::of(alloc, source)?;
     let mut list = Vec::new(alloc);
     let mut rest = text;
     let mut number = 1;
@@ -33,7 +34,7 @@ pub fn split_lines(alloc: Global, source: &Text, text: &[u8]) -> Result<List<Lin
         if line.len() > LINE_BYTES {
             return Err(bad_line(alloc, source, number, LineKind::TooMany));
         }
-        let next = line_of(alloc, source, number, line)?;
+        let next = line_of(alloc, &file, number, line)?;
         list.push(next)?;
         rest = after;
         number += 1;
@@ -41,11 +42,11 @@ pub fn split_lines(alloc: Global, source: &Text, text: &[u8]) -> Result<List<Lin
     Ok(List::from_vec(list))
 }
 
-fn line_of(alloc: Global, source: &Text, number: u32, text: &[u8]) -> Result<Line, NoMemory>
+fn line_of(alloc: Global, file: &FileName, number: u32, text: &[u8]) -> Result<Line, NoMemory>
     ensures { IfOk result (λ line. line
-        ≡ record { source = source.now; number = number; text = text.now }) }
+        ≡ record { source = file.now; number = number; text = text.now }) }
 {
-    let source = source.try_clone(alloc)?;
+    let source = file.share()?;
     let text = Bytes::from_slice(alloc, text)?;
     Ok(Line {
         source,

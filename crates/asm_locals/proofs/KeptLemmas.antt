@@ -35,9 +35,9 @@ use Rattle.asm_model.specs.declared.statements.What.{What}
 use Rattle.asm_model.specs.declared.statements.What.TheVariants as what
 use Rattle.asm_model.specs.Grammar.{Tree, Leaf, Before, Between, postfix, plain, operand_of, before_of, between_of, Spells, operand, of_name, before, grouped, between, tighter}
 use Rattle.asm_model.specs.Sound.{HasNoPlace, HaveNoPlaces}
-use Rattle.said_model.proofs.SharedLemmas.{IsText, MarksFit, IsFine}
-use Rattle.said_model.specs.Named.{ItemNamed, AllItemsNamed}
-use Rattle.said_model.specs.Said.{IsRead, AllRead, ShiftSaid, AddressSaid, HalfOffsetSaid, ArmSaid, ThumbOperandSaid, LiteralSaid, ThumbSaid, PseudoSaid, BoundaryRead, GivenSaid, DirectiveSaid, WhatSaid, what_names, label_names, HoldsNoZero}
+use Rattle.asm_model.proofs.SaidLemmas.{IsText, MarksFit, IsFine}
+use Rattle.asm_model.specs.Named.{ItemNamed, AllItemsNamed}
+use Rattle.asm_model.specs.Said.{IsRead, AllRead, ShiftSaid, AddressSaid, HalfOffsetSaid, ArmSaid, ThumbOperandSaid, LiteralSaid, ThumbSaid, PseudoSaid, BoundaryRead, GivenSaid, DirectiveSaid, WhatSaid, what_names, label_names, HoldsNoZero}
 use Rattle.asm_locals.specs.Labels.{local_number, target}
 use Rattle.asm_locals.specs.Naming.{Targets, hidden_name, reference, named_item, named, all_named, named_shift, named_address, named_half, named_arm, named_operand, named_literal, named_thumb, named_pseudo, named_boundary, named_register, named_directive, named_what, named_label, named_behind, in_names}
 
@@ -57,7 +57,8 @@ plain_reference text None = refl
 plain_reference text (Some k) = refl
 
 plain_named : (t : Targets) (j i : ExprItem) → plain j ≡ Some i → plain (named_item t j) ≡ Some (named_item t i)
-plain_named t (item.Local text) i e = let x : item.Local text ≡ i = cc in subst (λ z. plain (reference text (t text)) ≡ Some (named_item t z)) x (plain_reference text (t text))
+plain_named t (item.Local text) i e = let x : item.Local text ≡ i = cc in
+    subst (λ z. plain (reference text (t text)) ≡ Some (named_item t z)) x (plain_reference text (t text))
 plain_named t (item.Unary op) i e = absurd (cc)
 plain_named t (item.Binary op) i e = absurd (cc)
 plain_named t j i e = let x : j ≡ i = cc in rw (← x) refl
@@ -81,7 +82,8 @@ map_joined f (x ∷ xs) ys = ap (λ z. f x ∷ z) (map_joined f xs ys)
 spelled_named : (t : Targets) (l : ℕ) (ps : List Part) (u : Tree) → Spells l ps u → Spells l (map (named_part t) ps) (named_tree t u)
 spelled_named t l ps u (operand p i e) = operand (named_part t p) (named_item t i) (operand_named t p i e)
 spelled_named t l ps u (of_name op n) = of_name op n
-spelled_named t l ps u (before p op qs v e d) = before (named_part t p) op (map (named_part t) qs) (named_tree t v) (before_kept t p ∙ e) (spelled_named t 0 qs v d)
+spelled_named t l ps u (before p op qs v e d) =
+    before (named_part t p) op (map (named_part t) qs) (named_tree t v) (before_kept t p ∙ e) (spelled_named t 0 qs v d)
 spelled_named t l ps u (grouped qs v d) =
     subst (λ z. Spells 0 (part.Open ∷ z) (named_tree t v)) (sym (map_joined (named_part t) qs (part.Close ∷ [])))
     (grouped (map (named_part t) qs) (named_tree t v) (spelled_named t 6 qs v d))
@@ -216,10 +218,7 @@ directive_named t (line.Equ e) h = read_named t e h
 directive_named t (line.Rn r) h = given_named t r h
 directive_named t (line.Assert e) h = read_named t e h
 directive_named t (line.Opt e) h = read_named t e h
-directive_named t (line.Dcd es) h = all_read t es h
-directive_named t (line.Dcdu es) h = all_read t es h
-directive_named t (line.Dcw es) h = all_read t es h
-directive_named t (line.Dcb es) h = all_read t es h
+directive_named t (line.Constants item es) h = all_read t es h
 directive_named t (line.Space e) h = read_named t e h
 directive_named t (line.Align b) h = boundary_named t b h
 directive_named t (line.Map e) h = read_named t e h

@@ -80,7 +80,8 @@ both_half g f (half.Register subtract rm) = refl
 
 pub both_arm : (g f : Targets) (l : ArmLine) → named_arm f (named_arm g l) ≡ named_arm (Either g f) l
 both_arm g f (arm.DataImmediate condition operation set_flags rd rn e) = ap (λ z. arm.DataImmediate condition operation set_flags rd rn z) (both g f e)
-both_arm g f (arm.DataShifted condition operation set_flags rd rn rm by) = ap (λ z. arm.DataShifted condition operation set_flags rd rn rm z) (both_shift g f by)
+both_arm g f (arm.DataShifted condition operation set_flags rd rn rm by) =
+    ap (λ z. arm.DataShifted condition operation set_flags rd rn rm z) (both_shift g f by)
 both_arm g f (arm.WriteStatusImmediate condition saved fields e) = ap (λ z. arm.WriteStatusImmediate condition saved fields z) (both g f e)
 both_arm g f (arm.TransferImmediate condition load byte rd a) = ap (λ z. arm.TransferImmediate condition load byte rd z) (both_address g f a)
 both_arm g f (arm.TransferShifted condition load byte rd rn ix subtract rm by) =
@@ -138,10 +139,7 @@ both_directive g f (line.Equ e) = ap (λ z. line.Equ z) (both g f e)
 both_directive g f (line.Rn r) = ap (λ z. line.Rn z) (both_register g f r)
 both_directive g f (line.Assert e) = ap (λ z. line.Assert z) (both g f e)
 both_directive g f (line.Opt e) = ap (λ z. line.Opt z) (both g f e)
-both_directive g f (line.Dcd es) = ap (λ z. line.Dcd z) (both_all g f es)
-both_directive g f (line.Dcdu es) = ap (λ z. line.Dcdu z) (both_all g f es)
-both_directive g f (line.Dcw es) = ap (λ z. line.Dcw z) (both_all g f es)
-both_directive g f (line.Dcb es) = ap (λ z. line.Dcb z) (both_all g f es)
+both_directive g f (line.Constants item es) = ap (λ z. line.Constants item z) (both_all g f es)
 both_directive g f (line.Space e) = ap (λ z. line.Space z) (both g f e)
 both_directive g f (line.Align b) = ap (λ z. line.Align z) (both_boundary g f b)
 both_directive g f (line.Map e) = ap (λ z. line.Map z) (both g f e)
@@ -177,7 +175,11 @@ stretches_kept t (what.Directive l) = refl
 pub labels_kept : (before : List Statement) (k : ℕ) (rest : List Statement) (n : ℕ) → label_ahead k (looked_back before rest) n ≡ label_ahead k rest n
 labels_kept before k [] n = refl
 labels_kept before k (s ∷ rest) n =
-    rw (stretches_kept (back_to (label_behind (s ∷ before))) s.what, numbers_kept (back_to (label_behind (s ∷ before))) s.label s.what, labels_kept (s ∷ before) (suc k) rest n) refl
+    rw (
+      stretches_kept (back_to (label_behind (s ∷ before))) s.what,
+      numbers_kept (back_to (label_behind (s ∷ before))) s.label s.what,
+      labels_kept (s ∷ before) (suc k) rest n,
+    ) refl
 
 -- ---- statements
 

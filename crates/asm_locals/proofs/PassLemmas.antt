@@ -8,7 +8,8 @@ use Rattle.asm_model.specs.Laid.{reversed}
 use Rattle.asm_locals.specs.Labels.{label_behind, label_ahead}
 use Rattle.asm_locals.specs.Passes.{IsTable, named_back, looked_back, named_ahead, looked_ahead}
 
-pub looked_more : (before ys : List Statement) (s : Statement) → looked_back before (ys ++ s ∷ []) ≡ looked_back before ys ++ named_back (reversed ys before) s ∷ []
+pub looked_more : (before ys : List Statement) (s : Statement) → looked_back before (ys ++ s ∷ []) ≡ looked_back before ys ++ named_back (reversed ys before) s
+    ∷ []
 looked_more before [] s = refl
 looked_more before (y ∷ ys) s = ap (λ z. named_back before y ∷ z) (looked_more (y ∷ before) ys s)
 
@@ -40,15 +41,18 @@ back_goes all now at s d r old next b within item step = go b.rest b.whole b.nam
     go : (rest : List Statement) → b.front ++ rest ≡ all → now ≡ looked_back [] b.front ++ rest → Behind all (set now at r) (suc at) next
     go [] whole named = absurd (let e = ap length named in let l = length-append (looked_back [] b.front) [] in let k = b.long in omega arith)
     go (y ∷ rest) whole named =
-        let same : s ≡ y = item ∙ ap (λ z. get_or z at d) named ∙ subst (λ n. get_or (looked_back [] b.front ++ y ∷ rest) n d ≡ y) b.long (get_or-append_seam (looked_back [] b.front) y rest d) in
+        let same : s ≡ y = item ∙ ap (λ z. get_or z at d) named ∙ subst (λ n. get_or (looked_back [] b.front ++ y ∷ rest) n d ≡ y) b.long
+        (get_or-append_seam (looked_back [] b.front) y rest d) in
         let count : length (reversed b.front []) ≡ at = let l = reversed_length b.front [] in let k = b.long in omega arith in
         let both = step (reversed b.front []) count b.labels in record {
           front = b.front ++ s ∷ [];
           rest = rest;
           whole = append_assoc b.front (s ∷ []) rest ∙ ap (λ z. b.front ++ z ∷ rest) same ∙ whole;
-          long = ap length (looked_more [] b.front s) ∙ length-append (looked_back [] b.front) (named_back (reversed b.front []) s ∷ []) ∙ (let k = b.long in omega arith);
+          long = ap length (looked_more [] b.front s) ∙ length-append (looked_back [] b.front) (named_back (reversed b.front []) s ∷ [])
+              ∙ (let k = b.long in omega arith);
           named = ap (λ z. set z at r) named
-              ∙ subst (λ n. set (looked_back [] b.front ++ y ∷ rest) n r ≡ looked_back [] b.front ++ r ∷ rest) b.long (set-append_seam (looked_back [] b.front) y rest r)
+              ∙ subst (λ n. set (looked_back [] b.front ++ y ∷ rest) n r ≡ looked_back [] b.front ++ r ∷ rest) b.long
+              (set-append_seam (looked_back [] b.front) y rest r)
               ∙ ap (λ z. looked_back [] b.front ++ z ∷ rest) both.1
               ∙ sym (append_assoc (looked_back [] b.front) (named_back (reversed b.front []) s ∷ []) rest)
               ∙ ap (λ z. z ++ rest) (sym (looked_more [] b.front s));
@@ -84,7 +88,8 @@ ahead_goes all now at s d r old next a item step =
       whole = sym (append_assoc (take at a.front) (s ∷ []) a.rest) ∙ ap (λ z. z ++ a.rest) (sym ends) ∙ a.whole;
       long = count;
       named = ap (λ z. set z at r) split
-          ∙ subst (λ n. set (take at a.front ++ s ∷ looked_ahead (suc at) a.rest) n r ≡ take at a.front ++ r ∷ looked_ahead (suc at) a.rest) count (set-append_seam (take at a.front) s (looked_ahead (suc at) a.rest) r)
+          ∙ subst (λ n. set (take at a.front ++ s ∷ looked_ahead (suc at) a.rest) n r ≡ take at a.front ++ r ∷ looked_ahead (suc at) a.rest) count
+          (set-append_seam (take at a.front) s (looked_ahead (suc at) a.rest) r)
           ∙ ap (λ z. take at a.front ++ z ∷ looked_ahead (suc at) a.rest) both.1;
       labels = both.0;
     }

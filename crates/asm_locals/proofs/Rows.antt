@@ -1,6 +1,7 @@
 -- Worked rows: names for the local labels of a source.
 use Rattle.std.proofs.Common.{◌≡◌, ℕ, List, [], ◌∷◌, false, refl, Option, Some, None, codes}
 use Rattle.asm_model.specs.declared.directives.Contents.TheVariants as contents
+use Rattle.asm_model.specs.declared.directives.DataItem.TheVariants.{Word}
 use Rattle.asm_model.specs.declared.directives.DirectiveLine.TheVariants as line
 use Rattle.asm_model.specs.declared.exprs.ExprItem.{ExprItem}
 use Rattle.asm_model.specs.declared.exprs.ExprItem.TheVariants as item
@@ -33,10 +34,10 @@ abbrev local : List ℕ → Option (List ℕ)
 local digits = Some (124 ∷ digits)
 
 abbrev refers : List ℕ → What
-refers text = what.Directive (line.Dcd (record { items = item.Local text ∷ [] } ∷ []))
+refers text = what.Directive (line.Constants Word (record { items = item.Local text ∷ [] } ∷ []))
 
 abbrev names_it : List ℕ → What
-names_it name = what.Directive (line.Dcd (record { items = item.Name name ∷ [] } ∷ []))
+names_it name = what.Directive (line.Constants Word (record { items = item.Name name ∷ [] } ∷ []))
 
 -- the lines in order:
 --  AREA a,CODE

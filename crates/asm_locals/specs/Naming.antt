@@ -71,23 +71,29 @@ abbrev pub named_half : Targets → HalfOffset → HalfOffset
 named_half t (half.Number e) = half.Number (named t e)
 named_half t o = o
 
-abbrev pub named_transfer : Targets → ArmLine → ArmLine
-named_transfer t (arm.TransferImmediate condition load byte rd a) = arm.TransferImmediate condition load byte rd (named_address t a)
-named_transfer t (arm.TransferShifted condition load byte rd rn ix subtract rm by) =
-    arm.TransferShifted condition load byte rd rn ix subtract rm (named_shift t by)
-named_transfer t (arm.TransferHalf condition load kind rd rn ix o) =
-    arm.TransferHalf condition load kind rd rn ix (named_half t o)
-named_transfer t l = l
-
 abbrev pub named_arm : Targets → ArmLine → ArmLine
 named_arm t (arm.DataImmediate condition operation set_flags rd rn e) =
     arm.DataImmediate condition operation set_flags rd rn (named t e)
 named_arm t (arm.DataShifted condition operation set_flags rd rn rm by) =
     arm.DataShifted condition operation set_flags rd rn rm (named_shift t by)
 named_arm t (arm.WriteStatusImmediate condition saved fields e) = arm.WriteStatusImmediate condition saved fields (named t e)
+named_arm t (arm.TransferImmediate condition load byte rd a) = arm.TransferImmediate condition load byte rd (named_address t a)
+named_arm t (arm.TransferShifted condition load byte rd rn ix subtract rm by) =
+    arm.TransferShifted condition load byte rd rn ix subtract rm (named_shift t by)
+named_arm t (arm.TransferHalf condition load kind rd rn ix o) =
+    arm.TransferHalf condition load kind rd rn ix (named_half t o)
 named_arm t (arm.Branch condition link e) = arm.Branch condition link (named t e)
 named_arm t (arm.SoftwareInterrupt condition e) = arm.SoftwareInterrupt condition (named t e)
-named_arm t l = named_transfer t l
+named_arm t (arm.DataRegisterShifted condition operation set_flags rd rn rm kind rs) =
+    arm.DataRegisterShifted condition operation set_flags rd rn rm kind rs
+named_arm t (arm.Multiply condition accumulate set_flags rd rm rs rn) = arm.Multiply condition accumulate set_flags rd rm rs rn
+named_arm t (arm.MultiplyLong condition signed accumulate set_flags low high rm rs) =
+    arm.MultiplyLong condition signed accumulate set_flags low high rm rs
+named_arm t (arm.Swap condition byte rd rm rn) = arm.Swap condition byte rd rm rn
+named_arm t (arm.BranchExchange condition rm) = arm.BranchExchange condition rm
+named_arm t (arm.ReadStatus condition saved rd) = arm.ReadStatus condition saved rd
+named_arm t (arm.WriteStatus condition saved fields rm) = arm.WriteStatus condition saved fields rm
+named_arm t (arm.TransferBlock condition load mode rn write_back list user) = arm.TransferBlock condition load mode rn write_back list user
 
 abbrev pub named_operand : Targets → ThumbOperand → ThumbOperand
 named_operand t (operand.Number e) = operand.Number (named t e)
@@ -97,24 +103,26 @@ abbrev pub named_literal : Targets → LiteralAddress → LiteralAddress
 named_literal t (literal.Offset e) = literal.Offset (named t e)
 named_literal t (literal.Label e) = literal.Label (named t e)
 
-abbrev pub named_thumb_transfer : Targets → ThumbLine → ThumbLine
-named_thumb_transfer t (thumb.LoadLiteral rd a) = thumb.LoadLiteral rd (named_literal t a)
-named_thumb_transfer t (thumb.TransferImmediate load byte rd rn e) = thumb.TransferImmediate load byte rd rn (named t e)
-named_thumb_transfer t (thumb.TransferHalf load rd rn e) = thumb.TransferHalf load rd rn (named t e)
-named_thumb_transfer t (thumb.TransferStack load rd e) = thumb.TransferStack load rd (named t e)
-named_thumb_transfer t l = l
-
 abbrev pub named_thumb : Targets → ThumbLine → ThumbLine
 named_thumb t (thumb.ShiftImmediate by rd rs e) = thumb.ShiftImmediate by rd rs (named t e)
 named_thumb t (thumb.AddSubtract subtract rd rs o) = thumb.AddSubtract subtract rd rs (named_operand t o)
 named_thumb t (thumb.DataImmediate operation rd e) = thumb.DataImmediate operation rd (named t e)
+named_thumb t (thumb.LoadLiteral rd a) = thumb.LoadLiteral rd (named_literal t a)
+named_thumb t (thumb.TransferImmediate load byte rd rn e) = thumb.TransferImmediate load byte rd rn (named t e)
+named_thumb t (thumb.TransferHalf load rd rn e) = thumb.TransferHalf load rd rn (named t e)
+named_thumb t (thumb.TransferStack load rd e) = thumb.TransferStack load rd (named t e)
 named_thumb t (thumb.LoadAddress stack rd e) = thumb.LoadAddress stack rd (named t e)
 named_thumb t (thumb.AdjustStack subtract e) = thumb.AdjustStack subtract (named t e)
 named_thumb t (thumb.BranchConditional condition e) = thumb.BranchConditional condition (named t e)
 named_thumb t (thumb.SoftwareInterrupt e) = thumb.SoftwareInterrupt (named t e)
 named_thumb t (thumb.Branch e) = thumb.Branch (named t e)
 named_thumb t (thumb.BranchLink e) = thumb.BranchLink (named t e)
-named_thumb t l = named_thumb_transfer t l
+named_thumb t (thumb.DataRegister operation rd rs) = thumb.DataRegister operation rd rs
+named_thumb t (thumb.HighRegister operation rd rs) = thumb.HighRegister operation rd rs
+named_thumb t (thumb.TransferRegister load byte rd rn ro) = thumb.TransferRegister load byte rd rn ro
+named_thumb t (thumb.TransferSigned kind rd rn ro) = thumb.TransferSigned kind rd rn ro
+named_thumb t (thumb.PushPop load list) = thumb.PushPop load list
+named_thumb t (thumb.TransferMultiple load rn list) = thumb.TransferMultiple load rn list
 
 abbrev pub named_pseudo : Targets → PseudoLine → PseudoLine
 named_pseudo t (pseudo.LoadConstant condition rd e) = pseudo.LoadConstant condition rd (named t e)
@@ -134,31 +142,38 @@ abbrev pub named_register : Targets → RnOperand → RnOperand
 named_register t (rn.Register n) = rn.Register n
 named_register t (rn.Number e) = rn.Number (named t e)
 
-abbrev pub named_data : Targets → DirectiveLine → DirectiveLine
-named_data t (line.Dcd es) = line.Dcd (all_named t es)
-named_data t (line.Dcdu es) = line.Dcdu (all_named t es)
-named_data t (line.Dcw es) = line.Dcw (all_named t es)
-named_data t (line.Dcb es) = line.Dcb (all_named t es)
-named_data t (line.Space e) = line.Space (named t e)
-named_data t l = l
-
 abbrev pub named_directive : Targets → DirectiveLine → DirectiveLine
 named_directive t (line.Area name a) = line.Area name (named_attributes t a)
 named_directive t (line.Equ e) = line.Equ (named t e)
 named_directive t (line.Rn r) = line.Rn (named_register t r)
 named_directive t (line.Assert e) = line.Assert (named t e)
 named_directive t (line.Opt e) = line.Opt (named t e)
+named_directive t (line.Constants item es) = line.Constants item (all_named t es)
+named_directive t (line.Space e) = line.Space (named t e)
 named_directive t (line.Align b) = line.Align (named_boundary t b)
 named_directive t (line.Map e) = line.Map (named t e)
 named_directive t (line.Field e) = line.Field (named t e)
-named_directive t l = named_data t l
+named_directive t line.Entry = line.Entry
+named_directive t line.End = line.End
+named_directive t (line.Export name) = line.Export name
+named_directive t (line.Import name weak) = line.Import name weak
+named_directive t (line.Extern name weak) = line.Extern name weak
+named_directive t (line.Keep name) = line.Keep name
+named_directive t line.Rout = line.Rout
+named_directive t line.Nofp = line.Nofp
+named_directive t line.Ttl = line.Ttl
+named_directive t line.Subt = line.Subt
+named_directive t line.Ltorg = line.Ltorg
+named_directive t line.Data = line.Data
+named_directive t line.Code16 = line.Code16
+named_directive t line.Code32 = line.Code32
 
 abbrev pub named_what : Targets → What → What
+named_what t what.Nothing = what.Nothing
 named_what t (what.Arm l) = what.Arm (named_arm t l)
 named_what t (what.Thumb l) = what.Thumb (named_thumb t l)
 named_what t (what.Pseudo l) = what.Pseudo (named_pseudo t l)
 named_what t (what.Directive l) = what.Directive (named_directive t l)
-named_what t w = w
 
 -- ---- statements
 

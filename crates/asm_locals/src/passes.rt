@@ -8,8 +8,8 @@ ghost use Rattle.asm_locals.specs.Passes.{looked_ahead, looked_back, named_ahead
 ghost use Rattle.asm_locals.specs.declared.labels.Way.TheVariants as way;
 
 use crate::labels::{Nearest, Way, begins_stretch, local_number};
-use crate::lines::name_what;
 use crate::naming::hidden_name;
+use crate::statements::name_what;
 use asm_model::Statement;
 use sdt_fault::{NoMemory, Text};
 use std::alloc::Global;

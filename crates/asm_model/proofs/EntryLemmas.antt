@@ -11,7 +11,8 @@ use Rattle.asm_model.specs.Meaning.{named_in}
 use Rattle.asm_model.specs.Placing.{EntryHasSymbol, HaveSymbols}
 use Rattle.asm_model.specs.Entries.{equal_entry, EachHasSymbol}
 
-pub equal_names_have_symbols : (list : List LaidName) (here : Option ℕ) (c : ℕ) (cs : List ℕ) (r : Result Value LineKind) → EntryHasSymbol (equal_entry list here (c ∷ cs) r)
+pub equal_names_have_symbols : (list : List LaidName) (here : Option ℕ) (c : ℕ) (cs : List ℕ) (r : Result Value LineKind)
+    → EntryHasSymbol (equal_entry list here (c ∷ cs) r)
 equal_names_have_symbols list here c cs (Ok (Place [] n)) = tt
 equal_names_have_symbols list here c cs (Ok (Place (d ∷ ds) n)) = tt
 equal_names_have_symbols list here c cs (Ok (Number n)) = tt

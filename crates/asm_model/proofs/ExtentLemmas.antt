@@ -12,12 +12,11 @@ use Rattle.asm_model.specs.declared.thumb_lines.ThumbLine.{ThumbLine}
 use Rattle.asm_model.specs.declared.thumb_lines.ThumbLine.TheVariants as thumb
 use Rattle.asm_model.specs.declared.directives.Boundary.{Boundary}
 use Rattle.asm_model.specs.declared.directives.Boundary.TheVariants as limit
-use Rattle.asm_model.specs.declared.directives.DirectiveLine.{DirectiveLine}
-use Rattle.asm_model.specs.declared.directives.DirectiveLine.TheVariants as line
 use Rattle.asm_model.specs.declared.names.Names.{Names}
-use Rattle.asm_model.specs.Says.{on_both, mapped}
-use Rattle.asm_model.specs.Extents.{Extent, Block, Padding, Loading, number_there, literal_there, is_moved, instruction, loading, thumb_extent, pseudo_extent, as_multiple, padding, directive_extent, extent_of, pseudo_alignment, directive_alignment, alignment}
+use Rattle.asm_model.specs.Extents.{Extent, Block, Padding, Loading, number_there, literal_there, is_moved, instruction, loading, thumb_extent, pseudo_extent, as_multiple, padding, occupied_extent, extent_of, pseudo_alignment, occupied_alignment, alignment}
+use Rattle.asm_model.specs.Occupied.{Occupied, Unplaced, Opening, Marking, Entering, Items, Zeroes, UpTo, Literals, occupied}
 use Rattle.asm_model.specs.Offsets.{alignment_of}
+use Rattle.asm_model.specs.Readings.{mapped, on_both}
 
 abbrev AlignsAs : List Value → ℕ → Result Extent LineKind → Type 0
 AlignsAs literals a (Ok e) = alignment_of literals e ≡ a
@@ -75,23 +74,22 @@ pub aligns_entry : (literals : List Value) (thumb : Bool) → alignment_of liter
 aligns_entry literals true = refl
 aligns_entry literals false = refl
 
-pub aligns_directive : (s : Names) (literals : List Value) (l : DirectiveLine) → AlignsAs literals (directive_alignment s.thumb literals l) (directive_extent s l)
-aligns_directive s literals line.Entry = aligns_entry literals s.thumb
-aligns_directive s literals (line.Space e) = aligns_mapped literals 1 (λ n. Block 1 n) (number_there s e) (λ x. refl)
-aligns_directive s literals (line.Align b) = aligns_padding s literals b
-aligns_directive s literals (line.Dcd es) = refl
-aligns_directive s literals (line.Dcdu es) = refl
-aligns_directive s literals (line.Dcw es) = refl
-aligns_directive s literals (line.Dcb es) = refl
-aligns_directive s literals line.Ltorg = refl
-aligns_directive s literals l = refl
+pub aligns_occupied : (s : Names) (literals : List Value) (o : Occupied) → AlignsAs literals (occupied_alignment s.thumb literals o) (occupied_extent s o)
+aligns_occupied s literals Unplaced = refl
+aligns_occupied s literals (Opening a) = refl
+aligns_occupied s literals Marking = refl
+aligns_occupied s literals Entering = aligns_entry literals s.thumb
+aligns_occupied s literals (Items item es) = refl
+aligns_occupied s literals (Zeroes e) = aligns_mapped literals 1 (λ n. Block 1 n) (number_there s e) (λ x. refl)
+aligns_occupied s literals (UpTo b) = aligns_padding s literals b
+aligns_occupied s literals Literals = refl
 
 pub aligns : (s : Names) (literals : List Value) (w : What) → AlignsAs literals (alignment s.thumb literals w) (extent_of s w)
 aligns s literals what.Nothing = refl
 aligns s literals (what.Arm l) = refl
 aligns s literals (what.Thumb l) = aligns_thumb literals l
 aligns s literals (what.Pseudo l) = aligns_pseudo s literals l
-aligns s literals (what.Directive l) = aligns_directive s literals l
+aligns s literals (what.Directive l) = aligns_occupied s literals (occupied l)
 
 pub alignments_agree : (s : Names) (w : What) (literals : List Value) (e : Extent)
     → extent_of s w ≡ Ok e → alignment_of literals e ≡ alignment s.thumb literals w

@@ -1,7 +1,6 @@
 -- What is told of sets of kinds.
 use Rattle.std.proofs.Common.{◌≡◌, ℕ, ◌≤◌, List, [], ◌∷◌, ◌++◌, Bool, true, false, refl, sym, ◌∙◌, ap, subst, arith, inl, inr, map, Option, Some, None}
-use Rattle.std.specs.Prelude.{◌⊎◌, Result, Ok, Err, nat_lt, MatchBool}
-use Rattle.std.proofs.lemmas.Bool.{cond-true, cond-false, ltb-true, ltb-false, lt-ltb, le-ltb}
+use Rattle.std.specs.Prelude.{◌⊎◌, Result, Ok, Err, MatchBool}
 use Rattle.sdt_fault.specs.declared.kinds.LineKind.{LineKind}
 use Rattle.sdt_fault.specs.declared.kinds.LineKind.TheVariants.{Syntax}
 use Rattle.asm_model.specs.declared.lines.Flat.{Flat}
@@ -17,59 +16,18 @@ use Rattle.asm_model.specs.declared.directives.DirectiveLine.{DirectiveLine}
 use Rattle.asm_model.specs.declared.directives.DirectiveLine.TheVariants as line
 use Rattle.asm_model.specs.declared.directives.Boundary.TheVariants as limit
 use Rattle.asm_model.specs.declared.statements.Statement.{Statement}
-use Rattle.asm_model.specs.Areas.{ReadsAttribute, ReadsAttributes, word_attribute, begins_alignment, alignment, joined, attributes_written}
+use Rattle.asm_model.specs.Areas.{ReadsAttribute, ReadsAttributes, word_attribute, begins_alignment, alignment, attributes_written, listed}
 use Rattle.asm_model.specs.Directives.{label_need}
 use Rattle.asm_model.specs.FaultSets.{IsToldOf, fault, first_told, Among, FailsBefore, FailsBetween, HasKind, OperandsKind, SomeOperandsKind, ImportKind, AttributeKind, AttributesKind, AreaKind, RegisterKind, BoundaryKind, FormKind, SentenceKind, DirectiveKind}
 use Rattle.asm_model.specs.Grammar.{Tree, Leaf, Before, Between, Parses, ParsesTokens}
 use Rattle.asm_model.specs.Kinds.{rank, earlier, earliest, told_kind}
-use Rattle.asm_model.specs.Meaning as meanings
-use Rattle.asm_model.specs.Meaning.{unary_of, binary, applied, known, operand_of_item, meaning, then_of}
+use Rattle.asm_model.specs.Meaning.{unary_of, binary, applied, known, operand_of_item, meaning}
 use Rattle.asm_model.specs.Operands.{operands}
 use Rattle.asm_model.specs.Parts.{piece, part_of}
-use Rattle.asm_model.specs.Says.{Form, bare, name, imported, expression, expressions, area, register, boundary, refused, form_of_directive, on_both, mapped, bare_of, name_of, name_alone, weak_mark, import_of, register_alone, Expression, Expressions, SomeExpressions, Area, Register, Aligned, Reads, label_field, Sentence, sentence, directive_of, statement_of, SaysAs, SaysDirective}
+use Rattle.asm_model.specs.Readings.{and_then, mapped, on_both, then_both}
+use Rattle.asm_model.specs.Says.{Form, bare, name, imported, expression, expressions, area, register, boundary, refused, form_of_directive, bare_of, name_of, name_alone, weak_mark, import_of, register_alone, Expression, Expressions, SomeExpressions, Area, Register, Aligned, Reads, label_field, Sentence, sentence, directive_of, statement_of, SaysAs, SaysDirective}
+use Rattle.asm_model.proofs.KindLemmas.{is_earlier, earlier_assoc}
 use Rattle.asm_model.proofs.LineLemmas.{applied_known}
-
--- ---- the order of kinds
-
-pub takes : (a b : LineKind) → nat_lt (rank b) (rank a) ≡ true → earlier a b ≡ b
-takes a b h = cond-true (nat_lt (rank b) (rank a)) b a h
-
-pub stays : (a b : LineKind) → nat_lt (rank b) (rank a) ≡ false → earlier a b ≡ a
-stays a b h = cond-false (nat_lt (rank b) (rank a)) b a h
-
--- the earlier of two is one of them, and no later than both
-pub record IsEarlier (a b c : LineKind) : Type 0 where
-  one : (c ≡ a) ⊎ (c ≡ b)
-  first : rank c ≤ rank a
-  second : rank c ≤ rank b
-
-pub is_earlier : (a b : LineKind) → IsEarlier a b (earlier a b)
-is_earlier a b = by_test (nat_lt (rank b) (rank a)) refl
-  where
-    by_test : (t : Bool) → nat_lt (rank b) (rank a) ≡ t → IsEarlier a b (earlier a b)
-    by_test true t =
-        let before = ltb-true (rank b) (rank a) t in
-        rw (takes a b t) (record { one = inr refl; first = omega arith; second = omega arith })
-    by_test false t =
-        let behind = ltb-false (rank b) (rank a) t in
-        rw (stays a b t) (record { one = inl refl; first = omega arith; second = omega arith })
-
-pub below_trans : (x y z : ℕ) → nat_lt y x ≡ true → nat_lt z y ≡ true → nat_lt z x ≡ true
-below_trans x y z h k = let a = ltb-true y x h in let b = ltb-true z y k in lt-ltb z x (omega arith)
-
-pub above_trans : (x y z : ℕ) → nat_lt y x ≡ false → nat_lt z y ≡ false → nat_lt z x ≡ false
-above_trans x y z h k = let a = ltb-false y x h in let b = ltb-false z y k in le-ltb z x (omega arith)
-
-pub earlier_assoc : (a b c : LineKind) → earlier a (earlier b c) ≡ earlier (earlier a b) c
-earlier_assoc a b c = by_tests (nat_lt (rank b) (rank a)) (nat_lt (rank c) (rank b)) refl refl
-  where
-    by_tests : (p q : Bool) → nat_lt (rank b) (rank a) ≡ p → nat_lt (rank c) (rank b) ≡ q → earlier a (earlier b c) ≡ earlier (earlier a b) c
-    by_tests true true p q =
-        ap (earlier a) (takes b c q) ∙ takes a c (below_trans (rank a) (rank b) (rank c) p q) ∙ sym (takes b c q) ∙ ap (λ x. earlier x c) (sym (takes a b p))
-    by_tests true false p q = ap (earlier a) (stays b c q) ∙ takes a b p ∙ sym (stays b c q) ∙ ap (λ x. earlier x c) (sym (takes a b p))
-    by_tests false true p q = ap (earlier a) (takes b c q) ∙ ap (λ x. earlier x c) (sym (stays a b p))
-    by_tests false false p q =
-        ap (earlier a) (stays b c q) ∙ stays a b p ∙ sym (stays a c (above_trans (rank a) (rank b) (rank c) p q)) ∙ ap (λ x. earlier x c) (sym (stays a b p))
 
 -- ---- sets
 
@@ -133,7 +91,7 @@ told_of_all (k ∷ ks) =
 -- ---- values
 
 pub told_before : (op : UnaryOp) (A : LineKind → Type 0) (x : Result Value LineKind) → IsToldOf (fault x) A
-    → IsToldOf (fault (then_of x (unary_of op))) (λ k. A k ⊎ FailsBefore op x k)
+    → IsToldOf (fault (and_then x (unary_of op))) (λ k. A k ⊎ FailsBefore op x k)
 told_before op A (Err k) p =
     (inl p.0, λ j h. elim h [ inl a ↦ p.1 j a | inr f ↦ (let clash = f.1 in absurd (cc)) ])
 told_before op A (Ok v) p = by_value (unary_of op v) refl
@@ -149,7 +107,7 @@ told_before op A (Ok v) p = by_value (unary_of op v) refl
     )
 
 pub told_between : (names : Names) (op : BinaryOp) (A B : LineKind → Type 0) (x y : Result Value LineKind) → IsToldOf (fault x) A → IsToldOf (fault y) B
-    → IsToldOf (fault (meanings.on_both x y (binary names op))) (λ k. A k ⊎ (B k ⊎ FailsBetween names op x y k))
+    → IsToldOf (fault (then_both x y (binary names op))) (λ k. A k ⊎ (B k ⊎ FailsBetween names op x y k))
 told_between names op A B (Ok v) (Err k) p q = (
   inr (inl q.0),
   λ j h. elim h [
@@ -192,9 +150,11 @@ pub told_of_values : (names : Names) (t : Tree) → IsToldOf (fault (meaning nam
 told_of_values names (Leaf i) = told_self (known (operand_of_item names i))
 told_of_values names (Before op (Leaf i)) = told_self (applied op (operand_of_item names i))
 told_of_values names (Before op (Before o t)) =
-    rw (applied_known op (meaning names (Before o t))) (told_before op (HasKind names (Before o t)) (meaning names (Before o t)) (told_of_values names (Before o t)))
+    rw (applied_known op (meaning names (Before o t))) (told_before op (HasKind names (Before o t)) (meaning names (Before o t))
+    (told_of_values names (Before o t)))
 told_of_values names (Before op (Between o t u)) =
-    rw (applied_known op (meaning names (Between o t u))) (told_before op (HasKind names (Between o t u)) (meaning names (Between o t u)) (told_of_values names (Between o t u)))
+    rw (applied_known op (meaning names (Between o t u))) (told_before op (HasKind names (Between o t u)) (meaning names (Between o t u))
+    (told_of_values names (Between o t u)))
 told_of_values names (Between op t u) =
     told_between names op (HasKind names t) (HasKind names u) (meaning names t) (meaning names u) (told_of_values names t) (told_of_values names u)
 
@@ -212,13 +172,6 @@ told_both f (Ok x) (Err j) A B p q = told_union None (Some j) A B p q
 told_both f (Err k) (Ok y) A B p q = told_union (Some k) None A B p q
 told_both f (Err k) (Err j) A B p q = told_union (Some k) (Some j) A B p q
 
-pub told_joined : (r : Result (Option Expr) LineKind) (s : Result (List Expr) LineKind) (A B : LineKind → Type 0)
-    → IsToldOf (fault r) A → IsToldOf (fault s) B → IsToldOf (fault (joined r s)) (λ k. A k ⊎ B k)
-told_joined (Ok x) (Ok y) A B p q = told_union None None A B p q
-told_joined (Ok x) (Err j) A B p q = told_union None (Some j) A B p q
-told_joined (Err k) (Ok y) A B p q = told_union (Some k) None A B p q
-told_joined (Err k) (Err j) A B p q = told_union (Some k) (Some j) A B p q
-
 pub not_parsed : (ps : List Part) (e : Expr) (k : LineKind) → Parses ps (Ok e) → Parses ps (Err k) → ⊥
 not_parsed ps e k p q = q.1 p.0 p.1
 
@@ -233,19 +186,23 @@ pub told_expression : {X : Type 0} (text : List ℕ) (make : Expr → X) (ts : L
     → IsToldOf (fault r) (λ k. ParsesTokens text ts (Err k))
 told_expression text make ts r p = rw (p.2) (told_mapped make p.0 (λ k. ParsesTokens text ts (Err k)) (told_parsed text ts p.0 p.1))
 
-pub told_expressions : (text : List ℕ) (os : List (List Token)) (r : Result (List Expr) LineKind) → Expressions text os r → IsToldOf (fault r) (OperandsKind text os)
+pub told_expressions : (text : List ℕ) (os : List (List Token)) (r : Result (List Expr) LineKind) → Expressions text os r
+    → IsToldOf (fault r) (OperandsKind text os)
 told_expressions text [] r p = rw p (λ k h. h)
 told_expressions text (o ∷ os) r p =
-    rw (p.4) (told_both (λ x xs. x ∷ xs) p.0 p.1 (λ k. ParsesTokens text o (Err k)) (OperandsKind text os) (told_parsed text o p.0 p.2) (told_expressions text os p.1 p.3))
+    rw (p.4) (told_both (λ x xs. x ∷ xs) p.0 p.1 (λ k. ParsesTokens text o (Err k)) (OperandsKind text os) (told_parsed text o p.0 p.2)
+    (told_expressions text os p.1 p.3))
 
-pub told_some : (text : List ℕ) (os : List (List Token)) (r : Result (List Expr) LineKind) → SomeExpressions text os r → IsToldOf (fault r) (SomeOperandsKind text os)
+pub told_some : (text : List ℕ) (os : List (List Token)) (r : Result (List Expr) LineKind) → SomeExpressions text os r
+    → IsToldOf (fault r) (SomeOperandsKind text os)
 told_some text [] r p = rw p (told_kind_alone Syntax)
 told_some text (o ∷ os) r p = told_expressions text (o ∷ os) r p
 
 pub told_import : (text : List ℕ) (ts : List Token) → IsToldOf (fault (import_of text ts)) (ImportKind text ts)
 told_import text [] = told_kind_alone Syntax
 told_import text (t ∷ ts) =
-    told_both (λ n weak. (n, weak)) (name_of t.kind (piece text t)) (weak_mark text ts) (λ k. name_of t.kind (piece text t) ≡ Err k) (λ k. weak_mark text ts ≡ Err k)
+    told_both (λ n weak. (n, weak)) (name_of t.kind (piece text t)) (weak_mark text ts) (λ k. name_of t.kind (piece text t) ≡ Err k)
+    (λ k. weak_mark text ts ≡ Err k)
     (told_self (name_of t.kind (piece text t))) (told_self (weak_mark text ts))
 
 pub told_alignment : (text : List ℕ) (ts : List Token) (b : Bool) (r : Result (Option Expr) LineKind)
@@ -263,10 +220,12 @@ told_attribute text [] r p = rw p (told_kind_alone Syntax)
 told_attribute text (t ∷ []) r p = rw p (told_self (word_attribute t.kind (piece text t)))
 told_attribute text (t ∷ u ∷ ts) r p = told_alignment text ts (begins_alignment text t u) r p
 
-pub told_attributes : (text : List ℕ) (os : List (List Token)) (r : Result (List Expr) LineKind) → ReadsAttributes text os r → IsToldOf (fault r) (AttributesKind text os)
+pub told_attributes : (text : List ℕ) (os : List (List Token)) (r : Result (List Expr) LineKind) → ReadsAttributes text os r
+    → IsToldOf (fault r) (AttributesKind text os)
 told_attributes text [] r p = rw p (λ k h. h)
 told_attributes text (o ∷ os) r p =
-    rw (p.4) (told_joined p.0 p.1 (AttributeKind text o) (AttributesKind text os) (told_attribute text o p.0 p.2) (told_attributes text os p.1 p.3))
+    rw (p.4) (told_both (λ e es. listed e ++ es) p.0 p.1 (AttributeKind text o) (AttributesKind text os) (told_attribute text o p.0 p.2)
+    (told_attributes text os p.1 p.3))
 
 pub told_area : (text : List ℕ) (os : List (List Token)) (r : Result DirectiveLine LineKind) → Area text os r → IsToldOf (fault r) (AreaKind text os)
 told_area text [] r p = rw p (told_kind_alone Syntax)
@@ -275,7 +234,8 @@ told_area text (o ∷ os) r p =
     (λ k. name_alone text o ≡ Err k) (AttributesKind text os) (told_self (name_alone text o))
     (told_mapped (attributes_written text os) p.0 (AttributesKind text os) (told_attributes text os p.0 p.1)))
 
-pub told_register : (text : List ℕ) (n : Option ℕ) (ts : List Token) (r : Result DirectiveLine LineKind) → Register text n ts r → IsToldOf (fault r) (RegisterKind text n ts)
+pub told_register : (text : List ℕ) (n : Option ℕ) (ts : List Token) (r : Result DirectiveLine LineKind) → Register text n ts r
+    → IsToldOf (fault r) (RegisterKind text n ts)
 told_register text (Some n) ts r p = rw p (λ k h. h)
 told_register text None ts r p = told_expression text _ ts r p
 
@@ -287,7 +247,8 @@ told_boundary text (o ∷ u ∷ []) r p =
     (λ k. ParsesTokens text o (Err k)) (λ k. ParsesTokens text u (Err k)) (told_parsed text o p.0 p.2) (told_parsed text u p.1 p.3))
 told_boundary text (o ∷ u ∷ v ∷ os) r p = rw p (told_kind_alone Syntax)
 
-pub told_form : (text : List ℕ) (form : Form) (ts : List Token) (r : Result DirectiveLine LineKind) → Reads text form ts r → IsToldOf (fault r) (FormKind text form ts)
+pub told_form : (text : List ℕ) (form : Form) (ts : List Token) (r : Result DirectiveLine LineKind) → Reads text form ts r
+    → IsToldOf (fault r) (FormKind text form ts)
 told_form text (bare l) ts r p = rw p (told_self (bare_of l ts))
 told_form text (name make) ts r p = rw p (told_mapped make (name_alone text ts) (λ k. name_alone text ts ≡ Err k) (told_self (name_alone text ts)))
 told_form text (imported make) ts r p = rw p (told_mapped (λ i. make i.0 i.1) (import_of text ts) (ImportKind text ts) (told_import text ts))
@@ -299,12 +260,14 @@ told_form text register ts r p = told_register text (register_alone text ts) ts 
 told_form text boundary ts r p = told_boundary text (operands text ts) r p
 told_form text (refused k) ts r p = rw p (told_kind_alone k)
 
-pub told_sentence : (flat : Flat) (s : Sentence) (d : Option Directive) (r : Result (Option Statement) LineKind) → SaysAs flat s d r → IsToldOf (fault r) (SentenceKind flat s d)
+pub told_sentence : (flat : Flat) (s : Sentence) (d : Option Directive) (r : Result (Option Statement) LineKind) → SaysAs flat s d r
+    → IsToldOf (fault r) (SentenceKind flat s d)
 told_sentence flat s None r p = rw p (λ k h. h)
 told_sentence flat s (Some d) r p =
     rw (p.2) (told_both (statement_of flat) (label_field (label_need d) flat.text s.label) p.0
     (λ k. label_field (label_need d) flat.text s.label ≡ Err k) (FormKind flat.text (form_of_directive d) s.behind)
     (told_self (label_field (label_need d) flat.text s.label)) (told_form flat.text (form_of_directive d) s.behind p.0 p.1))
 
-pub told_of_directives : (flat : Flat) (ts : List Token) (r : Result (Option Statement) LineKind) → SaysDirective flat ts r → IsToldOf (fault r) (DirectiveKind flat ts)
+pub told_of_directives : (flat : Flat) (ts : List Token) (r : Result (Option Statement) LineKind) → SaysDirective flat ts r
+    → IsToldOf (fault r) (DirectiveKind flat ts)
 told_of_directives flat ts r p = told_sentence flat (sentence ts) (directive_of flat.text (sentence ts).operation) r p

@@ -12,6 +12,7 @@ use Rattle.asm_model.specs.declared.statements.What.TheVariants as what
 use Rattle.asm_model.specs.declared.statements.PseudoLine.TheVariants as pseudo
 use Rattle.asm_model.specs.declared.directives.Contents.{Contents}
 use Rattle.asm_model.specs.declared.directives.Contents.TheVariants as contents
+use Rattle.asm_model.specs.declared.directives.DataItem.TheVariants as datum
 use Rattle.asm_model.specs.declared.directives.DirectiveLine.{DirectiveLine}
 use Rattle.asm_model.specs.declared.directives.DirectiveLine.TheVariants as line
 use Rattle.asm_model.specs.LayoutKinds.{layout_fault}
@@ -38,7 +39,7 @@ abbrev name : List ℕ → Expr
 name s = record { items = item.Name s ∷ [] }
 
 abbrev words : ℕ → Option (List ℕ) → Statement
-words n label = says n label (line.Dcd (number 1 ∷ []))
+words n label = says n label (line.Constants datum.Word (number 1 ∷ []))
 
 abbrev numbered : Option (Statement × LineKind) → Option (ℕ × LineKind)
 numbered None = None
@@ -63,7 +64,8 @@ place_before_area = refl
 pub two_labels : told (words 3 (Some (codes "x")) ∷ words 2 (Some (codes "x")) ∷ area 1 contents.Code false ∷ []) ≡ Some (3, DuplicateName)
 two_labels = refl
 
-pub imported_label : told (says 3 None (line.Import (codes "x") (Some false)) ∷ words 2 (Some (codes "x")) ∷ area 1 contents.Code false ∷ []) ≡ Some (3, DuplicateName)
+pub imported_label : told (says 3 None (line.Import (codes "x") (Some false)) ∷ words 2 (Some (codes "x")) ∷ area 1 contents.Code false ∷ []) ≡ Some
+    (3, DuplicateName)
 imported_label = refl
 
 pub two_entries : told (words 4 None ∷ says 3 None line.Entry ∷ says 2 None line.Entry ∷ area 1 contents.Code false ∷ []) ≡ Some (3, DuplicateName)
@@ -77,7 +79,8 @@ pub entry_in_data : told (words 3 None ∷ says 2 None line.Entry ∷ area 1 con
 entry_in_data = refl
 
 -- ENTRY's state is judged at its line; without an instruction the area counts as ARM
-pub entry_and_label : told (words 5 (Some (codes "x")) ∷ words 4 (Some (codes "x")) ∷ says 3 None line.Entry ∷ says 2 None line.Code16 ∷ area 1 contents.Code false ∷ []) ≡ Some (3, BadOperand)
+pub entry_and_label : told (words 5 (Some (codes "x")) ∷ words 4 (Some (codes "x")) ∷ says 3 None line.Entry ∷ says 2 None line.Code16
+    ∷ area 1 contents.Code false ∷ []) ≡ Some (3, BadOperand)
 entry_and_label = refl
 
 -- and its place where no line has a fault of its own
@@ -101,7 +104,8 @@ other_again = refl
 pub data_among_zeroes : told (words 3 None ∷ says 2 None (line.Space (number 4)) ∷ area 1 contents.Zeroes false ∷ []) ≡ Some (3, BadOperand)
 data_among_zeroes = refl
 
-pub names_in_a_circle : told (says 2 (Some (codes "f")) (line.Equ (name (codes "e"))) ∷ says 1 (Some (codes "e")) (line.Equ (name (codes "f"))) ∷ []) ≡ Some (1, Forward)
+pub names_in_a_circle : told (says 2 (Some (codes "f")) (line.Equ (name (codes "e"))) ∷ says 1 (Some (codes "e")) (line.Equ (name (codes "f"))) ∷ []) ≡ Some
+    (1, Forward)
 names_in_a_circle = refl
 
 pub later_name : told (says 2 (Some (codes "f")) (line.Equ (number 1)) ∷ says 1 (Some (codes "e")) (line.Equ (name (codes "f"))) ∷ []) ≡ None
@@ -119,6 +123,13 @@ larger_area = refl
 -- the pool at the area's end ends behind the limit
 pub larger_pool : told
     (says 3 None (line.Space (number 0xFFFFFC))
-    ∷ record { source = codes "t.s"; number = 2; label = None; what = what.Pseudo (pseudo.LoadConstant Al (register.Number 0) (name (codes "x"))); is_long = false }
+    ∷ record {
+      source = codes "t.s";
+      number = 2;
+      label = None;
+      what = what.Pseudo (pseudo.LoadConstant Al (register.Number 0) (name (codes "x")));
+      is_long =
+          false;
+    }
     ∷ area 1 contents.Code false ∷ []) ≡ Some (2, TooMany)
 larger_pool = refl

@@ -16,17 +16,16 @@ use Rattle.asm_model.specs.declared.thumb_lines.ThumbLine.{ThumbLine}
 use Rattle.asm_model.specs.declared.thumb_lines.ThumbLine.TheVariants as thumb
 use Rattle.asm_model.specs.declared.directives.Boundary.{Boundary}
 use Rattle.asm_model.specs.declared.directives.Boundary.TheVariants as limit
-use Rattle.asm_model.specs.declared.directives.DirectiveLine.{DirectiveLine}
-use Rattle.asm_model.specs.declared.directives.DirectiveLine.TheVariants as line
 use Rattle.asm_model.specs.AtLine.{kept_names, literal_or}
 use Rattle.asm_model.specs.Meaning.{meaning}
 use Rattle.asm_model.specs.Grammar.{Tree}
-use Rattle.asm_model.specs.Says.{on_both, mapped}
 use Rattle.asm_model.specs.Before.{area_behind}
-use Rattle.asm_model.specs.Extents.{Extent, Block, Padding, Loading, number_there, literal_there, tree_literal, is_moved, instruction, loading, thumb_extent, pseudo_extent, as_multiple, padding, directive_extent, extent_of}
+use Rattle.asm_model.specs.Extents.{Extent, Block, Padding, Loading, number_there, literal_there, tree_literal, is_moved, instruction, loading, thumb_extent, pseudo_extent, as_multiple, padding, occupied_extent, extent_of}
 use Rattle.asm_model.specs.Laid.{LaidLine, statements_of, pieces_of, taken, aligned_end, names_behind, laid_behind}
+use Rattle.asm_model.specs.Occupied.{Occupied, Unplaced, Opening, Marking, Entering, Items, Zeroes, UpTo, Literals, occupied}
 use Rattle.asm_model.specs.OffsetLaws.{IsLiteral}
 use Rattle.asm_model.specs.Offsets.{Piece, raised, waiting, end_behind, offset_of, size_behind}
+use Rattle.asm_model.specs.Readings.{mapped, on_both}
 use Rattle.asm_model.specs.Trees.{tree_of}
 use Rattle.asm_model.proofs.ExtentLemmas.{alignments_agree}
 
@@ -85,7 +84,8 @@ pub loads_mapped : {A : Type 0} (f : A → Extent) (r : Result A LineKind) → (
 loads_mapped f (Ok x) h = h x
 loads_mapped f (Err k) h = tt
 
-pub loads_both : {A B : Type 0} (f : A → B → Extent) (r : Result A LineKind) (q : Result B LineKind) → ((x : A) (y : B) → LoadsLiteral (f x y)) → OkLoads (on_both f r q)
+pub loads_both : {A B : Type 0} (f : A → B → Extent) (r : Result A LineKind) (q : Result B LineKind) → ((x : A) (y : B) → LoadsLiteral (f x y))
+    → OkLoads (on_both f r q)
 loads_both f (Ok x) (Ok y) h = h x y
 loads_both f (Ok x) (Err k) h = tt
 loads_both f (Err k) (Ok y) h = tt
@@ -132,23 +132,22 @@ pub loads_entry : (thumb : Bool) → LoadsLiteral (cond thumb (Block 2 0) (Block
 loads_entry true = tt
 loads_entry false = tt
 
-pub loads_directive : (s : Names) (l : DirectiveLine) → OkLoads (directive_extent s l)
-loads_directive s line.Entry = loads_entry s.thumb
-loads_directive s (line.Space e) = loads_mapped (λ n. Block 1 n) (number_there s e) (λ x. tt)
-loads_directive s (line.Align b) = loads_padding s b
-loads_directive s (line.Dcd es) = tt
-loads_directive s (line.Dcdu es) = tt
-loads_directive s (line.Dcw es) = tt
-loads_directive s (line.Dcb es) = tt
-loads_directive s line.Ltorg = tt
-loads_directive s l = tt
+pub loads_occupied : (s : Names) (o : Occupied) → OkLoads (occupied_extent s o)
+loads_occupied s Unplaced = tt
+loads_occupied s (Opening a) = tt
+loads_occupied s Marking = tt
+loads_occupied s Entering = loads_entry s.thumb
+loads_occupied s (Items item es) = tt
+loads_occupied s (Zeroes e) = loads_mapped (λ n. Block 1 n) (number_there s e) (λ x. tt)
+loads_occupied s (UpTo b) = loads_padding s b
+loads_occupied s Literals = tt
 
 pub loads : (s : Names) (w : What) → OkLoads (extent_of s w)
 loads s what.Nothing = tt
 loads s (what.Arm l) = tt
 loads s (what.Thumb l) = loads_thumb l
 loads s (what.Pseudo l) = loads_pseudo s l
-loads s (what.Directive l) = loads_directive s l
+loads s (what.Directive l) = loads_occupied s (occupied l)
 
 pub loadings_are_literals : (s : Names) (w : What) (n : ℕ) (v : Value) → extent_of s w ≡ Ok (Loading n v) → IsLiteral v
 loadings_are_literals s w n v h = subst OkLoads h (loads s w)

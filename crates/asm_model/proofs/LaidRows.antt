@@ -14,6 +14,7 @@ use Rattle.asm_model.specs.declared.statements.What.TheVariants as what
 use Rattle.asm_model.specs.declared.statements.PseudoLine.TheVariants as pseudo
 use Rattle.asm_model.specs.declared.directives.Contents.{Contents}
 use Rattle.asm_model.specs.declared.directives.Contents.TheVariants as contents
+use Rattle.asm_model.specs.declared.directives.DataItem.TheVariants as datum
 use Rattle.asm_model.specs.declared.directives.DirectiveLine.TheVariants as line
 use Rattle.asm_model.specs.Meaning.{named_in}
 use Rattle.asm_model.specs.Entries.{label_entry, place_entry, valued_entry}
@@ -60,10 +61,11 @@ branch e = what.Arm (arm.Branch Al false e)
 -- the last line first
 abbrev source : List Statement
 source =
-    says (Some (codes "end")) (what.Directive (line.Dcd (items (name (codes "out") ∷ []) ∷ items (name (codes "far") ∷ []) ∷ items (name (codes "x") ∷ []) ∷ [])))
+    says (Some (codes "end")) (what.Directive (line.Constants datum.Word (items (name (codes "out") ∷ []) ∷ items (name (codes "far") ∷ [])
+    ∷ items (name (codes "x") ∷ []) ∷ [])))
     ∷ area (codes "a") contents.Code
     ∷ says None (what.Directive (line.Import (codes "far") (Some false)))
-    ∷ says (Some (codes "x")) (what.Directive (line.Dcb (items (item.Constant (Words (codes "abc")) ∷ []) ∷ [])))
+    ∷ says (Some (codes "x")) (what.Directive (line.Constants datum.Byte (items (item.Constant (Words (codes "abc")) ∷ []) ∷ [])))
     ∷ area (codes "b") contents.Data
     ∷ says (Some (codes "out")) (what.Directive (line.Equ (items (item.Here ∷ []))))
     ∷ says (Some (codes "n")) (what.Directive (line.Equ (items (name (codes "end") ∷ name (codes "start") ∷ item.Binary op.Subtract ∷ []))))

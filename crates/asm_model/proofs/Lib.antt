@@ -1,4 +1,5 @@
 pub mod FaultLemmas
+pub mod KindLemmas
 pub mod LineLemmas
 pub mod LineRows
 pub mod Rows
@@ -16,3 +17,5 @@ pub mod PlacedLemmas
 pub mod PlacingLemmas
 pub mod TreeLemmas
 pub mod SharedLemmas
+pub mod PartLemmas
+pub mod SaidLemmas

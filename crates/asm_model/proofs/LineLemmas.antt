@@ -8,7 +8,8 @@ use Rattle.asm_model.specs.declared.values.Value.{Value}
 use Rattle.asm_model.specs.declared.names.LaidName.{LaidName}
 use Rattle.asm_model.specs.AtLine.{HoldsEach}
 use Rattle.asm_model.specs.Forms.{same}
-use Rattle.asm_model.specs.Meaning.{named_in, as_number, unary_of, Known, then_of, applied}
+use Rattle.asm_model.specs.Meaning.{named_in, as_number, unary_of, Known, applied}
+use Rattle.asm_model.specs.Readings.{and_then}
 
 -- ---- names in lists
 
@@ -35,7 +36,7 @@ pub number_more : (a b : Result ℕ LineKind) (v : Value) → ((n : ℕ) → a �
 number_more (Ok n) b v more h = ap as_number (more n refl) ∙ h
 number_more (Err k) b v more h = absurd (cc)
 
-pub applied_known : (op : UnaryOp) (x : Result Value LineKind) → applied op (Known x) ≡ then_of x (unary_of op)
+pub applied_known : (op : UnaryOp) (x : Result Value LineKind) → applied op (Known x) ≡ and_then x (unary_of op)
 applied_known unary.Size x = refl
 applied_known unary.Defined x = refl
 applied_known op x = refl

@@ -192,10 +192,12 @@ word_inside area before (s ∷ rest) v h =
         → cond b (word_behind area before v) (literal_word area (s ∷ before) rest v) + 4 ≤ area_size area (joined (s ∷ before) rest)
     by_test true e later =
         through (word_behind area before v + 4) (end_behind area (s ∷ before)) (area_size area (joined (s ∷ before) rest))
-        (subst (λ z. word_behind area before v + 4 ≤ z) (pool_end (is_of area s.area) s.extent (end_behind area before) (waiting area before) e) (word_below area before v h))
+        (subst (λ z. word_behind area before v + 4 ≤ z) (pool_end (is_of area s.area) s.extent (end_behind area before) (waiting area before) e)
+        (word_below area before v h))
         (through (end_behind area (s ∷ before)) (end_behind area (joined (s ∷ before) rest)) (area_size area (joined (s ∷ before) rest))
         (joined_rises area (s ∷ before) rest)
-        (through (end_behind area (joined (s ∷ before) rest)) (end_from (end_behind area (joined (s ∷ before) rest)) (waiting area (joined (s ∷ before) rest)) Pool) (area_size area (joined (s ∷ before) rest))
+        (through (end_behind area (joined (s ∷ before) rest)) (end_from (end_behind area (joined (s ∷ before) rest)) (waiting area (joined (s ∷ before) rest))
+        Pool) (area_size area (joined (s ∷ before) rest))
         (end_rises (end_behind area (joined (s ∷ before) rest)) (waiting area (joined (s ∷ before) rest)) Pool)
         (up_to_size area (joined (s ∷ before) rest))))
     by_test false e later = later e
@@ -220,10 +222,12 @@ word_aligned area before (s ∷ rest) v h =
   where
     by_test : (b : Bool) → is_pool_of area s ≡ b → (is_pool_of area s ≡ false → literal_word area (s ∷ before) rest v % 4 ≡ 0)
         → cond b (word_behind area before v) (literal_word area (s ∷ before) rest v) % 4 ≡ 0
-    by_test true e later = aligned_sum (start_in area before Pool) (place_among v (waiting area before)) (pool_aligned (end_behind area before) v (waiting area before) h)
+    by_test true e later =
+        aligned_sum (start_in area before Pool) (place_among v (waiting area before)) (pool_aligned (end_behind area before) v (waiting area before) h)
     by_test false e later = later e
 
-pub loaded_waits : (area : ℕ) (before : List Piece) (s : Piece) (n : ℕ) (v : Value) → s.area ≡ Some area → s.extent ≡ Loading n v → IsLiteral v → Waits v (waiting area (s ∷ before))
+pub loaded_waits : (area : ℕ) (before : List Piece) (s : Piece) (n : ℕ) (v : Value) → s.area ≡ Some area → s.extent ≡ Loading n v → IsLiteral v
+    → Waits v (waiting area (s ∷ before))
 loaded_waits area before s n v here loads h =
     subst (λ b. Waits v (cond b (waiting_behind s.extent (waiting area before)) (waiting area before))) (sym (is_here area s.area here))
     (subst (λ e. Waits v (waiting_behind e (waiting area before))) (sym loads) (noted_waits v (waiting area before) h))

@@ -17,6 +17,7 @@ use Rattle.asm_model.specs.declared.statements.What.TheVariants as what
 use Rattle.asm_model.specs.declared.statements.PseudoLine.TheVariants as pseudo
 use Rattle.asm_model.specs.declared.thumb_lines.ThumbLine.TheVariants as thumb
 use Rattle.asm_model.specs.declared.directives.Boundary.TheVariants as limit
+use Rattle.asm_model.specs.declared.directives.DataItem.TheVariants as datum
 use Rattle.asm_model.specs.declared.directives.DirectiveLine.{DirectiveLine}
 use Rattle.asm_model.specs.declared.directives.DirectiveLine.TheVariants as line
 use Rattle.asm_model.specs.declared.names.Names.{Names}
@@ -67,7 +68,8 @@ moves_number = refl
 pub thumb_loads : extent_of (seen_in true) (load (number 1)) ≡ Ok (Loading 2 (Number 1))
 thumb_loads = refl
 
-pub loads_later_name : arm (load (items (item.Name (codes "end") ∷ item.Constant (Number 4) ∷ item.Binary op.Add ∷ []))) ≡ Ok (Loading 4 (Place (codes "end") 4))
+pub loads_later_name : arm (load (items (item.Name (codes "end") ∷ item.Constant (Number 4) ∷ item.Binary op.Add ∷ []))) ≡ Ok
+    (Loading 4 (Place (codes "end") 4))
 loads_later_name = refl
 
 pub loads_no_product : arm (load (items (item.Name (codes "start") ∷ item.Constant (Number 4) ∷ item.Binary op.Multiply ∷ []))) ≡ Err Forward
@@ -79,10 +81,10 @@ long_address = refl
 pub thumb_call : extent_of (seen_in true) (what.Thumb (thumb.BranchLink (name (codes "end")))) ≡ Ok (Block 2 4)
 thumb_call = refl
 
-pub words : data_extent (line.Dcd (number 1 ∷ name (codes "end") ∷ [])) ≡ Ok (Block 4 8)
+pub words : data_extent (line.Constants datum.Word (number 1 ∷ name (codes "end") ∷ [])) ≡ Ok (Block 4 8)
 words = refl
 
-pub strings_and_bytes : data_extent (line.Dcb (string (codes "abc") ∷ number 7 ∷ name (codes "s") ∷ name (codes "end") ∷ [])) ≡ Ok (Block 1 9)
+pub strings_and_bytes : data_extent (line.Constants datum.Byte (string (codes "abc") ∷ number 7 ∷ name (codes "s") ∷ name (codes "end") ∷ [])) ≡ Ok (Block 1 9)
 strings_and_bytes = refl
 
 pub space_to_here : data_extent (line.Space (items (item.Here ∷ item.Name (codes "start") ∷ item.Binary op.Subtract ∷ []))) ≡ Ok (Block 1 8)
@@ -144,9 +146,11 @@ align_nothing = refl
 
 -- two loads of one literal, one of another, and the first again behind LTORG
 abbrev loads : List Piece
-loads = piece_in 0 (Loading 4 literal) ∷ piece_in 0 Pool ∷ piece_in 0 (Loading 4 (Place (codes "f") 0)) ∷ piece_in 0 (Loading 4 literal) ∷ piece_in 0 (Loading 4 literal) ∷ []
+loads = piece_in 0 (Loading 4 literal) ∷ piece_in 0 Pool ∷ piece_in 0 (Loading 4 (Place (codes "f") 0)) ∷ piece_in 0 (Loading 4 literal)
+    ∷ piece_in 0 (Loading 4 literal) ∷ []
 
-pub pool_size : size_behind (Some 0) (piece_in 0 (Loading 4 (Place (codes "f") 0)) ∷ piece_in 0 (Loading 4 literal) ∷ piece_in 0 (Loading 4 literal) ∷ []) Pool ≡ 8
+pub pool_size : size_behind (Some 0) (piece_in 0 (Loading 4 (Place (codes "f") 0)) ∷ piece_in 0 (Loading 4 literal) ∷ piece_in 0 (Loading 4 literal) ∷ [])
+    Pool ≡ 8
 pool_size = refl
 
 pub behind_pool : end_behind 0 loads ≡ 24

@@ -21,9 +21,10 @@ use Rattle.asm_model.specs.declared.names.Names.{Names}
 use Rattle.asm_model.specs.Forms.{same}
 use Rattle.asm_model.specs.Grammar.{Tree, Leaf, Before, Between}
 use Rattle.asm_model.specs.Limits.{string_bytes}
-use Rattle.asm_model.specs.Meaning.{named_in, less, arithmetic, related, logical, joined_strings, cut_string, moved_place, added_place, stands_at, distance, between_places, as_number, as_truth, as_words, as_place, truth_or, binary, unary_of, Known, Unread, is_later, meant, known_size, size_in, value_of, size_of, defined_of, known, then_of, on_both, applied, operand_of_item, meaning}
+use Rattle.asm_model.specs.Meaning.{named_in, less, arithmetic, related, logical, joined_strings, cut_string, moved_place, added_place, stands_at, distance, between_places, as_number, as_truth, as_words, as_place, truth_or, binary, unary_of, Known, Unread, is_later, meant, known_size, size_in, value_of, size_of, defined_of, known, applied, operand_of_item, meaning}
 use Rattle.asm_model.proofs.LineLemmas.{applied_known}
 use Rattle.asm_model.specs.Placing.{Placing, address_at, address_of, placed_value, seen_from, placed_in, placed_name, placed_names, placed_item, placed_meaning, HasSymbol, ResultHasSymbol, EntryHasSymbol, HaveSymbols}
+use Rattle.asm_model.specs.Readings.{and_then, then_both}
 
 -- ---- numbers
 
@@ -168,8 +169,8 @@ unary_placed p names op (Place s n) r h = absurd (no_place op s n r h)
 
 pub then_placed : (p : Placing) (names : Names) (op : UnaryOp) (x y : Result Value LineKind) (v : Value)
     → ((w : Value) → x ≡ Ok w → y ≡ Ok (placed_value p names w))
-    → then_of x (unary_of op) ≡ Ok v → then_of y (unary_of op) ≡ Ok (placed_value p names v)
-then_placed p names op (Ok w) y v more h = ap (λ z. then_of z (unary_of op)) (more w refl) ∙ unary_placed p names op w v h
+    → and_then x (unary_of op) ≡ Ok v → and_then y (unary_of op) ≡ Ok (placed_value p names v)
+then_placed p names op (Ok w) y v more h = ap (λ z. and_then z (unary_of op)) (more w refl) ∙ unary_placed p names op w v h
 then_placed p names op (Err k) y v more h = absurd (cc)
 
 pub known_placed : (p : Placing) (names : Names) (op : UnaryOp) (x y : Result Value LineKind) (v : Value)
@@ -238,7 +239,8 @@ distance_placed p names s t None b q n r h = absurd (cc)
 
 pub two_places : (p : Placing) (names : Names) (op : BinaryOp) (s : List ℕ) (q : ℕ) (t : List ℕ) (n : ℕ) (r : Value)
     → as_number (between_places names op s q t n) ≡ Ok r
-    → binary (placed_names p names) op (Number ((address_of p names s + q) % 2 ^ 32)) (Number ((address_of p names t + n) % 2 ^ 32)) ≡ Ok (placed_value p names r)
+    → binary (placed_names p names) op (Number ((address_of p names s + q) % 2 ^ 32)) (Number ((address_of p names t + n) % 2 ^ 32)) ≡ Ok
+    (placed_value p names r)
 two_places p names Subtract s q t n r h = distance_placed p names s t (stands_at names s) (stands_at names t) q n r h
 two_places p names op s q t n r h = absurd (cc)
 
@@ -267,10 +269,10 @@ binary_placed p names op (Place s q) (Words w) r h = absurd (cc)
 
 pub both_placed : (p : Placing) (names : Names) (op : BinaryOp) (a b c d : Result Value LineKind) (r : Value)
     → ((v : Value) → a ≡ Ok v → c ≡ Ok (placed_value p names v)) → ((v : Value) → b ≡ Ok v → d ≡ Ok (placed_value p names v))
-    → on_both a b (binary names op) ≡ Ok r → on_both c d (binary (placed_names p names) op) ≡ Ok (placed_value p names r)
+    → then_both a b (binary names op) ≡ Ok r → then_both c d (binary (placed_names p names) op) ≡ Ok (placed_value p names r)
 both_placed p names op (Ok v) (Ok w) c d r f g h =
-    ap (λ z. on_both z d (binary (placed_names p names) op)) (f v refl)
-    ∙ ap (λ z. on_both (Ok (placed_value p names v)) z (binary (placed_names p names) op)) (g w refl)
+    ap (λ z. then_both z d (binary (placed_names p names) op)) (f v refl)
+    ∙ ap (λ z. then_both (Ok (placed_value p names v)) z (binary (placed_names p names) op)) (g w refl)
     ∙ binary_placed p names op v w r h
 both_placed p names op (Ok v) (Err k) c d r f g h = absurd (cc)
 both_placed p names op (Err k) (Ok w) c d r f g h = absurd (cc)
@@ -312,7 +314,8 @@ before_item p names op item.Here v here h =
 before_item p names op item.Map v here h =
     known_placed p names op (Ok (Number names.map)) (Ok (Number names.map)) v (λ u e. ap (placed_result p names) e) h
 before_item p names op item.CodeSize v here h =
-    known_placed p names op (known (operand_of_item names item.CodeSize)) (known (operand_of_item names item.CodeSize)) v (λ u e. ap (placed_result p names) e) h
+    known_placed p names op (known (operand_of_item names item.CodeSize)) (known (operand_of_item names item.CodeSize)) v (λ u e. ap (placed_result p names) e)
+    h
 before_item p names op (item.Unary o) v here h = known_placed p names op (Err Syntax) (Err Syntax) v (λ u e. ap (placed_result p names) e) h
 before_item p names op (item.Binary o) v here h = known_placed p names op (Err Syntax) (Err Syntax) v (λ u e. ap (placed_result p names) e) h
 

@@ -6,6 +6,7 @@ use Rattle.asm_model.specs.declared.lines.Flat.{Flat}
 use Rattle.asm_model.specs.declared.tokens.Token.{Token}
 use Rattle.asm_model.specs.declared.tokens.TokenKind.{TokenKind}
 use Rattle.asm_model.specs.declared.tokens.TokenKind.TheVariants as kind
+use Rattle.asm_model.specs.declared.directives.DataItem.TheVariants as datum
 use Rattle.asm_model.specs.declared.directives.Directive.TheVariants as directive
 use Rattle.asm_model.specs.declared.directives.DirectiveLine.TheVariants as line
 use Rattle.asm_model.specs.declared.directives.Attribute.TheVariants as attribute
@@ -21,7 +22,7 @@ abbrev at : TokenKind → ℕ → ℕ → Token
 at k start end = record { kind = k; start = start; end = end }
 
 -- names in any case
-pub data_name : directive_named (codes "dCd") ≡ Some directive.Dcd
+pub data_name : directive_named (codes "dCd") ≡ Some (directive.Constants datum.Word)
 unfolding directive_named named_data
 data_name = refl
 
@@ -38,7 +39,8 @@ unfolding register_named numbered_register special_register call_register
 registers = refl
 
 -- a comma between parentheses doesn't cut
-pub cut : operands (codes "(1,2),3") (at kind.Sign 0 1 ∷ at kind.Number 1 2 ∷ at kind.Sign 2 3 ∷ at kind.Number 3 4 ∷ at kind.Sign 4 5 ∷ at kind.Sign 5 6 ∷ at kind.Number 6 7 ∷ [])
+pub cut : operands (codes "(1,2),3") (at kind.Sign 0 1 ∷ at kind.Number 1 2 ∷ at kind.Sign 2 3 ∷ at kind.Number 3 4 ∷ at kind.Sign 4 5 ∷ at kind.Sign 5 6
+    ∷ at kind.Number 6 7 ∷ [])
     ≡ (at kind.Sign 0 1 ∷ at kind.Number 1 2 ∷ at kind.Sign 2 3 ∷ at kind.Number 3 4 ∷ at kind.Sign 4 5 ∷ []) ∷ (at kind.Number 6 7 ∷ []) ∷ []
 unfolding depth_behind
 cut = refl
@@ -66,7 +68,8 @@ pub other_mark : weak_mark (codes ",foo") (at kind.Sign 0 1 ∷ at kind.Name 1 4
 other_mark = refl
 
 -- attributes
-pub written : attributes_in (codes "code,ALIGN=2") ((at kind.Name 0 4 ∷ []) ∷ (at kind.Name 5 10 ∷ at kind.Sign 10 11 ∷ at kind.Number 11 12 ∷ []) ∷ []) ≡ attribute.Code ∷ attribute.Align ∷ []
+pub written : attributes_in (codes "code,ALIGN=2") ((at kind.Name 0 4 ∷ []) ∷ (at kind.Name 5 10 ∷ at kind.Sign 10 11 ∷ at kind.Number 11 12 ∷ []) ∷ [])
+    ≡ attribute.Code ∷ attribute.Align ∷ []
 unfolding attribute_named
 written = refl
 
@@ -86,7 +89,8 @@ zero_data = refl
 abbrev flat : List ℕ → Flat
 flat text = record { source = codes "t.s"; number = 7; text = text }
 
-pub weak_line : SaysDirective (flat (codes "x IMPORT y,WEAK")) (at kind.Name 0 1 ∷ at kind.Name 2 8 ∷ at kind.Name 9 10 ∷ at kind.Sign 10 11 ∷ at kind.Name 11 15 ∷ [])
+pub weak_line : SaysDirective (flat (codes "x IMPORT y,WEAK")) (at kind.Name 0 1 ∷ at kind.Name 2 8 ∷ at kind.Name 9 10 ∷ at kind.Sign 10 11
+    ∷ at kind.Name 11 15 ∷ [])
     (Ok (statement_of (flat (codes "x IMPORT y,WEAK")) (Some (codes "x")) (line.Import (codes "y") (Some true))))
 unfolding directive_named named_data named_symbol
 weak_line = (Ok (line.Import (codes "y") (Some true)), refl, refl)

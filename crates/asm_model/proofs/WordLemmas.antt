@@ -22,4 +22,5 @@ same_true (c ∷ cs) (d ∷ ds) e =
 
 pub called : (name word : List ℕ) (b : Bool) → IsTrue b ↔ (map to_ascii_lowercase word ≡ map to_ascii_lowercase name) → b ≡ is_called name word
 called name word true h = sym (rw (h.0 refl) (same_refl (map to_ascii_lowercase name)))
-called name word false h = sym (false_from_ne_true (is_called name word) (λ e. let z = h.1 (same_true (map to_ascii_lowercase word) (map to_ascii_lowercase name) e) in absurd (cc)))
+called name word false h =
+    sym (false_from_ne_true (is_called name word) (λ e. let z = h.1 (same_true (map to_ascii_lowercase word) (map to_ascii_lowercase name) e) in absurd (cc)))

@@ -17,8 +17,8 @@ use Rattle.asm_model.specs.declared.directives.AreaAttributes.{AreaAttributes}
 use Rattle.asm_model.specs.Directives.{row_of}
 use Rattle.asm_model.specs.Forms.{same}
 use Rattle.asm_model.specs.Grammar.{ParsesTokens}
-use Rattle.asm_model.specs.Kinds.{earlier}
 use Rattle.asm_model.specs.Parts.{piece}
+use Rattle.asm_model.specs.Readings.{mapped, on_both}
 
 -- the attribute that a word names
 unfoldable pub attribute_named : List ℕ → Option Attribute
@@ -111,8 +111,7 @@ is_bad_word text o = not (is_some (attribute_in text o))
 
 -- the number of an alignment
 abbrev pub alignment : Result Expr LineKind → Result (Option Expr) LineKind
-alignment (Ok e) = Ok (Some e)
-alignment (Err k) = Err k
+alignment r = mapped Some r
 
 -- what an operand reads as: an alignment's number, where it is one
 abbrev pub ReadsAttribute : List ℕ → List Token → Result (Option Expr) LineKind → Type 0
@@ -125,10 +124,7 @@ ReadsAttribute text (t ∷ u ∷ ts) r =
 
 -- the numbers of two readings, or the fault of them that is told
 abbrev pub joined : Result (Option Expr) LineKind → Result (List Expr) LineKind → Result (List Expr) LineKind
-joined (Ok e) (Ok es) = Ok (listed e ++ es)
-joined (Ok e) (Err k) = Err k
-joined (Err k) (Ok es) = Err k
-joined (Err k) (Err j) = Err (earlier k j)
+joined a b = on_both (λ e es. listed e ++ es) a b
 
 -- what operands read as: the numbers of all alignments among them
 abbrev pub ReadsAttributes : List ℕ → List (List Token) → Result (List Expr) LineKind → Type 0

@@ -5,7 +5,8 @@
 use Rattle.std.specs.Prelude.{ℕ, List, [], ◌∷◌, codes, if◌then◌else◌, Option, Some, None}
 use Rattle.asm_model.specs.Tokens.{is_called}
 use Rattle.asm_model.specs.declared.directives.Directive.{Directive}
-use Rattle.asm_model.specs.declared.directives.Directive.TheVariants.{Area, Entry, End, Export, Import, Extern, Keep, Equ, Rn, Rout, Assert, Nofp, Opt, Ttl, Subt, Dcd, Dcdu, Dcw, Dcb, Space, Align, Ltorg, Data, Map, Field, Code16, Code32, FloatingPoint, Expansion}
+use Rattle.asm_model.specs.declared.directives.Directive.TheVariants.{Area, Entry, End, Export, Import, Extern, Keep, Equ, Rn, Rout, Assert, Nofp, Opt, Ttl, Subt, Constants, Space, Align, Ltorg, Data, Map, Field, Code16, Code32, FloatingPoint, Expansion}
+use Rattle.asm_model.specs.declared.directives.DataItem.TheVariants.{Word, UnalignedWord, HalfWord, Byte}
 use Rattle.asm_model.specs.declared.directives.LabelNeed.{LabelNeed}
 use Rattle.asm_model.specs.declared.directives.LabelNeed.TheVariants.{Optional, Label, Name}
 
@@ -25,8 +26,9 @@ named_symbol word = row_of word (
 -- data and its place
 unfoldable pub named_data : List ℕ → Option Directive
 named_data word = row_of word (
-    (codes "DCD", Dcd) ∷ (codes "&", Dcd) ∷ (codes "DCDU", Dcdu) ∷ (codes "DCW", Dcw) ∷ (codes "DCB", Dcb)
-    ∷ (codes "=", Dcb) ∷ (codes "SPACE", Space) ∷ (codes "%", Space) ∷ (codes "ALIGN", Align)
+    (codes "DCD", Constants Word) ∷ (codes "&", Constants Word) ∷ (codes "DCDU", Constants UnalignedWord)
+    ∷ (codes "DCW", Constants HalfWord) ∷ (codes "DCB", Constants Byte) ∷ (codes "=", Constants Byte)
+    ∷ (codes "SPACE", Space) ∷ (codes "%", Space) ∷ (codes "ALIGN", Align)
     ∷ (codes "LTORG", Ltorg) ∷ (codes "DATA", Data) ∷ (codes "MAP", Map) ∷ (codes "^", Map)
     ∷ (codes "FIELD", Field) ∷ (codes "#", Field) ∷ [])
 
@@ -60,12 +62,34 @@ or_else None other = other
 -- the directive that a word names
 unfoldable pub directive_named : List ℕ → Option Directive
 directive_named word =
-    or_else (named_data word) (or_else (named_symbol word) (or_else (named_report word) (or_else (named_variable word) (named_structure word))))
+    or_else (named_data word) (or_else (named_symbol word) (or_else (named_report word)
+    (or_else (named_variable word) (named_structure word))))
 
 -- what a directive asks of the label field
 abbrev pub label_need : Directive → LabelNeed
+label_need Area = Optional
+label_need Entry = Optional
+label_need End = Optional
+label_need Export = Optional
+label_need Import = Optional
+label_need Extern = Optional
+label_need Keep = Optional
 label_need Equ = Name
 label_need Rn = Name
-label_need Field = Name
+label_need Rout = Optional
+label_need Assert = Optional
+label_need Nofp = Optional
+label_need Opt = Optional
+label_need Ttl = Optional
+label_need Subt = Optional
+label_need (Constants item) = Optional
+label_need Space = Optional
+label_need Align = Optional
+label_need Ltorg = Optional
 label_need Data = Label
-label_need _ = Optional
+label_need Map = Optional
+label_need Field = Name
+label_need Code16 = Optional
+label_need Code32 = Optional
+label_need FloatingPoint = Optional
+label_need Expansion = Optional

@@ -47,13 +47,20 @@ half_exprs (half.Register subtract rm) = []
 abbrev pub arm_exprs : ArmLine → List Expr
 arm_exprs (arm.DataImmediate condition operation set_flags rd rn e) = e ∷ []
 arm_exprs (arm.DataShifted condition operation set_flags rd rn rm by) = shift_exprs by
+arm_exprs (arm.DataRegisterShifted condition operation set_flags rd rn rm kind rs) = []
+arm_exprs (arm.Multiply condition accumulate set_flags rd rm rs rn) = []
+arm_exprs (arm.MultiplyLong condition signed accumulate set_flags low high rm rs) = []
+arm_exprs (arm.Swap condition byte rd rm rn) = []
+arm_exprs (arm.BranchExchange condition rm) = []
+arm_exprs (arm.ReadStatus condition saved rd) = []
+arm_exprs (arm.WriteStatus condition saved fields rm) = []
 arm_exprs (arm.WriteStatusImmediate condition saved fields e) = e ∷ []
 arm_exprs (arm.TransferImmediate condition load byte rd a) = address_exprs a
 arm_exprs (arm.TransferShifted condition load byte rd rn ix subtract rm by) = shift_exprs by
 arm_exprs (arm.TransferHalf condition load kind rd rn ix o) = half_exprs o
+arm_exprs (arm.TransferBlock condition load mode rn write_back list user) = []
 arm_exprs (arm.Branch condition link e) = e ∷ []
 arm_exprs (arm.SoftwareInterrupt condition e) = e ∷ []
-arm_exprs _ = []
 
 abbrev pub operand_exprs : ThumbOperand → List Expr
 operand_exprs (operand.Register rn) = []
@@ -67,17 +74,22 @@ abbrev pub thumb_exprs : ThumbLine → List Expr
 thumb_exprs (thumb.ShiftImmediate by rd rs e) = e ∷ []
 thumb_exprs (thumb.AddSubtract subtract rd rs o) = operand_exprs o
 thumb_exprs (thumb.DataImmediate operation rd e) = e ∷ []
+thumb_exprs (thumb.DataRegister operation rd rs) = []
+thumb_exprs (thumb.HighRegister operation rd rs) = []
 thumb_exprs (thumb.LoadLiteral rd a) = literal_exprs a
+thumb_exprs (thumb.TransferRegister load byte rd rn ro) = []
+thumb_exprs (thumb.TransferSigned kind rd rn ro) = []
 thumb_exprs (thumb.TransferImmediate load byte rd rn e) = e ∷ []
 thumb_exprs (thumb.TransferHalf load rd rn e) = e ∷ []
 thumb_exprs (thumb.TransferStack load rd e) = e ∷ []
 thumb_exprs (thumb.LoadAddress stack rd e) = e ∷ []
 thumb_exprs (thumb.AdjustStack subtract e) = e ∷ []
+thumb_exprs (thumb.PushPop load list) = []
+thumb_exprs (thumb.TransferMultiple load rn list) = []
 thumb_exprs (thumb.BranchConditional c e) = e ∷ []
 thumb_exprs (thumb.SoftwareInterrupt e) = e ∷ []
 thumb_exprs (thumb.Branch e) = e ∷ []
 thumb_exprs (thumb.BranchLink e) = e ∷ []
-thumb_exprs _ = []
 
 abbrev pub pseudo_exprs : PseudoLine → List Expr
 pseudo_exprs (pseudo.LoadConstant condition rd e) = e ∷ []
@@ -98,19 +110,29 @@ given_exprs (rn.Number e) = e ∷ []
 
 abbrev pub directive_exprs : DirectiveLine → List Expr
 directive_exprs (line.Area name a) = a.alignments
+directive_exprs line.Entry = []
+directive_exprs line.End = []
+directive_exprs (line.Export name) = []
+directive_exprs (line.Import name weak) = []
+directive_exprs (line.Extern name weak) = []
+directive_exprs (line.Keep name) = []
 directive_exprs (line.Equ e) = e ∷ []
 directive_exprs (line.Rn r) = given_exprs r
+directive_exprs line.Rout = []
 directive_exprs (line.Assert e) = e ∷ []
+directive_exprs line.Nofp = []
 directive_exprs (line.Opt e) = e ∷ []
-directive_exprs (line.Dcd es) = es
-directive_exprs (line.Dcdu es) = es
-directive_exprs (line.Dcw es) = es
-directive_exprs (line.Dcb es) = es
+directive_exprs line.Ttl = []
+directive_exprs line.Subt = []
+directive_exprs (line.Constants item es) = es
 directive_exprs (line.Space e) = e ∷ []
 directive_exprs (line.Align b) = boundary_exprs b
+directive_exprs line.Ltorg = []
+directive_exprs line.Data = []
 directive_exprs (line.Map e) = e ∷ []
 directive_exprs (line.Field e) = e ∷ []
-directive_exprs _ = []
+directive_exprs line.Code16 = []
+directive_exprs line.Code32 = []
 
 -- ---- statements
 

@@ -19,12 +19,15 @@ use Rattle.asm_model.specs.declared.thumb_lines.ThumbLine.TheVariants as thumb
 use Rattle.asm_model.specs.declared.directives.Boundary.{Boundary}
 use Rattle.asm_model.specs.declared.directives.Boundary.TheVariants as limit
 use Rattle.asm_model.specs.declared.directives.DirectiveLine.{DirectiveLine}
-use Rattle.asm_model.specs.declared.directives.DirectiveLine.TheVariants as line
+use Rattle.asm_model.specs.declared.directives.Held.{Held}
+use Rattle.asm_model.specs.declared.directives.Held.TheVariants as held
 use Rattle.asm_model.specs.declared.names.Names.{Names}
 use Rattle.asm_model.specs.AtLine.{literal_at}
+use Rattle.asm_model.specs.DataItems.{item_alignment, held_by}
 use Rattle.asm_model.specs.Grammar.{Tree}
 use Rattle.asm_model.specs.Meaning.{meaning}
-use Rattle.asm_model.specs.Says.{on_both, mapped}
+use Rattle.asm_model.specs.Occupied.{Occupied, Unplaced, Opening, Marking, Entering, Items, Zeroes, UpTo, Literals, occupied}
+use Rattle.asm_model.specs.Readings.{mapped, on_both}
 use Rattle.asm_model.specs.Trees.{tree_of}
 
 pub data Extent : Type 0 where
@@ -82,8 +85,25 @@ abbrev pub instruction : Bool → Extent
 instruction thumb = if thumb then Block 2 2 else Block 4 4
 
 abbrev pub thumb_extent : ThumbLine → Extent
-thumb_extent (thumb.BranchLink target) = Block 2 4
-thumb_extent _ = Block 2 2
+thumb_extent (thumb.ShiftImmediate by rd rs e) = Block 2 2
+thumb_extent (thumb.AddSubtract subtract rd rs o) = Block 2 2
+thumb_extent (thumb.DataImmediate operation rd e) = Block 2 2
+thumb_extent (thumb.DataRegister operation rd rs) = Block 2 2
+thumb_extent (thumb.HighRegister operation rd rs) = Block 2 2
+thumb_extent (thumb.LoadLiteral rd a) = Block 2 2
+thumb_extent (thumb.TransferRegister load byte rd rn ro) = Block 2 2
+thumb_extent (thumb.TransferSigned kind rd rn ro) = Block 2 2
+thumb_extent (thumb.TransferImmediate load byte rd rn e) = Block 2 2
+thumb_extent (thumb.TransferHalf load rd rn e) = Block 2 2
+thumb_extent (thumb.TransferStack load rd e) = Block 2 2
+thumb_extent (thumb.LoadAddress stack rd e) = Block 2 2
+thumb_extent (thumb.AdjustStack subtract e) = Block 2 2
+thumb_extent (thumb.PushPop load list) = Block 2 2
+thumb_extent (thumb.TransferMultiple load rn list) = Block 2 2
+thumb_extent (thumb.BranchConditional c e) = Block 2 2
+thumb_extent (thumb.SoftwareInterrupt e) = Block 2 2
+thumb_extent (thumb.Branch e) = Block 2 2
+thumb_extent (thumb.BranchLink e) = Block 2 4
 
 -- LDR with a literal, in Thumb or ARM state
 abbrev pub loading : Bool → Value → Extent
@@ -126,16 +146,24 @@ padding s limit.Word = Ok (Padding 4 0)
 padding s (limit.Multiple e) = mapped (λ m. Padding m 0) (as_multiple (number_there s e))
 padding s (limit.Behind e f) = on_both (λ m n. Padding m n) (as_multiple (number_there s e)) (number_there s f)
 
+-- the bytes of values that are held so
+abbrev pub held_size : Names → Held → List Expr → ℕ
+held_size s held.Relocatable es = 4 * length es
+held_size s (held.Fixed width) es = width * length es
+held_size s held.Strings es = byte_counts s es
+
+abbrev pub occupied_extent : Names → Occupied → Result Extent LineKind
+occupied_extent s Unplaced = Ok (Block 1 0)
+occupied_extent s (Opening a) = Ok (Block 1 0)
+occupied_extent s Marking = Ok (Block 1 0)
+occupied_extent s Entering = Ok (if s.thumb then Block 2 0 else Block 4 0)
+occupied_extent s (Items item es) = Ok (Block (item_alignment item) (held_size s (held_by item) es))
+occupied_extent s (Zeroes e) = mapped (λ n. Block 1 n) (number_there s e)
+occupied_extent s (UpTo b) = padding s b
+occupied_extent s Literals = Ok Pool
+
 abbrev pub directive_extent : Names → DirectiveLine → Result Extent LineKind
-directive_extent s line.Entry = Ok (if s.thumb then Block 2 0 else Block 4 0)
-directive_extent s (line.Dcd es) = Ok (Block 4 (4 * length es))
-directive_extent s (line.Dcdu es) = Ok (Block 1 (4 * length es))
-directive_extent s (line.Dcw es) = Ok (Block 2 (2 * length es))
-directive_extent s (line.Dcb es) = Ok (Block 1 (byte_counts s es))
-directive_extent s (line.Space e) = mapped (λ n. Block 1 n) (number_there s e)
-directive_extent s (line.Align b) = padding s b
-directive_extent s line.Ltorg = Ok Pool
-directive_extent s _ = Ok (Block 1 0)
+directive_extent s l = occupied_extent s (occupied l)
 
 -- what a statement takes up, or the kind of its fault
 abbrev pub extent_of : Names → What → Result Extent LineKind
@@ -152,15 +180,23 @@ pool_alignment [] = 1
 pool_alignment (v ∷ vs) = 4
 
 abbrev pub pseudo_alignment : Bool → PseudoLine → ℕ
+pseudo_alignment thumb (pseudo.LoadConstant condition rd value) = if thumb then 2 else 4
+pseudo_alignment thumb (pseudo.Address condition rd target) = if thumb then 2 else 4
 pseudo_alignment thumb (pseudo.LongAddress condition rd target) = 4
-pseudo_alignment thumb _ = if thumb then 2 else 4
+pseudo_alignment thumb pseudo.NoOperation = if thumb then 2 else 4
+
+abbrev pub occupied_alignment : Bool → List Value → Occupied → ℕ
+occupied_alignment thumb literals Unplaced = 1
+occupied_alignment thumb literals (Opening a) = 1
+occupied_alignment thumb literals Marking = 1
+occupied_alignment thumb literals Entering = if thumb then 2 else 4
+occupied_alignment thumb literals (Items item es) = item_alignment item
+occupied_alignment thumb literals (Zeroes e) = 1
+occupied_alignment thumb literals (UpTo b) = 1
+occupied_alignment thumb literals Literals = pool_alignment literals
 
 abbrev pub directive_alignment : Bool → List Value → DirectiveLine → ℕ
-directive_alignment thumb literals line.Entry = if thumb then 2 else 4
-directive_alignment thumb literals (line.Dcd es) = 4
-directive_alignment thumb literals (line.Dcw es) = 2
-directive_alignment thumb literals line.Ltorg = pool_alignment literals
-directive_alignment thumb literals _ = 1
+directive_alignment thumb literals l = occupied_alignment thumb literals (occupied l)
 
 -- the alignment of a statement in a state, where these literals wait for a pool
 abbrev pub alignment : Bool → List Value → What → ℕ

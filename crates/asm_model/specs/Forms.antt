@@ -120,7 +120,8 @@ braced_words = codes "{TRUE} {FALSE} {PC} {VAR} {CONFIG} {CODESIZE} {ENDIAN}"
 
 -- the operators, and the signs of the other forms
 abbrev pub signs : List ℕ
-signs = codes "+ - ? :NOT: :LNOT: :LEN: :CHR: :STR: :DEF: * / :MOD: :LEFT: :RIGHT: :CC: :ROL: :ROR: :SHL: :SHR: :AND: :OR: :EOR: = == <> /= < <= > >= :LAND: :LOR: :LEOR: ( ) . @ , # & % ^ ! [ | ] { }"
+signs = codes
+    "+ - ? :NOT: :LNOT: :LEN: :CHR: :STR: :DEF: * / :MOD: :LEFT: :RIGHT: :CC: :ROL: :ROR: :SHL: :SHR: :AND: :OR: :EOR: = == <> /= < <= > >= :LAND: :LOR: :LEOR: ( ) . @ , # & % ^ ! [ | ] { }"
 
 -- the form with the kind, where the test holds, or else the other form
 abbrev pub form_or : Bool → TokenKind → Option TokenKind → Option TokenKind

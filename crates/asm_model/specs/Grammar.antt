@@ -95,7 +95,8 @@ between_of part.Other = None
 -- the parts of an expression whose operators outside parentheses are of a level or tighter
 pub data Spells : ℕ → List Part → Tree → Type 0 where
   operand : (p : Part) (i : ExprItem) → operand_of p ≡ Some i → Spells 0 (p ∷ []) (Leaf i)
-  of_name : (op : UnaryOp) (name : List ℕ) → Spells 0 (part.OfName op ∷ part.Operand (item.Name name) ∷ []) (Before op (Leaf (item.Name name)))
+  of_name : (op : UnaryOp) (name : List ℕ) → Spells 0 (part.OfName op ∷ part.Operand (item.Name name) ∷ [])
+      (Before op (Leaf (item.Name name)))
   before : (p : Part) (op : UnaryOp) (ps : List Part) (t : Tree) → before_of p ≡ Some op → Spells 0 ps t → Spells 0 (p ∷ ps) (Before op t)
   grouped : (ps : List Part) (t : Tree) → Spells 6 ps t → Spells 0 (part.Open ∷ ps ++ part.Close ∷ []) t
   between : (l : ℕ) (p : Part) (op : BinaryOp) (ps qs : List Part) (t u : Tree) → between_of p ≡ Some op → level op ≡ suc l

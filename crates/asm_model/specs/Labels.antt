@@ -20,15 +20,37 @@ pub data Defined : Type 0 where
   RegisterName : List ℕ → RnOperand → Defined
 
 abbrev pub directive_defines : List ℕ → DirectiveLine → Defined
+directive_defines name (line.Area symbol a) = Label name
+directive_defines name line.Entry = Label name
+directive_defines name line.End = Label name
+directive_defines name (line.Export symbol) = Label name
+directive_defines name (line.Import symbol weak) = Label name
+directive_defines name (line.Extern symbol weak) = Label name
+directive_defines name (line.Keep symbol) = Label name
 directive_defines name (line.Equ e) = Equal name e
 directive_defines name (line.Rn r) = RegisterName name r
-directive_defines name (line.Field e) = MapField name
 directive_defines name line.Rout = Unnamed
-directive_defines name _ = Label name
+directive_defines name (line.Assert e) = Label name
+directive_defines name line.Nofp = Label name
+directive_defines name (line.Opt e) = Label name
+directive_defines name line.Ttl = Label name
+directive_defines name line.Subt = Label name
+directive_defines name (line.Constants item es) = Label name
+directive_defines name (line.Space e) = Label name
+directive_defines name (line.Align b) = Label name
+directive_defines name line.Ltorg = Label name
+directive_defines name line.Data = Label name
+directive_defines name (line.Map e) = Label name
+directive_defines name (line.Field e) = MapField name
+directive_defines name line.Code16 = Label name
+directive_defines name line.Code32 = Label name
 
 abbrev pub what_defines : List ℕ → What → Defined
+what_defines name what.Nothing = Label name
+what_defines name (what.Arm l) = Label name
+what_defines name (what.Thumb l) = Label name
+what_defines name (what.Pseudo l) = Label name
 what_defines name (what.Directive l) = directive_defines name l
-what_defines name _ = Label name
 
 abbrev pub field_defines : Option (List ℕ) → What → Defined
 field_defines None w = Unnamed
@@ -42,11 +64,39 @@ abbrev pub is_hidden : List ℕ → Bool
 is_hidden [] = false
 is_hidden (c ∷ cs) = c == 10
 
+abbrev pub directive_imports : DirectiveLine → Option (List ℕ)
+directive_imports (line.Area name a) = None
+directive_imports line.Entry = None
+directive_imports line.End = None
+directive_imports (line.Export name) = None
+directive_imports (line.Import name weak) = Some name
+directive_imports (line.Extern name weak) = Some name
+directive_imports (line.Keep name) = None
+directive_imports (line.Equ e) = None
+directive_imports (line.Rn r) = None
+directive_imports line.Rout = None
+directive_imports (line.Assert e) = None
+directive_imports line.Nofp = None
+directive_imports (line.Opt e) = None
+directive_imports line.Ttl = None
+directive_imports line.Subt = None
+directive_imports (line.Constants item es) = None
+directive_imports (line.Space e) = None
+directive_imports (line.Align b) = None
+directive_imports line.Ltorg = None
+directive_imports line.Data = None
+directive_imports (line.Map e) = None
+directive_imports (line.Field e) = None
+directive_imports line.Code16 = None
+directive_imports line.Code32 = None
+
 -- the name that a statement imports
 abbrev pub imported_in : What → Option (List ℕ)
-imported_in (what.Directive (line.Import name weak)) = Some name
-imported_in (what.Directive (line.Extern name weak)) = Some name
-imported_in _ = None
+imported_in what.Nothing = None
+imported_in (what.Arm l) = None
+imported_in (what.Thumb l) = None
+imported_in (what.Pseudo l) = None
+imported_in (what.Directive l) = directive_imports l
 
 abbrev pub imported_entries : Option (List ℕ) → List LaidName
 imported_entries None = []

@@ -8,6 +8,7 @@ use Rattle.asm_model.specs.declared.exprs.Expr.{Expr}
 use Rattle.asm_model.specs.declared.values.Value.{Value}
 use Rattle.asm_model.specs.declared.names.LaidName.{LaidName}
 use Rattle.asm_model.specs.declared.names.Names.{Names}
+use Rattle.asm_model.specs.declared.directives.DirectiveLine.{DirectiveLine}
 use Rattle.asm_model.specs.declared.directives.DirectiveLine.TheVariants as line
 use Rattle.asm_model.specs.declared.statements.Statement.{Statement}
 use Rattle.asm_model.specs.declared.statements.What.{What}
@@ -62,10 +63,52 @@ abbrev pub set_or : ℕ → Result ℕ LineKind → ℕ
 set_or map (Ok n) = n
 set_or map (Err k) = map
 
+-- what becomes of the storage map
+pub data MapStep : Type 0 where
+  Keep : MapStep
+  Set : Expr → MapStep
+  Add : Expr → MapStep
+
+abbrev pub directive_map : DirectiveLine → MapStep
+directive_map (line.Area name a) = Keep
+directive_map line.Entry = Keep
+directive_map line.End = Keep
+directive_map (line.Export name) = Keep
+directive_map (line.Import name weak) = Keep
+directive_map (line.Extern name weak) = Keep
+directive_map (line.Keep name) = Keep
+directive_map (line.Equ e) = Keep
+directive_map (line.Rn r) = Keep
+directive_map line.Rout = Keep
+directive_map (line.Assert e) = Keep
+directive_map line.Nofp = Keep
+directive_map (line.Opt e) = Keep
+directive_map line.Ttl = Keep
+directive_map line.Subt = Keep
+directive_map (line.Constants item es) = Keep
+directive_map (line.Space e) = Keep
+directive_map (line.Align b) = Keep
+directive_map line.Ltorg = Keep
+directive_map line.Data = Keep
+directive_map (line.Map e) = Set e
+directive_map (line.Field e) = Add e
+directive_map line.Code16 = Keep
+directive_map line.Code32 = Keep
+
+abbrev pub map_step : What → MapStep
+map_step what.Nothing = Keep
+map_step (what.Arm l) = Keep
+map_step (what.Thumb l) = Keep
+map_step (what.Pseudo l) = Keep
+map_step (what.Directive l) = directive_map l
+
+abbrev pub step_from : ℕ → Names → MapStep → ℕ
+step_from map s Keep = map
+step_from map s (Set e) = set_or map (number_there s e)
+step_from map s (Add e) = added map (number_there s e)
+
 abbrev pub map_from : ℕ → Names → What → ℕ
-map_from map s (what.Directive (line.Map e)) = set_or map (number_there s e)
-map_from map s (what.Directive (line.Field e)) = added map (number_there s e)
-map_from map s _ = map
+map_from map s w = step_from map s (map_step w)
 
 -- the storage map behind lines
 abbrev pub map_behind : List LaidLine → ℕ

@@ -25,10 +25,11 @@ use Rattle.asm_model.specs.Forms.{same}
 use Rattle.asm_model.specs.Kinds.{told_kind, kind_if}
 use Rattle.asm_model.specs.Extents.{Extent, Loading, number_there}
 use Rattle.asm_model.specs.Labels.{Defined, Label, Equal, MapField, RegisterName, defined_by, imported_in}
-use Rattle.asm_model.specs.Laid.{LaidLine, statements_of, taken, pieces_of, laid, reversed}
+use Rattle.asm_model.specs.Laid.{LaidLine, MapStep, Keep, Set, Add, map_step, statements_of, taken, pieces_of, laid, reversed}
 use Rattle.asm_model.specs.Offsets.{Piece, is_of, area_size, literal_word}
+use Rattle.asm_model.specs.Occupied.{Occupied, Unplaced, Opening, Marking, Entering, Items, Zeroes, UpTo, Literals, occupied}
 use Rattle.asm_model.specs.OwnKinds.{own_kinds}
-use Rattle.asm_model.specs.Says.{on_both}
+use Rattle.asm_model.specs.Readings.{on_both}
 
 abbrev pub fault_kinds : {X : Type 0} → Result X LineKind → List LineKind
 fault_kinds (Ok x) = []
@@ -36,30 +37,26 @@ fault_kinds (Err k) = k ∷ []
 
 -- ---- before the first AREA, and in areas
 
--- whether a directive takes up nothing in an area, so that it may stand before the first
+-- whether it may stand before the first AREA
+abbrev pub is_unplaced : Occupied → Bool
+is_unplaced Unplaced = true
+is_unplaced (Opening a) = false
+is_unplaced Marking = false
+is_unplaced Entering = false
+is_unplaced (Items item es) = false
+is_unplaced (Zeroes e) = false
+is_unplaced (UpTo b) = false
+is_unplaced Literals = false
+
 abbrev pub is_free_directive : DirectiveLine → Bool
-is_free_directive (line.Export name) = true
-is_free_directive (line.Import name weak) = true
-is_free_directive (line.Extern name weak) = true
-is_free_directive (line.Keep name) = true
-is_free_directive (line.Equ e) = true
-is_free_directive (line.Rn r) = true
-is_free_directive line.Rout = true
-is_free_directive (line.Assert e) = true
-is_free_directive line.Nofp = true
-is_free_directive (line.Opt e) = true
-is_free_directive line.Ttl = true
-is_free_directive line.Subt = true
-is_free_directive (line.Map e) = true
-is_free_directive (line.Field e) = true
-is_free_directive line.Code16 = true
-is_free_directive line.Code32 = true
-is_free_directive line.End = true
-is_free_directive _ = false
+is_free_directive l = is_unplaced (occupied l)
 
 abbrev pub is_free : What → Bool
+is_free what.Nothing = false
+is_free (what.Arm l) = false
+is_free (what.Thumb l) = false
+is_free (what.Pseudo l) = false
 is_free (what.Directive l) = is_free_directive l
-is_free _ = false
 
 -- whether a statement has a label of its place
 abbrev pub has_place : Defined → Bool
@@ -79,18 +76,30 @@ abbrev pub no_area_kinds : Option ℕ → Defined → What → List LineKind
 no_area_kinds (Some area) d w = []
 no_area_kinds None d w = kind_if (not (is_free w) || has_place d || names_here d) NoArea
 
--- whether a statement may stand among data that is zero
+-- whether it may stand among data that is zero
+abbrev pub is_zero : Occupied → Bool
+is_zero Unplaced = true
+is_zero (Opening a) = true
+is_zero Marking = false
+is_zero Entering = false
+is_zero (Items item es) = false
+is_zero (Zeroes e) = true
+is_zero (UpTo b) = true
+is_zero Literals = false
+
 abbrev pub is_zero_statement : What → Bool
 is_zero_statement what.Nothing = true
-is_zero_statement (what.Directive (line.Area name attributes)) = true
-is_zero_statement (what.Directive (line.Space e)) = true
-is_zero_statement (what.Directive (line.Align b)) = true
-is_zero_statement w = is_free w
+is_zero_statement (what.Arm l) = false
+is_zero_statement (what.Thumb l) = false
+is_zero_statement (what.Pseudo l) = false
+is_zero_statement (what.Directive l) = is_zero (occupied l)
 
 abbrev pub is_thumb_instruction : Bool → What → Bool
+is_thumb_instruction thumb what.Nothing = false
+is_thumb_instruction thumb (what.Arm l) = false
 is_thumb_instruction thumb (what.Thumb l) = true
 is_thumb_instruction thumb (what.Pseudo l) = thumb
-is_thumb_instruction thumb _ = false
+is_thumb_instruction thumb (what.Directive l) = false
 
 abbrev pub is_entry : What → Bool
 is_entry (what.Directive line.Entry) = true
@@ -231,10 +240,11 @@ settled_kinds settled (e ∷ es) = kind_if (not (list_any (same e.0) settled)) F
 -- ---- the state of an area
 
 abbrev pub is_instruction : What → Bool
+is_instruction what.Nothing = false
 is_instruction (what.Arm l) = true
 is_instruction (what.Thumb l) = true
 is_instruction (what.Pseudo l) = true
-is_instruction _ = false
+is_instruction (what.Directive l) = false
 
 abbrev pub state_at : ℕ → Statement → List Statement → Option Bool
 state_at area s before = if is_of area (area_behind (s ∷ before)) && is_instruction s.what then Some (thumb_behind before) else None
@@ -267,10 +277,13 @@ state_kinds (Some area) thumb w all = kind_if (is_entry w && not (same_mark thum
 abbrev pub area_bytes : ℕ
 area_bytes = 2 ^ 24
 
+abbrev pub step_kinds : Names → MapStep → List LineKind
+step_kinds s Keep = []
+step_kinds s (Set e) = fault_kinds (number_there s e)
+step_kinds s (Add e) = fault_kinds (number_there s e)
+
 abbrev pub map_kinds : Names → What → List LineKind
-map_kinds s (what.Directive (line.Map e)) = fault_kinds (number_there s e)
-map_kinds s (what.Directive (line.Field e)) = fault_kinds (number_there s e)
-map_kinds s _ = []
+map_kinds s w = step_kinds s (map_step w)
 
 -- the kinds of a line behind others, where these names are settled and the source has these statements that can be read
 abbrev pub layout_kinds : List (List ℕ) → List Statement → LaidLine → List LaidLine → List LineKind
@@ -278,7 +291,8 @@ layout_kinds settled all l before =
     fault_kinds l.extent ++ map_kinds l.seen l.statement.what ++ no_area_kinds l.area (defined_by l.statement) l.statement.what
     ++ contents_kinds (contents_behind (l.statement ∷ statements_of before)) l.thumb l.statement.what
     ++ area_kinds l.seen l.statement.what before ++ name_kinds l.statement (statements_of before)
-    ++ settled_kinds settled (first_equal (defined_by l.statement) (statements_of before)) ++ state_kinds l.area l.thumb l.statement.what all
+    ++ settled_kinds settled (first_equal (defined_by l.statement) (statements_of before))
+    ++ state_kinds l.area l.thumb l.statement.what all
     ++ kind_if (nat_lt area_bytes (l.offset + l.size)) TooMany ++ own_kinds l.statement
 
 -- a statement with the kind that is told of it
@@ -309,7 +323,8 @@ abbrev pub first_late : List LaidLine → List LaidLine → List LaidLine → Op
 first_late all before [] = None
 first_late all before (l ∷ rest) =
     or_else
-    (told_at l.statement (told_kind (entry_kinds l.area l all ++ literal_kinds l.area (taken l.extent) (pieces_of (l ∷ before)) (pieces_of rest))))
+    (told_at l.statement (told_kind (entry_kinds l.area l all ++ literal_kinds l.area (taken l.extent) (pieces_of (l ∷ before))
+    (pieces_of rest))))
     (first_late all (l ∷ before) rest)
 
 -- the first faulty line of a source that can be read, by its layout

@@ -1,6 +1,7 @@
 -- What the clauses of the assembler cite.
 pub mod Areas
 pub mod AtLine
+pub mod DataItems
 pub mod Directives
 pub mod FaultSets
 pub mod Forms
@@ -11,6 +12,7 @@ pub mod Lines
 pub mod Meaning
 pub mod Operands
 pub mod Parts
+pub mod Readings
 pub mod Registers
 pub mod Says
 pub mod Told
@@ -25,6 +27,8 @@ pub mod Laid
 pub mod LayoutKinds
 pub mod Marks
 pub mod OffsetLaws
+pub mod Occupied
+pub mod OccupiedCode
 pub mod Offsets
 pub mod OwnKinds
 pub mod PlacedLines
@@ -32,3 +36,7 @@ pub mod Placing
 pub mod Sound
 pub mod Symbols
 pub mod Trees
+pub mod Fit
+pub mod Named
+pub mod Said
+pub mod SaidParts

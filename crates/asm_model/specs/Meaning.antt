@@ -27,7 +27,7 @@ use Rattle.asm_model.specs.declared.names.Names.{Names}
 use Rattle.asm_model.specs.Forms.{same}
 use Rattle.asm_model.specs.declared.exprs.Part.{Part}
 use Rattle.asm_model.specs.Grammar.{Tree, Leaf, Before, Between, postfix, IsSpelled}
-use Rattle.asm_model.specs.Kinds.{earlier}
+use Rattle.asm_model.specs.Readings.{and_then, then_both}
 use Rattle.asm_model.specs.Limits.{string_bytes}
 
 -- the first entry with the name
@@ -213,22 +213,11 @@ abbrev pub known : Operand → Result Value LineKind
 known (Known r) = r
 known (Unread n) = value_of n
 
--- faults of the operand are handed on
-abbrev pub then_of : Result Value LineKind → (Value → Result Value LineKind) → Result Value LineKind
-then_of (Ok v) f = f v
-then_of (Err k) f = Err k
-
-abbrev pub on_both : Result Value LineKind → Result Value LineKind → (Value → Value → Result Value LineKind) → Result Value LineKind
-on_both (Ok v) (Ok w) f = f v w
-on_both (Ok v) (Err k) f = Err k
-on_both (Err k) (Ok w) f = Err k
-on_both (Err k) (Err j) f = Err (earlier k j)
-
 -- an operator before an operand
 abbrev pub applied : UnaryOp → Operand → Result Value LineKind
 applied unary.Size (Unread n) = size_of n
 applied unary.Defined (Unread n) = defined_of n
-applied op x = then_of (known x) (unary_of op)
+applied op x = and_then (known x) (unary_of op)
 
 -- an item that is an operand; a number that is too large is a faulty one, and a reference to a local label that is still
 -- one names nothing
@@ -247,7 +236,7 @@ abbrev pub operand_of_tree : Names → Tree → Operand
 operand_of_tree names (Leaf i) = operand_of_item names i
 operand_of_tree names (Before op t) = Known (applied op (operand_of_tree names t))
 operand_of_tree names (Between op t u) =
-    Known (on_both (known (operand_of_tree names t)) (known (operand_of_tree names u)) (binary names op))
+    Known (then_both (known (operand_of_tree names t)) (known (operand_of_tree names u)) (binary names op))
 
 -- the value of an expression, or the kind of its fault that is told
 abbrev pub meaning : Names → Tree → Result Value LineKind

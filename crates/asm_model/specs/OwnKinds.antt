@@ -28,25 +28,57 @@ is_bad_address (address.Based rn ix e) = is_bad_index ix
 is_bad_address (address.Label e) = false
 
 abbrev pub is_bad_arm : ArmLine → Bool
+is_bad_arm (arm.DataImmediate condition operation set_flags rd rn e) = false
+is_bad_arm (arm.DataShifted condition operation set_flags rd rn rm by) = false
+is_bad_arm (arm.DataRegisterShifted condition operation set_flags rd rn rm kind rs) = false
+is_bad_arm (arm.Multiply condition accumulate set_flags rd rm rs rn) = false
+is_bad_arm (arm.MultiplyLong condition signed accumulate set_flags low high rm rs) = false
+is_bad_arm (arm.Swap condition byte rd rm rn) = false
+is_bad_arm (arm.BranchExchange condition rm) = false
 is_bad_arm (arm.ReadStatus condition saved rd) = not (is_some saved)
 is_bad_arm (arm.WriteStatus condition saved fields rm) = fields == 0
 is_bad_arm (arm.WriteStatusImmediate condition saved fields e) = fields == 0
 is_bad_arm (arm.TransferImmediate condition load byte rd a) = is_bad_address a
 is_bad_arm (arm.TransferShifted condition load byte rd rn ix subtract rm by) = is_bad_index ix
-is_bad_arm _ = false
+is_bad_arm (arm.TransferHalf condition load kind rd rn ix o) = false
+is_bad_arm (arm.TransferBlock condition load mode rn write_back list user) = false
+is_bad_arm (arm.Branch condition link e) = false
+is_bad_arm (arm.SoftwareInterrupt condition e) = false
 
 -- whether attributes are bad, or a mark is another than WEAK
 abbrev pub is_bad_directive : DirectiveLine → Bool
 is_bad_directive (line.Area name a) = a.has_bad_word
+is_bad_directive line.Entry = false
+is_bad_directive line.End = false
+is_bad_directive (line.Export name) = false
 is_bad_directive (line.Import name weak) = not (is_some weak)
 is_bad_directive (line.Extern name weak) = not (is_some weak)
-is_bad_directive _ = false
+is_bad_directive (line.Keep name) = false
+is_bad_directive (line.Equ e) = false
+is_bad_directive (line.Rn r) = false
+is_bad_directive line.Rout = false
+is_bad_directive (line.Assert e) = false
+is_bad_directive line.Nofp = false
+is_bad_directive (line.Opt e) = false
+is_bad_directive line.Ttl = false
+is_bad_directive line.Subt = false
+is_bad_directive (line.Constants item es) = false
+is_bad_directive (line.Space e) = false
+is_bad_directive (line.Align b) = false
+is_bad_directive line.Ltorg = false
+is_bad_directive line.Data = false
+is_bad_directive (line.Map e) = false
+is_bad_directive (line.Field e) = false
+is_bad_directive line.Code16 = false
+is_bad_directive line.Code32 = false
 
 -- whether a statement has a word that its form doesn't have there
 abbrev pub has_bad_word : What → Bool
+has_bad_word what.Nothing = false
 has_bad_word (what.Arm l) = is_bad_arm l
+has_bad_word (what.Thumb l) = false
+has_bad_word (what.Pseudo l) = false
 has_bad_word (what.Directive l) = is_bad_directive l
-has_bad_word _ = false
 
 -- the kinds that a statement has by itself
 abbrev pub own_kinds : Statement → List LineKind

@@ -63,6 +63,30 @@ braced_part s =
     else if same s (codes "{ENDIAN}") then Operand (item.Constant (Words (codes "little")))
     else Other
 
+-- an operator of letters between truth values, or bit by bit
+abbrev pub worded_logic : List ℕ → Part
+worded_logic s =
+    if same s (codes ":AND:") then Infix binary.And
+    else if same s (codes ":OR:") then Infix binary.Or
+    else if same s (codes ":EOR:") then Infix binary.ExclusiveOr
+    else if same s (codes ":LAND:") then Infix binary.LogicalAnd
+    else if same s (codes ":LOR:") then Infix binary.LogicalOr
+    else if same s (codes ":LEOR:") then Infix binary.LogicalExclusiveOr
+    else Other
+
+-- an operator of letters between two operands
+abbrev pub worded_infix : List ℕ → Part
+worded_infix s =
+    if same s (codes ":MOD:") then Infix binary.Modulo
+    else if same s (codes ":LEFT:") then Infix binary.Left
+    else if same s (codes ":RIGHT:") then Infix binary.Right
+    else if same s (codes ":CC:") then Infix binary.Concatenate
+    else if same s (codes ":ROL:") then Infix binary.RotateLeft
+    else if same s (codes ":ROR:") then Infix binary.RotateRight
+    else if same s (codes ":SHL:") then Infix binary.ShiftLeft
+    else if same s (codes ":SHR:") then Infix binary.ShiftRight
+    else worded_logic s
+
 -- an operator that has letters
 abbrev pub worded_part : List ℕ → Part
 worded_part s =
@@ -72,20 +96,19 @@ worded_part s =
     else if same s (codes ":CHR:") then Prefix unary.Character
     else if same s (codes ":STR:") then Prefix unary.String
     else if same s (codes ":DEF:") then OfName unary.Defined
-    else if same s (codes ":MOD:") then Infix binary.Modulo
-    else if same s (codes ":LEFT:") then Infix binary.Left
-    else if same s (codes ":RIGHT:") then Infix binary.Right
-    else if same s (codes ":CC:") then Infix binary.Concatenate
-    else if same s (codes ":ROL:") then Infix binary.RotateLeft
-    else if same s (codes ":ROR:") then Infix binary.RotateRight
-    else if same s (codes ":SHL:") then Infix binary.ShiftLeft
-    else if same s (codes ":SHR:") then Infix binary.ShiftRight
-    else if same s (codes ":AND:") then Infix binary.And
-    else if same s (codes ":OR:") then Infix binary.Or
-    else if same s (codes ":EOR:") then Infix binary.ExclusiveOr
-    else if same s (codes ":LAND:") then Infix binary.LogicalAnd
-    else if same s (codes ":LOR:") then Infix binary.LogicalOr
-    else if same s (codes ":LEOR:") then Infix binary.LogicalExclusiveOr
+    else worded_infix s
+
+-- a relation without letters
+abbrev pub relation_part : List ℕ → Part
+relation_part s =
+    if same s (codes "=") then Infix binary.Equal
+    else if same s (codes "==") then Infix binary.Equal
+    else if same s (codes "<>") then Infix binary.NotEqual
+    else if same s (codes "/=") then Infix binary.NotEqual
+    else if same s (codes "<") then Infix binary.Less
+    else if same s (codes "<=") then Infix binary.LessEqual
+    else if same s (codes ">") then Infix binary.Greater
+    else if same s (codes ">=") then Infix binary.GreaterEqual
     else Other
 
 -- an operator or a sign without letters
@@ -100,15 +123,7 @@ plain_part s =
     else if same s (codes "?") then OfName unary.Size
     else if same s (codes "*") then Infix binary.Multiply
     else if same s (codes "/") then Infix binary.Divide
-    else if same s (codes "=") then Infix binary.Equal
-    else if same s (codes "==") then Infix binary.Equal
-    else if same s (codes "<>") then Infix binary.NotEqual
-    else if same s (codes "/=") then Infix binary.NotEqual
-    else if same s (codes "<") then Infix binary.Less
-    else if same s (codes "<=") then Infix binary.LessEqual
-    else if same s (codes ">") then Infix binary.Greater
-    else if same s (codes ">=") then Infix binary.GreaterEqual
-    else Other
+    else relation_part s
 
 -- a sign
 abbrev pub sign_part : List ℕ → Part

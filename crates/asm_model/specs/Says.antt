@@ -29,9 +29,9 @@ use Rattle.asm_model.specs.Areas.{ReadsAttributes, attributes_written}
 use Rattle.asm_model.specs.Directives.{directive_named, label_need}
 use Rattle.asm_model.specs.Forms.{same, is_short}
 use Rattle.asm_model.specs.Grammar.{ParsesTokens}
-use Rattle.asm_model.specs.Kinds.{earlier}
 use Rattle.asm_model.specs.Operands.{operands}
 use Rattle.asm_model.specs.Parts.{piece}
+use Rattle.asm_model.specs.Readings.{mapped, on_both}
 use Rattle.asm_model.specs.Registers.{register_named}
 use Rattle.asm_model.specs.Tokens.{is_called}
 
@@ -73,10 +73,7 @@ form_of_directive directive.Nofp = bare line.Nofp
 form_of_directive directive.Opt = expression (λ e. line.Opt e)
 form_of_directive directive.Ttl = bare line.Ttl
 form_of_directive directive.Subt = bare line.Subt
-form_of_directive directive.Dcd = expressions (λ es. line.Dcd es)
-form_of_directive directive.Dcdu = expressions (λ es. line.Dcdu es)
-form_of_directive directive.Dcw = expressions (λ es. line.Dcw es)
-form_of_directive directive.Dcb = expressions (λ es. line.Dcb es)
+form_of_directive (directive.Constants item) = expressions (λ es. line.Constants item es)
 form_of_directive directive.Space = expression (λ e. line.Space e)
 form_of_directive directive.Align = boundary
 form_of_directive directive.Ltorg = bare line.Ltorg
@@ -87,17 +84,6 @@ form_of_directive directive.Code16 = bare line.Code16
 form_of_directive directive.Code32 = bare line.Code32
 form_of_directive directive.FloatingPoint = refused FloatingPoint
 form_of_directive directive.Expansion = refused UnknownWord
-
--- two readings of one line: where both have faults, the one that is told
-abbrev pub on_both : {A B C : Type 0} → (A → B → C) → Result A LineKind → Result B LineKind → Result C LineKind
-on_both f (Ok a) (Ok b) = Ok (f a b)
-on_both f (Ok a) (Err k) = Err k
-on_both f (Err k) (Ok b) = Err k
-on_both f (Err k) (Err j) = Err (earlier k j)
-
-abbrev pub mapped : {A B : Type 0} → (A → B) → Result A LineKind → Result B LineKind
-mapped f (Ok a) = Ok (f a)
-mapped f (Err k) = Err k
 
 -- what stands between bars
 abbrev pub between_bars : List ℕ → List ℕ

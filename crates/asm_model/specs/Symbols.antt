@@ -19,12 +19,15 @@ use Rattle.asm_model.specs.declared.thumb_lines.ThumbLine.{ThumbLine}
 use Rattle.asm_model.specs.declared.thumb_lines.ThumbLine.TheVariants as thumb
 use Rattle.asm_model.specs.declared.directives.DirectiveLine.{DirectiveLine}
 use Rattle.asm_model.specs.declared.directives.DirectiveLine.TheVariants as line
+use Rattle.asm_model.specs.declared.directives.Held.{Held}
+use Rattle.asm_model.specs.declared.directives.Held.TheVariants as held
 use Rattle.asm_model.specs.declared.statements.What.{What}
 use Rattle.asm_model.specs.declared.statements.What.TheVariants as what
 use Rattle.asm_model.specs.AtLine.{SourceLine, with_names}
 use Rattle.asm_model.specs.Grammar.{Leaf, Between}
 use Rattle.asm_model.specs.Meaning.{named_in, stands_at, meaning}
 use Rattle.asm_model.specs.Before.{with_name}
+use Rattle.asm_model.specs.DataItems.{held_by}
 use Rattle.asm_model.specs.Extents.{Extent, Loading}
 use Rattle.asm_model.specs.Laid.{LaidLine, taken, final_value}
 
@@ -72,25 +75,91 @@ branch_symbols names (Ok (Place (c ∷ cs) n)) =
     else (c ∷ cs) ∷ []
 branch_symbols names _ = []
 
+-- the target of a branch that may be left to the linker
+abbrev pub arm_target : ArmLine → Option Expr
+arm_target (arm.DataImmediate condition operation set_flags rd rn e) = None
+arm_target (arm.DataShifted condition operation set_flags rd rn rm by) = None
+arm_target (arm.DataRegisterShifted condition operation set_flags rd rn rm kind rs) = None
+arm_target (arm.Multiply condition accumulate set_flags rd rm rs rn) = None
+arm_target (arm.MultiplyLong condition signed accumulate set_flags low high rm rs) = None
+arm_target (arm.Swap condition byte rd rm rn) = None
+arm_target (arm.BranchExchange condition rm) = None
+arm_target (arm.ReadStatus condition saved rd) = None
+arm_target (arm.WriteStatus condition saved fields rm) = None
+arm_target (arm.WriteStatusImmediate condition saved fields e) = None
+arm_target (arm.TransferImmediate condition load byte rd a) = None
+arm_target (arm.TransferShifted condition load byte rd rn ix subtract rm by) = None
+arm_target (arm.TransferHalf condition load kind rd rn ix o) = None
+arm_target (arm.TransferBlock condition load mode rn write_back list user) = None
+arm_target (arm.Branch condition link e) = Some e
+arm_target (arm.SoftwareInterrupt condition e) = None
+
+abbrev pub thumb_target : ThumbLine → Option Expr
+thumb_target (thumb.ShiftImmediate by rd rs e) = None
+thumb_target (thumb.AddSubtract subtract rd rs o) = None
+thumb_target (thumb.DataImmediate operation rd e) = None
+thumb_target (thumb.DataRegister operation rd rs) = None
+thumb_target (thumb.HighRegister operation rd rs) = None
+thumb_target (thumb.LoadLiteral rd a) = None
+thumb_target (thumb.TransferRegister load byte rd rn ro) = None
+thumb_target (thumb.TransferSigned kind rd rn ro) = None
+thumb_target (thumb.TransferImmediate load byte rd rn e) = None
+thumb_target (thumb.TransferHalf load rd rn e) = None
+thumb_target (thumb.TransferStack load rd e) = None
+thumb_target (thumb.LoadAddress stack rd e) = None
+thumb_target (thumb.AdjustStack subtract e) = None
+thumb_target (thumb.PushPop load list) = None
+thumb_target (thumb.TransferMultiple load rn list) = None
+thumb_target (thumb.BranchConditional c e) = None
+thumb_target (thumb.SoftwareInterrupt e) = None
+thumb_target (thumb.Branch e) = None
+thumb_target (thumb.BranchLink e) = Some e
+
+abbrev pub target_symbols : List LaidName → SourceLine → Option Expr → List (List ℕ)
+target_symbols names l None = []
+target_symbols names l (Some e) = branch_symbols (with_names l names) (final_value names l e)
+
 abbrev pub arm_symbols : List LaidName → SourceLine → ArmLine → List (List ℕ)
-arm_symbols names l (arm.Branch condition link target) = branch_symbols (with_names l names) (final_value names l target)
-arm_symbols names l _ = []
+arm_symbols names l a = target_symbols names l (arm_target a)
 
 abbrev pub thumb_symbols : List LaidName → SourceLine → ThumbLine → List (List ℕ)
-thumb_symbols names l (thumb.BranchLink target) = branch_symbols (with_names l names) (final_value names l target)
-thumb_symbols names l _ = []
+thumb_symbols names l t = target_symbols names l (thumb_target t)
 
 abbrev pub literal_symbols : List LaidName → SourceLine → Extent → List (List ℕ)
 literal_symbols names l (Loading n v) = word_symbols (with_names l names) (literal_value (with_names l names) v)
 literal_symbols names l _ = []
 
+-- the symbols of values that are held so
+abbrev pub held_symbols : List LaidName → SourceLine → Held → List Expr → List (List ℕ)
+held_symbols names l held.Relocatable es = words_symbols names l es
+held_symbols names l (held.Fixed width) es = []
+held_symbols names l held.Strings es = []
+
 abbrev pub directive_symbols : List LaidName → SourceLine → DirectiveLine → List (List ℕ)
+directive_symbols names l (line.Area name a) = []
+directive_symbols names l line.Entry = []
+directive_symbols names l line.End = []
 directive_symbols names l (line.Export name) = name ∷ []
-directive_symbols names l (line.Keep name) = name ∷ []
 directive_symbols names l (line.Import name weak) = name ∷ []
-directive_symbols names l (line.Dcd es) = words_symbols names l es
-directive_symbols names l (line.Dcdu es) = words_symbols names l es
-directive_symbols names l _ = []
+directive_symbols names l (line.Extern name weak) = []
+directive_symbols names l (line.Keep name) = name ∷ []
+directive_symbols names l (line.Equ e) = []
+directive_symbols names l (line.Rn r) = []
+directive_symbols names l line.Rout = []
+directive_symbols names l (line.Assert e) = []
+directive_symbols names l line.Nofp = []
+directive_symbols names l (line.Opt e) = []
+directive_symbols names l line.Ttl = []
+directive_symbols names l line.Subt = []
+directive_symbols names l (line.Constants item es) = held_symbols names l (held_by item) es
+directive_symbols names l (line.Space e) = []
+directive_symbols names l (line.Align b) = []
+directive_symbols names l line.Ltorg = []
+directive_symbols names l line.Data = []
+directive_symbols names l (line.Map e) = []
+directive_symbols names l (line.Field e) = []
+directive_symbols names l line.Code16 = []
+directive_symbols names l line.Code32 = []
 
 -- the symbols that a statement names or needs
 abbrev pub symbols_in : List LaidName → SourceLine → Extent → What → List (List ℕ)

@@ -23,12 +23,8 @@ pub enum Directive {
     Opt,
     Ttl,
     Subt,
-    /// DCD or `&`
-    Dcd,
-    Dcdu,
-    Dcw,
-    /// DCB or `=`
-    Dcb,
+    /// A directive of data.
+    Constants(DataItem),
     /// SPACE or `%`
     Space,
     Align,
@@ -44,6 +40,30 @@ pub enum Directive {
     FloatingPoint,
     /// A word that expansion takes away.
     Expansion,
+}
+
+/// An item of data, with the directive that puts it.
+#[derive(Clone, Copy, PartialEq, Eq, Debug)]
+pub enum DataItem {
+    /// DCD or `&`
+    Word,
+    /// DCDU
+    UnalignedWord,
+    /// DCW
+    HalfWord,
+    /// DCB or `=`
+    Byte,
+}
+
+/// How a data item holds its values.
+#[derive(Clone, Copy, PartialEq, Eq, Debug)]
+pub enum Held {
+    /// Words, which may be relocated.
+    Relocatable,
+    /// Numbers of so many bytes.
+    Fixed(u8),
+    /// Bytes, and strings of them.
+    Strings,
 }
 
 /// What a directive asks of the label field.
@@ -98,16 +118,8 @@ pub enum DirectiveLine {
     },
     Ttl,
     Subt,
-    Dcd {
-        values: List<Expr>,
-    },
-    Dcdu {
-        values: List<Expr>,
-    },
-    Dcw {
-        values: List<Expr>,
-    },
-    Dcb {
+    Constants {
+        item: DataItem,
         values: List<Expr>,
     },
     Space {

@@ -1,11 +1,12 @@
 //! Lines of a source, as they stand and after expansion.
 
-use sdt_fault::{Bytes, Text};
+use crate::files::FileName;
+use sdt_fault::Bytes;
 
 /// A line of a source, without its end. Its number counts from 1 in the file that `source` names.
 #[derive(Debug, Drop)]
 pub struct Line {
-    pub source: Text,
+    pub source: FileName,
     pub number: u32,
     pub text: Bytes,
 }
@@ -13,7 +14,7 @@ pub struct Line {
 /// A line that expansion leaves: the text after substitution, and the file and line where it stands.
 #[derive(Debug, Drop)]
 pub struct Flat {
-    pub source: Text,
+    pub source: FileName,
     pub number: u32,
     pub text: Bytes,
 }

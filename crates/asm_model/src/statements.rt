@@ -3,6 +3,7 @@
 use crate::arm_lines::ArmLine;
 use crate::directives::DirectiveLine;
 use crate::exprs::Expr;
+use crate::files::FileName;
 use crate::operands::Register;
 use crate::thumb_lines::ThumbLine;
 use sdt_fault::Text;
@@ -12,7 +13,7 @@ use sdt_word::Condition;
 /// a bar, until `asm_locals` gives it a name that no line can spell; behind that, references are such names too.
 #[derive(Debug, Drop)]
 pub struct Statement {
-    pub source: Text,
+    pub source: FileName,
     pub number: u32,
     pub label: Option<Text>,
     pub what: What,

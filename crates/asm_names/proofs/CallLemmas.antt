@@ -38,23 +38,28 @@ drop_there (e ∷ es) (suc i) d h = drop_there es i d (omega arith)
 index_next : (es : List Equal) (m n : Numbers) (i : ℕ) (d : Equal) → i < length es → IsIndexOf (suc i) (drop (suc i) (pairs_of es)) m
     → ((q : List ℕ) → number_in n q ≡ cond (same q (get_or es i d).name.now) (Some i) (number_in m q)) → IsIndexOf i (drop i (pairs_of es)) n
 index_next es m n i d h known new q =
-    new q ∙ ap (λ (o : Option ℕ). cond (same q (get_or es i d).name.now) (Some i) o) (known q) ∙ ap (λ (l : List (List ℕ × Expr)). first_from i l q) (sym (drop_there es i d h))
+    new q ∙ ap (λ (o : Option ℕ). cond (same q (get_or es i d).name.now) (Some i) o) (known q)
+    ∙ ap (λ (l : List (List ℕ × Expr)). first_from i l q) (sym (drop_there es i d h))
 
 -- the expression before is noted too
 pub index_back : (es : List Equal) (m n : Numbers) (i : ℕ) (d : Equal) → 0 < i → i ≤ length es → IsIndexOf i (drop i (pairs_of es)) m
-    → ((q : List ℕ) → number_in n q ≡ cond (same q (get_or es (i - 1) d).name.now) (Some (i - 1)) (number_in m q)) → IsIndexOf (i - 1) (drop (i - 1) (pairs_of es)) n
+    → ((q : List ℕ) → number_in n q ≡ cond (same q (get_or es (i - 1) d).name.now) (Some (i - 1)) (number_in m q))
+    → IsIndexOf (i - 1) (drop (i - 1) (pairs_of es)) n
 index_back es m n i d h le known new =
     let next : i ≡ suc (i - 1) = omega arith in
     index_next es m n (i - 1) d (omega arith) (subst (λ (k : ℕ). IsIndexOf k (drop k (pairs_of es)) m) next known) new
 
-pub hand_more : (hand new all : List Waiting) (i : ℕ) → 0 < i → hand ++ starts i ≡ all → new ≡ hand ++ (record { equal = i - 1; item = 0 }) ∷ [] → new ++ starts (i - 1) ≡ all
+pub hand_more : (hand new all : List Waiting) (i : ℕ) → 0 < i → hand ++ starts i ≡ all → new ≡ hand ++ (record { equal = i - 1; item = 0 }) ∷ [] → new
+    ++ starts (i - 1) ≡ all
 hand_more hand new all i h known added =
     let next : suc (i - 1) ≡ i = omega arith in
-    ap (λ (l : List Waiting). l ++ starts (i - 1)) added ∙ append_assoc hand ((record { equal = i - 1; item = 0 }) ∷ []) (starts (i - 1)) ∙ ap (λ (k : ℕ). hand ++ starts k) next ∙ known
+    ap (λ (l : List Waiting). l ++ starts (i - 1)) added ∙ append_assoc hand ((record { equal = i - 1; item = 0 }) ∷ []) (starts (i - 1))
+    ∙ ap (λ (k : ℕ). hand ++ starts k) next ∙ known
 
 -- ---- bounds
 
-pub unknown_below : (m : Numbers) (known : List Bool) (n i : ℕ) (xs : List ExprItem) (u : Unknown) → IsWithin m n → unknown_from m known i xs ≡ Some u → u.number < n
+pub unknown_below : (m : Numbers) (known : List Bool) (n i : ℕ) (xs : List ExprItem) (u : Unknown) → IsWithin m n → unknown_from m known i xs ≡ Some u
+    → u.number < n
 unknown_below m known n i [] u w h = absurd (cc)
 unknown_below m known n i (x ∷ xs) u w h = by (unknown_in m known x) refl (λ e. unknown_below m known n (suc i) xs u w e) h
   where
@@ -96,11 +101,13 @@ got_in (k ∷ ks) (suc j) i h = by (k == i) (got_in ks j i h)
     by true e = refl
     by false e = e
 
-place_in : (equals : List (List ℕ × Expr)) (m : Numbers) (known : List Bool) (waits : Lists) (places : List ℕ) (done : ℕ) (hand : List Waiting) → Holds equals m known waits places done hand
+place_in : (equals : List (List ℕ × Expr)) (m : Numbers) (known : List Bool) (waits : Lists) (places : List ℕ) (done : ℕ) (hand : List Waiting)
+    → Holds equals m known waits places done hand
     → (i : ℕ) → is_in i places ≡ true → i < length equals
 place_in equals m known waits places done hand h i t = let a = times_in_it i places t in let b = h.once i in below_only (length equals) i (omega (arith, a, b))
 
-pub place_within : (equals : List (List ℕ × Expr)) (m : Numbers) (known : List Bool) (waits : Lists) (places : List ℕ) (done : ℕ) (hand : List Waiting) → Holds equals m known waits places done hand
+pub place_within : (equals : List (List ℕ × Expr)) (m : Numbers) (known : List Bool) (waits : Lists) (places : List ℕ) (done : ℕ) (hand : List Waiting)
+    → Holds equals m known waits places done hand
     → (j i : ℕ) → slice_get places j ≡ Some i → i < length equals
 place_within equals m known waits places done hand h j i at = place_in equals m known waits places done hand h i (got_in places j i at)
 
@@ -153,7 +160,8 @@ total_times n (j ∷ js) h =
     first true e = refl
     first false e = absurd (true≢false (sym e))
 
-pub places_fit : (equals : List (List ℕ × Expr)) (m : Numbers) (known : List Bool) (waits : Lists) (places : List ℕ) (done : ℕ) (hand : List Waiting) → Holds equals m known waits places done hand
+pub places_fit : (equals : List (List ℕ × Expr)) (m : Numbers) (known : List Bool) (waits : Lists) (places : List ℕ) (done : ℕ) (hand : List Waiting)
+    → Holds equals m known waits places done hand
     → length places ≤ length equals
 places_fit equals m known waits places done hand h =
     let a = total_times (length equals) places (place_in equals m known waits places done hand h) in

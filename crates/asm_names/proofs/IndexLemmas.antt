@@ -33,7 +33,8 @@ first_there i (e ∷ es) q k h = by (same q e.0) refl (λ t. first_there (suc i)
     later : IsFirst (suc i) es q k → IsFirst i (e ∷ es) q k
     later f = let n = f.is in record { place = suc f.place; is = omega arith; one = f.one; there = f.there; called = f.called }
 
-    by : (b : Bool) → same q e.0 ≡ b → (first_from (suc i) es q ≡ Some k → IsFirst (suc i) es q k) → cond b (Some i) (first_from (suc i) es q) ≡ Some k → IsFirst i (e ∷ es) q k
+    by : (b : Bool) → same q e.0 ≡ b → (first_from (suc i) es q ≡ Some k → IsFirst (suc i) es q k) → cond b (Some i) (first_from (suc i) es q) ≡ Some k
+        → IsFirst i (e ∷ es) q k
     by true t rest f = let n : i ≡ k = cc in record { place = 0; is = omega arith; one = e; there = refl; called = sym (same_true q e.0 t) }
     by false t rest f = later (rest f)
 
@@ -41,7 +42,8 @@ pub first_is : (i : ℕ) (es : List (List ℕ × Expr)) (q : List ℕ) → is_so
 first_is i [] q = refl
 first_is i (e ∷ es) q = by (same q e.0) (first_is (suc i) es q)
   where
-    by : (b : Bool) → is_some (first_from (suc i) es q) ≡ list_any (λ (x : List ℕ × Expr). same q x.0) es → is_some (cond b (Some i) (first_from (suc i) es q)) ≡ (b || list_any (λ (x : List ℕ × Expr). same q x.0) es)
+    by : (b : Bool) → is_some (first_from (suc i) es q) ≡ list_any (λ (x : List ℕ × Expr). same q x.0) es
+        → is_some (cond b (Some i) (first_from (suc i) es q)) ≡ (b || list_any (λ (x : List ℕ × Expr). same q x.0) es)
     by true h = refl
     by false h = h
 
@@ -51,7 +53,8 @@ numbered_within equals m index = record {
   below = λ q k h. let f = first_there 0 equals q k (sym (index q) ∙ h) in let n = f.is in let w = slice_get_within equals f.place f.one f.there in omega arith;
 }
 
-pub numbered_once : (equals : List (List ℕ × Expr)) (m : Numbers) → IsIndexOf 0 equals m → (p q : List ℕ) (k : ℕ) → number_in m p ≡ Some k → number_in m q ≡ Some k → p ≡ q
+pub numbered_once : (equals : List (List ℕ × Expr)) (m : Numbers) → IsIndexOf 0 equals m → (p q : List ℕ) (k : ℕ) → number_in m p ≡ Some k
+    → number_in m q ≡ Some k → p ≡ q
 numbered_once equals m index p q k a b =
     let f = first_there 0 equals p k (sym (index p) ∙ a) in
     let g = first_there 0 equals q k (sym (index q) ∙ b) in
@@ -76,12 +79,15 @@ has_name (d ∷ es) (suc i) e h = by (same e.0 d.0) (has_name es i e h)
     by true t = refl
     by false t = t
 
-pub is_numbered : (equals : List (List ℕ × Expr)) (m : Numbers) → IsIndexOf 0 equals m → (i : ℕ) (e : List ℕ × Expr) → slice_get equals i ≡ Some e → is_some (number_in m e.0) ≡ true
+pub is_numbered : (equals : List (List ℕ × Expr)) (m : Numbers) → IsIndexOf 0 equals m → (i : ℕ) (e : List ℕ × Expr) → slice_get equals i ≡ Some e
+    → is_some (number_in m e.0) ≡ true
 is_numbered equals m index i e at = ap is_some (index e.0) ∙ first_is 0 equals e.0 ∙ has_name equals i e at
 
 -- a name that has no number is for no expression
-pub unnumbered : (equals : List (List ℕ × Expr)) (m : Numbers) → IsIndexOf 0 equals m → (q : List ℕ) → number_in m q ≡ None → list_any (λ (e : List ℕ × Expr). same q e.0) equals ≡ false
+pub unnumbered : (equals : List (List ℕ × Expr)) (m : Numbers) → IsIndexOf 0 equals m → (q : List ℕ) → number_in m q ≡ None
+    → list_any (λ (e : List ℕ × Expr). same q e.0) equals ≡ false
 unnumbered equals m index q none = sym (first_is 0 equals q) ∙ ap is_some (sym (index q) ∙ none)
 
-pub numbered : (equals : List (List ℕ × Expr)) (m : Numbers) → IsIndexOf 0 equals m → (q : List ℕ) (k : ℕ) → number_in m q ≡ Some k → list_any (λ (e : List ℕ × Expr). same q e.0) equals ≡ true
+pub numbered : (equals : List (List ℕ × Expr)) (m : Numbers) → IsIndexOf 0 equals m → (q : List ℕ) (k : ℕ) → number_in m q ≡ Some k
+    → list_any (λ (e : List ℕ × Expr). same q e.0) equals ≡ true
 numbered equals m index q k some = sym (first_is 0 equals q) ∙ ap is_some (sym (index q) ∙ some)

@@ -14,7 +14,8 @@ use Rattle.asm_model.specs.declared.names.LaidName.{LaidName}
 use Rattle.asm_model.specs.declared.names.Names.{Names}
 use Rattle.asm_model.specs.AtLine.{is_value, has_value, kept_name, kept_names}
 use Rattle.asm_model.specs.Grammar.{Tree, Leaf, Before, Between, postfix, plain, Spells, operand, of_name, before, grouped, between, tighter, IsSpelled}
-use Rattle.asm_model.specs.Meaning.{named_in, Known, value_of, unary_of, binary, known, then_of, on_both, applied, operand_of_item, meaning}
+use Rattle.asm_model.specs.Meaning.{named_in, Known, value_of, unary_of, binary, known, applied, operand_of_item, meaning}
+use Rattle.asm_model.specs.Readings.{and_then, then_both}
 use Rattle.asm_names.specs.Steps.{operator_first, kept_before, kept_items}
 use Rattle.asm_model.proofs.LineLemmas.{applied_known}
 use Rattle.asm_model.proofs.TreeLemmas.{plain_operand}
@@ -90,7 +91,8 @@ kept_pass s (Before op t) p rest =
 kept_pass s (Between op t u) p rest =
     ap (kept_items s) (append_assoc (postfix t ++ postfix u) (item.Binary op ∷ []) rest ∙ append_assoc (postfix t) (postfix u) (item.Binary op ∷ rest))
     ∙ kept_pass s t p.0 (postfix u ++ item.Binary op ∷ rest)
-    ∙ ap (λ z. z ++ kept_items s (postfix u ++ item.Binary op ∷ rest)) (kept_whole s t (postfix u ++ item.Binary op ∷ rest) (tree_first u p.1 (item.Binary op ∷ rest)))
+    ∙ ap (λ z. z ++ kept_items s (postfix u ++ item.Binary op ∷ rest)) (kept_whole s t (postfix u ++ item.Binary op ∷ rest)
+    (tree_first u p.1 (item.Binary op ∷ rest)))
     ∙ ap (λ z. postfix (kept_names s t) ++ z)
     (kept_pass s u p.1 (item.Binary op ∷ rest)
     ∙ ap (λ z. z ++ kept_items s (item.Binary op ∷ rest)) (kept_whole s u (item.Binary op ∷ rest) refl)
@@ -113,14 +115,14 @@ kept_known s (item.Name q) v h = by_entry (named_in q s.list) h
     by_entry (Some n) k = ap (λ r. cond (is_value r) (item.Name q) (item.Constant (Place q 0))) k
 kept_known s i v h = refl
 
-then_known : (x : Result Value LineKind) (f : Value → Result Value LineKind) (v : Value) → then_of x f ≡ Ok v → (w : Value) × (x ≡ Ok w)
+then_known : (x : Result Value LineKind) (f : Value → Result Value LineKind) (v : Value) → and_then x f ≡ Ok v → (w : Value) × (x ≡ Ok w)
 then_known (Ok w) f v h = (w, refl)
 then_known (Err k) f v h = absurd (cc)
 
 before_known : (op : UnaryOp) (x : Result Value LineKind) (v : Value) → applied op (Known x) ≡ Ok v → (w : Value) × (x ≡ Ok w)
 before_known op x v h = then_known x (unary_of op) v (sym (applied_known op x) ∙ h)
 
-both_known : (x y : Result Value LineKind) (f : Value → Value → Result Value LineKind) (v : Value) → on_both x y f ≡ Ok v
+both_known : (x y : Result Value LineKind) (f : Value → Value → Result Value LineKind) (v : Value) → then_both x y f ≡ Ok v
     → (a : Value) × (b : Value) × (x ≡ Ok a) × (y ≡ Ok b)
 both_known (Ok a) (Ok b) f v h = (a, b, refl, refl)
 both_known (Ok a) (Err j) f v h = absurd (cc)

@@ -64,7 +64,8 @@ cut_at i (j ∷ js) h = by (j == i) refl (λ e. cut_at i js e) h
     later : ((front : List ℕ) × (rest : List ℕ) × (js ≡ front ++ i ∷ rest)) → (front : List ℕ) × (rest : List ℕ) × (j ∷ js ≡ front ++ i ∷ rest)
     later c = (j ∷ c.0, c.1, ap (λ (l : List ℕ). j ∷ l) c.2)
 
-    by : (b : Bool) → (j == i) ≡ b → (is_in i js ≡ true → (front : List ℕ) × (rest : List ℕ) × (js ≡ front ++ i ∷ rest)) → (b || is_in i js) ≡ true → (front : List ℕ) × (rest : List ℕ) × (j ∷ js ≡ front ++ i ∷ rest)
+    by : (b : Bool) → (j == i) ≡ b → (is_in i js ≡ true → (front : List ℕ) × (rest : List ℕ) × (js ≡ front ++ i ∷ rest)) → (b || is_in i js) ≡ true
+        → (front : List ℕ) × (rest : List ℕ) × (j ∷ js ≡ front ++ i ∷ rest)
     by true t rest e = ([], js, ap (λ (k : ℕ). k ∷ js) (eqb-true j i t))
     by false t rest e = later (rest e)
 

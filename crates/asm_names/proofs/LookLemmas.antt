@@ -20,7 +20,8 @@ pub record Knows (equals : List (List ℕ × Expr)) (m : Numbers) (known : List 
   pub is : (q : List ℕ) → is_known m known q ≡ list_any (same q) names
 
 -- an item that is settled as far as the fields say
-free_name : (equals : List (List ℕ × Expr)) (m : Numbers) (known : List Bool) (names : List (List ℕ)) → Knows equals m known names → (q : List ℕ) → if_unknown known (number_in m q) ≡ None
+free_name : (equals : List (List ℕ × Expr)) (m : Numbers) (known : List Bool) (names : List (List ℕ)) → Knows equals m known names → (q : List ℕ)
+    → if_unknown known (number_in m q) ≡ None
     → is_settled_item equals names (item.Name q) ≡ true
 free_name equals m known names k q h = by (number_in m q) refl h
   where
@@ -28,7 +29,8 @@ free_name equals m known names k q h = by (number_in m q) refl h
     settles true b e = e
     settles false b e = refl
 
-    by_mark : (j : ℕ) (b : Bool) → slice_index_or known j false ≡ b → number_in m q ≡ Some j → cond b None (Some j) ≡ None → is_settled_item equals names (item.Name q) ≡ true
+    by_mark : (j : ℕ) (b : Bool) → slice_index_or known j false ≡ b → number_in m q ≡ Some j → cond b None (Some j) ≡ None
+        → is_settled_item equals names (item.Name q) ≡ true
     by_mark j true t e n = settles (list_any (λ (x : List ℕ × Expr). same q x.0) equals) (list_any (same q) names) (sym (k.is q) ∙ ap (mark known) e ∙ t)
     by_mark j false t e n = absurd (cc)
 
@@ -36,7 +38,8 @@ free_name equals m known names k q h = by (number_in m q) refl h
     by None e n = ap (λ (b : Bool). not b || list_any (same q) names) (unnumbered equals m k.index q e)
     by (Some j) e n = by_mark j (slice_index_or known j false) refl e n
 
-pub free_item : (equals : List (List ℕ × Expr)) (m : Numbers) (known : List Bool) (names : List (List ℕ)) → Knows equals m known names → (x : ExprItem) → unknown_in m known x ≡ None
+pub free_item : (equals : List (List ℕ × Expr)) (m : Numbers) (known : List Bool) (names : List (List ℕ)) → Knows equals m known names → (x : ExprItem)
+    → unknown_in m known x ≡ None
     → is_settled_item equals names x ≡ true
 free_item equals m known names k (item.Name q) h = free_name equals m known names k q h
 free_item equals m known names k x h = refl
@@ -48,11 +51,13 @@ pub record IsUnknown (equals : List (List ℕ × Expr)) (m : Numbers) (names : L
   pub numbered : number_in m name ≡ Some k
   pub unknown : is_settled_item equals names (item.Name name) ≡ false
 
-held_name : (equals : List (List ℕ × Expr)) (m : Numbers) (known : List Bool) (names : List (List ℕ)) → Knows equals m known names → (q : List ℕ) (i : ℕ) → if_unknown known (number_in m q) ≡ Some i
+held_name : (equals : List (List ℕ × Expr)) (m : Numbers) (known : List Bool) (names : List (List ℕ)) → Knows equals m known names → (q : List ℕ) (i : ℕ)
+    → if_unknown known (number_in m q) ≡ Some i
     → IsUnknown equals m names (item.Name q) i
 held_name equals m known names k q i h = by (number_in m q) refl h
   where
-    by_mark : (j : ℕ) (b : Bool) → slice_index_or known j false ≡ b → number_in m q ≡ Some j → cond b None (Some j) ≡ Some i → IsUnknown equals m names (item.Name q) i
+    by_mark : (j : ℕ) (b : Bool) → slice_index_or known j false ≡ b → number_in m q ≡ Some j → cond b None (Some j) ≡ Some i
+        → IsUnknown equals m names (item.Name q) i
     by_mark j true t e n = absurd (cc)
     by_mark j false t e n =
         let s : j ≡ i = cc in
@@ -67,20 +72,23 @@ held_name equals m known names k q i h = by (number_in m q) refl h
     by None e n = absurd (cc)
     by (Some j) e n = by_mark j (slice_index_or known j false) refl e n
 
-pub held_item : (equals : List (List ℕ × Expr)) (m : Numbers) (known : List Bool) (names : List (List ℕ)) → Knows equals m known names → (x : ExprItem) (i : ℕ) → unknown_in m known x ≡ Some i
+pub held_item : (equals : List (List ℕ × Expr)) (m : Numbers) (known : List Bool) (names : List (List ℕ)) → Knows equals m known names → (x : ExprItem) (i : ℕ)
+    → unknown_in m known x ≡ Some i
     → IsUnknown equals m names x i
 held_item equals m known names k (item.Name q) i h = held_name equals m known names k q i h
 held_item equals m known names k x i h = absurd (cc)
 
 -- ---- items from a place on
 
-pub all_free : (equals : List (List ℕ × Expr)) (m : Numbers) (known : List Bool) (names : List (List ℕ)) → Knows equals m known names → (i : ℕ) (xs : List ExprItem) → unknown_from m known i xs ≡ None
+pub all_free : (equals : List (List ℕ × Expr)) (m : Numbers) (known : List Bool) (names : List (List ℕ)) → Knows equals m known names
+    → (i : ℕ) (xs : List ExprItem) → unknown_from m known i xs ≡ None
     → are_settled equals names xs ≡ true
 all_free equals m known names k i [] h = refl
 all_free equals m known names k i (x ∷ xs) h = by (unknown_in m known x) refl (λ e. all_free equals m known names k (suc i) xs e) h
   where
     by : (o : Option ℕ) → unknown_in m known x ≡ o → (unknown_from m known (suc i) xs ≡ None → are_settled equals names xs ≡ true)
-        → option_or (option_map (unknown_at i) o) (unknown_from m known (suc i) xs) ≡ None → (is_settled_item equals names x && are_settled equals names xs) ≡ true
+        → option_or (option_map (unknown_at i) o) (unknown_from m known (suc i) xs) ≡ None
+        → (is_settled_item equals names x && are_settled equals names xs) ≡ true
     by None e rest n = and_from (is_settled_item equals names x) (are_settled equals names xs) (free_item equals m known names k x e) (rest n)
     by (Some j) e rest n = absurd (cc)
 
@@ -92,7 +100,8 @@ pub record IsNext (equals : List (List ℕ × Expr)) (m : Numbers) (names : List
   pub there : slice_get xs count ≡ Some one
   pub held : IsUnknown equals m names one u.number
 
-pub next_is : (equals : List (List ℕ × Expr)) (m : Numbers) (known : List Bool) (names : List (List ℕ)) → Knows equals m known names → (i : ℕ) (xs : List ExprItem) (u : Unknown)
+pub next_is : (equals : List (List ℕ × Expr)) (m : Numbers) (known : List Bool) (names : List (List ℕ)) → Knows equals m known names
+    → (i : ℕ) (xs : List ExprItem) (u : Unknown)
     → unknown_from m known i xs ≡ Some u → IsNext equals m names i xs u
 next_is equals m known names k i [] u h = absurd (cc)
 next_is equals m known names k i (x ∷ xs) u h = by (unknown_in m known x) refl (λ e. next_is equals m known names k (suc i) xs u e) h
@@ -124,16 +133,19 @@ next_is equals m known names k i (x ∷ xs) u h = by (unknown_in m known x) refl
 
 -- ---- items in two parts
 
-pub settled_both : (equals : List (List ℕ × Expr)) (names : List (List ℕ)) (xs ys : List ExprItem) → are_settled equals names xs ≡ true → are_settled equals names ys ≡ true → are_settled equals names (xs ++ ys) ≡ true
+pub settled_both : (equals : List (List ℕ × Expr)) (names : List (List ℕ)) (xs ys : List ExprItem) → are_settled equals names xs ≡ true
+    → are_settled equals names ys ≡ true → are_settled equals names (xs ++ ys) ≡ true
 settled_both equals names [] ys a b = b
 settled_both equals names (x ∷ xs) ys a b =
     let p = and_parts (is_settled_item equals names x) (are_settled equals names xs) a in
     and_from (is_settled_item equals names x) (are_settled equals names (xs ++ ys)) p.0 (settled_both equals names xs ys p.1 b)
 
 -- one item that isn't settled
-pub unsettled : (equals : List (List ℕ × Expr)) (names : List (List ℕ)) (xs : List ExprItem) (i : ℕ) (x : ExprItem) → slice_get xs i ≡ Some x → is_settled_item equals names x ≡ false → are_settled equals names xs ≡ false
+pub unsettled : (equals : List (List ℕ × Expr)) (names : List (List ℕ)) (xs : List ExprItem) (i : ℕ) (x : ExprItem) → slice_get xs i ≡ Some x
+    → is_settled_item equals names x ≡ false → are_settled equals names xs ≡ false
 unsettled equals names [] i x h f = absurd (cc)
-unsettled equals names (y ∷ ys) zero x h f = let e : x ≡ y = cc in ap (λ (b : Bool). b && are_settled equals names ys) (ap (is_settled_item equals names) (sym e) ∙ f)
+unsettled equals names (y ∷ ys) zero x h f = let e : x ≡ y = cc in
+    ap (λ (b : Bool). b && are_settled equals names ys) (ap (is_settled_item equals names) (sym e) ∙ f)
 unsettled equals names (y ∷ ys) (suc i) x h f = by (is_settled_item equals names y) (unsettled equals names ys i x h f)
   where
     by : (b : Bool) → are_settled equals names ys ≡ false → (b && are_settled equals names ys) ≡ false
@@ -152,4 +164,5 @@ get_drop (suc n) i (x ∷ xs) = let e : suc (n + i) ≡ suc n + i = omega arith 
 pub take_more : {X : Type 0} (n k : ℕ) (xs : List X) → take (n + k) xs ≡ take n xs ++ take k (drop n xs)
 take_more zero k xs = let e : 0 + k ≡ k = omega arith in ap (λ (j : ℕ). take j xs) e
 take_more (suc n) k [] = take_nothing (suc n + k) ∙ sym (take_nothing k)
-take_more (suc n) k (x ∷ xs) = let e : suc n + k ≡ suc (n + k) = omega arith in ap (λ (j : ℕ). take j (x ∷ xs)) e ∙ ap (λ (l : List _). x ∷ l) (take_more n k xs)
+take_more (suc n) k (x ∷ xs) = let e : suc n + k ≡ suc (n + k) = omega arith in
+    ap (λ (j : ℕ). take j (x ∷ xs)) e ∙ ap (λ (l : List _). x ∷ l) (take_more n k xs)

@@ -24,8 +24,8 @@ use Rattle.layout_laws.proofs.NamedLemmas.{sofar, own_of, imports_of, with_state
 use Rattle.layout_laws.proofs.RoundLemmas.{ResultIs, named_joined}
 use Rattle.layout_laws.proofs.SoundLemmas.{any_parts}
 use Rattle.asm_names.specs.Steps.{one_entry}
-use Rattle.asm_names.specs.declared.lines.PlacedLine.{PlacedLine}
-use Rattle.asm_names.specs.Lines.{IsLine, line_of}
+use Rattle.asm_names.specs.declared.placed_lines.PlacedLine.{PlacedLine}
+use Rattle.asm_names.specs.PlacedLines.{IsLine, line_of}
 use Rattle.asm_names.specs.Source.{AreEach, IsReadDefined, AreRead, own_entries, line_entries, Owed, owed_by, owed_in, equal_pair}
 use Rattle.asm_names.proofs.OnceLemmas.{EachFound}
 use Rattle.base_lemmas.proofs.BaseLemmas.{all_append}
@@ -159,7 +159,8 @@ lines_own d (s ∷ ss) xs h =
     let x = h.1 in
     subst EachOwn (sym (entries_more [] xs front x h.2))
     (own_joined (flat_map (line_entries []) front) (line_entries [] x) (lines_own d ss front h.4)
-    (own_joined (own_entries [] x (defined_by x.statement.now)) (imported_entries (imported_in x.statement.now.what)) (own_symbols x (defined_by x.statement.now))
+    (own_joined (own_entries [] x (defined_by x.statement.now)) (imported_entries (imported_in x.statement.now.what))
+    (own_symbols x (defined_by x.statement.now))
     (import_symbols (imported_in x.statement.now.what))))
 
 -- ---- names for expressions
@@ -173,7 +174,8 @@ pairs_of_line : (x : PlacedLine) (y : Defined) → map equal_pair (owed_by x y) 
 pairs_of_line x (Equal name e) = refl
 pairs_of_line x y = refl
 
-pub owed_pairs : (d : List LaidName) (ss : List Statement) (xs : List PlacedLine) → AreEach (laid_of d ss) xs → map equal_pair (flat_map owed_in xs) ≡ all_equals ss
+pub owed_pairs : (d : List LaidName) (ss : List Statement) (xs : List PlacedLine) → AreEach (laid_of d ss) xs
+    → map equal_pair (flat_map owed_in xs) ≡ all_equals ss
 owed_pairs d [] xs h = ap (λ z. map equal_pair (flat_map owed_in z)) h
 owed_pairs d (s ∷ ss) xs h =
     let front = h.0 in

@@ -37,7 +37,8 @@ waits_unsettled equals m names waits all i h =
     let s = sum_some (λ (v : Vec Waiting Global). times_in i v.items) waits h in
     let o = one_waits i s.1.items s.3 in
     let f = all_get (WaitsFor equals m names s.0) s.1.items o.0 o.1 (all s.0 s.1 s.2) o.2 in
-    ap (λ (j : ℕ). are_settled equals names (items_at equals j)) (sym o.3) ∙ unsettled equals names (items_at equals o.1.equal) o.1.item (item.Name f.name) f.there f.unknown
+    ap (λ (j : ℕ). are_settled equals names (items_at equals j)) (sym o.3) ∙ unsettled equals names (items_at equals o.1.equal) o.1.item (item.Name f.name)
+    f.there f.unknown
 
 pub below_only : (n i : ℕ) → 0 < one_below n i → i < n
 below_only n i h = by (nat_lt i n) refl h
@@ -54,16 +55,20 @@ at_most_one n i = by (nat_lt i n)
     by false = omega arith
 
 -- a number in a list of places brings its name
-name_in : (equals : List (List ℕ × Expr)) (places : List ℕ) (i : ℕ) (e : List ℕ × Expr) → slice_get equals i ≡ Some e → is_in i places ≡ true → list_any (same e.0) (names_at equals places) ≡ true
+name_in : (equals : List (List ℕ × Expr)) (places : List ℕ) (i : ℕ) (e : List ℕ × Expr) → slice_get equals i ≡ Some e → is_in i places ≡ true
+    → list_any (same e.0) (names_at equals places) ≡ true
 name_in equals places i e at h =
     let c = cut_at i places h in
     let whole : places ≡ (c.0 ++ i ∷ []) ++ c.1 = c.2 ∙ sym (append_assoc c.0 (i ∷ []) c.1) in
     ap (λ (l : List ℕ). list_any (same e.0) (names_at equals l)) whole
-    ∙ names_more equals (c.0 ++ i ∷ []) c.1 e.0 (one_more equals c.0 i e at e.0 ∙ or_right (list_any (same e.0) (names_at equals c.0)) (same e.0 e.0) (same_refl e.0))
+    ∙ names_more equals (c.0 ++ i ∷ []) c.1 e.0 (one_more equals c.0 i e at e.0
+    ∙ or_right (list_any (same e.0) (names_at equals c.0)) (same e.0 e.0) (same_refl e.0))
 
-module _ (equals : List (List ℕ × Expr)) (m : Numbers) (known : List Bool) (waits : Lists) (places : List ℕ) (done : ℕ) (h : Holds equals m known waits places done []) (all : length places ≤ done) where
+module _ (equals : List (List ℕ × Expr)) (m : Numbers) (known : List Bool) (waits : Lists) (places : List ℕ) (done : ℕ)
+    (h : Holds equals m known waits places done []) (all : length places ≤ done) where
   names_all : known_names equals done places ≡ names_at equals places
-  names_all = let n = h.made in let e : done ≡ length places = omega (arith, n, all) in ap (λ (k : ℕ). names_at equals (take k places)) e ∙ ap (names_at equals) (take-length places)
+  names_all = let n = h.made in let e : done ≡ length places = omega (arith, n, all) in
+      ap (λ (k : ℕ). names_at equals (take k places)) e ∙ ap (names_at equals) (take-length places)
 
   -- where an expression's names are known it has its place
   has_place : (i : ℕ) → i < length equals → are_settled equals (names_at equals places) (items_at equals i) ≡ true → is_in i places ≡ true
@@ -79,22 +84,26 @@ module _ (equals : List (List ℕ × Expr)) (m : Numbers) (known : List Bool) (w
           absurd (true≢false (sym s ∙ ap (λ (l : List (List ℕ)). are_settled equals l (items_at equals i)) (sym names_all) ∙ u))
 
   closed : IsClosed equals (names_at equals places)
-  closed i e at s = name_in equals places i e at (has_place i (slice_get_within equals i e at) (ap (are_settled equals (names_at equals places)) (ap items_of at) ∙ s))
+  closed i e at s =
+      name_in equals places i e at (has_place i (slice_get_within equals i e at) (ap (are_settled equals (names_at equals places)) (ap items_of at) ∙ s))
 
   within_places : (i : ℕ) → is_in i places ≡ true → i < length equals
   within_places i e = let a = times_in_it i places e in let b = h.once i in below_only (length equals) i (omega (arith, a, b))
 
   -- the names of the places are settled
-  sound_from : (front rest : List ℕ) → places ≡ front ++ rest → AreAmong (names_at equals front) (settled equals) → AreAmong (names_at equals places) (settled equals)
+  sound_from : (front rest : List ℕ) → places ≡ front ++ rest → AreAmong (names_at equals front) (settled equals)
+      → AreAmong (names_at equals places) (settled equals)
   sound_from front [] e a = subst (λ (l : List ℕ). AreAmong (names_at equals l) (settled equals)) (sym (e ∙ append-nil front)) a
   sound_from front (i ∷ rest) e a = sound_from (front ++ i ∷ []) rest (e ∙ sym (append_assoc front (i ∷ []) rest)) (next (slice_get equals i) refl)
     where
-      by_name : (e : List ℕ × Expr) → slice_get equals i ≡ Some e → (q : List ℕ) → (list_any (same q) (names_at equals front) ≡ true) ⊎ (same q e.0 ≡ true) → list_any (same q) (settled equals) ≡ true
+      by_name : (e : List ℕ × Expr) → slice_get equals i ≡ Some e → (q : List ℕ) → (list_any (same q) (names_at equals front) ≡ true) ⊎ (same q e.0 ≡ true)
+          → list_any (same q) (settled equals) ≡ true
       by_name d at q (inl t) = a q t
       by_name d at q (inr t) =
           ap (λ (n : List ℕ). list_any (same n) (settled equals)) (same_true q d.0 t)
           ∙ settled_is_closed equals i d at
-          (items_more equals (names_at equals front) (settled equals) a d.1.items (ap (are_settled equals (names_at equals front)) (ap items_of (sym at)) ∙ h.behind front i rest e))
+          (items_more equals (names_at equals front) (settled equals) a d.1.items
+          (ap (are_settled equals (names_at equals front)) (ap items_of (sym at)) ∙ h.behind front i rest e))
 
       next : (o : Option (List ℕ × Expr)) → slice_get equals i ≡ o → AreAmong (names_at equals (front ++ i ∷ [])) (settled equals)
       next None at q t = a q (sym (none_more equals front i at q) ∙ t)
@@ -130,4 +139,5 @@ module _ (equals : List (List ℕ × Expr)) (m : Numbers) (known : List Bool) (w
       back : (i : ℕ) (e : List ℕ × Expr) → slice_get equals i ≡ Some e → are_settled equals (settled equals) e.1.items ≡ true → is_in i places ≡ true
       back i e at s =
           has_place i (slice_get_within equals i e at)
-          (items_more equals (settled equals) (names_at equals places) least (items_at equals i) (ap (are_settled equals (settled equals)) (ap items_of at) ∙ s))
+          (items_more equals (settled equals) (names_at equals places) least (items_at equals i)
+          (ap (are_settled equals (settled equals)) (ap items_of at) ∙ s))

@@ -26,14 +26,15 @@ use Rattle.asm_names.proofs.ListLemmas.{all_get}
 use Rattle.asm_names.proofs.SearchLemmas.{one_more}
 use Rattle.asm_names.specs.Steps.{one_entry}
 use Rattle.asm_names.proofs.EntryLemmas.{found_name, each_has, named_same, each_one}
-use Rattle.asm_names.specs.Lines.{line_of}
+use Rattle.asm_names.specs.PlacedLines.{line_of}
 use Rattle.asm_names.specs.Source.{Owed, equal_pair, IsEntryAt, Settles, begun, further}
 use Rattle.asm_names.proofs.MatchLemmas.{EachOwn, Fits}
 use Rattle.base_lemmas.proofs.BaseLemmas.{or_either, true_or as or_left, or_true as or_right}
 
 -- ---- one place more
 
-pub settles_more : (declared : List LaidName) (all : List Owed) (first : List LaidName) (places : List ℕ) (k : ℕ) (known new : List LaidName) (entry : Option LaidName)
+pub settles_more : (declared : List LaidName) (all : List Owed) (first : List LaidName) (places : List ℕ) (k : ℕ) (known new : List LaidName)
+    (entry : Option LaidName)
     → k < length places → Settles declared all first (take k places) known → IsEntryAt known declared (slice_get all (slice_index_or places k 0)) entry
     → new ≡ known ++ one_entry entry → Settles declared all first (take (k + 1) places) new
 settles_more declared all first places k known new entry le h at e =
@@ -87,7 +88,8 @@ own_closed P q ns n own h e = result_weaker (λ s. s ≡ n.name) P (λ s x. subs
     symbols [] own e = absurd (cc)
     symbols (m ∷ ms) own e = by_test (same m.name q) (symbols ms own.1) e
       where
-        by_test : (b : Bool) → (named_in q ms ≡ Some n → ResultIs (λ s. s ≡ n.name) (entry_value n)) → cond b (Some m) (named_in q ms) ≡ Some n → ResultIs (λ s. s ≡ n.name) (entry_value n)
+        by_test : (b : Bool) → (named_in q ms ≡ Some n → ResultIs (λ s. s ≡ n.name) (entry_value n)) → cond b (Some m) (named_in q ms) ≡ Some n
+            → ResultIs (λ s. s ≡ n.name) (entry_value n)
         by_test true rest k = let x : m ≡ n = cc in subst (λ (z : LaidName). ResultIs (λ s. s ≡ z.name) (entry_value z)) x own.0
         by_test false rest k = rest k
 
@@ -96,7 +98,8 @@ made_symbol : (N known names : List LaidName) (area : Option ℕ) (name : List �
     → ResultIs (IsComplete N (known ++ one_entry (named_in name N))) (entry_value n)
 made_symbol N known names area name r q n held is h = by_test (same (equal_entry names area name r).name q) h
   where
-    by_test : (b : Bool) → cond b (Some (equal_entry names area name r)) None ≡ Some n → ResultIs (IsComplete N (known ++ one_entry (named_in name N))) (entry_value n)
+    by_test : (b : Bool) → cond b (Some (equal_entry names area name r)) None ≡ Some n
+        → ResultIs (IsComplete N (known ++ one_entry (named_in name N))) (entry_value n)
     by_test false k = absurd (cc)
     by_test true k =
         let x : equal_entry names area name r ≡ n = cc in
@@ -121,7 +124,8 @@ closed_more N known names area name r held e is closed q n h found =
     by_entry None x k = made_symbol N known names area name r q n held is (ap (named_in q) (sym e) ∙ k)
     by_entry (Some m) x k =
         let y : named_in q known ≡ Some n = x ∙ k in
-        result_weaker (IsComplete N known) (IsComplete N (known ++ one_entry (named_in name N))) (complete_more N known (one_entry (named_in name N)) (own_held N name)) (entry_value n)
+        result_weaker (IsComplete N known) (IsComplete N (known ++ one_entry (named_in name N)))
+        (complete_more N known (one_entry (named_in name N)) (own_held N name)) (entry_value n)
         (closed q n (y ∙ sym (each_has N known held q n y)) y)
 
 -- ---- what is known behind some places
@@ -141,8 +145,10 @@ knows_first N E known held free own = record {
   closed = λ q n h e. own_closed (IsComplete N known) q known n own h e;
 }
 
-knows_more : (N : List LaidName) (E : List (List ℕ × Expr)) (places : List ℕ) (known names : List LaidName) (area : Option ℕ) (i : ℕ) (name : List ℕ) (v : Expr) (r : Result Value LineKind)
-    → slice_get E i ≡ Some (name, v) → Knows N E places known → one_entry (named_in name N) ≡ equal_entry names area name r ∷ [] → ResultIs (IsComplete N known) r
+knows_more : (N : List LaidName) (E : List (List ℕ × Expr)) (places : List ℕ) (known names : List LaidName) (area : Option ℕ) (i : ℕ) (name : List ℕ) (v : Expr)
+    (r : Result Value LineKind)
+    → slice_get E i ≡ Some (name, v) → Knows N E places known → one_entry (named_in name N) ≡ equal_entry names area name r ∷ []
+    → ResultIs (IsComplete N known) r
     → Knows N E (places ++ i ∷ []) (known ++ one_entry (named_in name N))
 knows_more N E places known names area i name v r at h e is =
     let more = complete_more N known (one_entry (named_in name N)) (own_held N name) in record {
@@ -180,7 +186,8 @@ some_there xs i h e =
 known_further : (N names declared : List LaidName) (all : List Owed) (whole : List ℕ)
     → ((q : List ℕ) → named_in q declared ≡ named_in q names)
     → AllByRecursion (Fits N names) all → IsOrder (map equal_pair all) whole
-    → (places : List ℕ) (known : List LaidName) (i : ℕ) (rest : List ℕ) (entry : Option LaidName) → whole ≡ places ++ i ∷ rest → Knows N (map equal_pair all) places known
+    → (places : List ℕ) (known : List LaidName) (i : ℕ) (rest : List ℕ) (entry : Option LaidName) → whole ≡ places ++ i ∷ rest
+    → Knows N (map equal_pair all) places known
     → (o : Option Owed) → slice_get all i ≡ o → IsEntryAt known declared o entry → Knows N (map equal_pair all) (places ++ i ∷ []) (known ++ one_entry entry)
 known_further N names declared all whole same_names fits order places known i rest entry split h None x k =
     let within : i < length (map equal_pair all) = order.within i (subst (λ z. is_in i z ≡ true) (sym split) (there_in i places rest)) in

@@ -18,11 +18,13 @@ or_more false b c f h = f h
 
 -- ---- more names settle more
 
-pub item_more : (equals : List (List ℕ × Expr)) (a b : List (List ℕ)) → AreAmong a b → (i : ExprItem) → is_settled_item equals a i ≡ true → is_settled_item equals b i ≡ true
+pub item_more : (equals : List (List ℕ × Expr)) (a b : List (List ℕ)) → AreAmong a b → (i : ExprItem) → is_settled_item equals a i ≡ true
+    → is_settled_item equals b i ≡ true
 item_more equals a b more (item.Name q) h = or_more (not (list_any (λ e. same q e.0) equals)) (list_any (same q) a) (list_any (same q) b) (more q) h
 item_more equals a b more i h = refl
 
-pub items_more : (equals : List (List ℕ × Expr)) (a b : List (List ℕ)) → AreAmong a b → (is : List ExprItem) → are_settled equals a is ≡ true → are_settled equals b is ≡ true
+pub items_more : (equals : List (List ℕ × Expr)) (a b : List (List ℕ)) → AreAmong a b → (is : List ExprItem) → are_settled equals a is ≡ true
+    → are_settled equals b is ≡ true
 items_more equals a b more [] h = refl
 items_more equals a b more (i ∷ is) h =
     let p = and_parts (is_settled_item equals a i) (are_settled equals a is) h in
@@ -36,12 +38,15 @@ pub round_has : (equals es : List (List ℕ × Expr)) (names : List (List ℕ)) 
 round_has equals [] names i e at h = absurd (cc)
 round_has equals (d ∷ es) names zero e at h = here d (cc) (are_settled equals names d.1.items) refl
   where
-    here : (d : List ℕ × Expr) → d ≡ e → (b : Bool) → are_settled equals names d.1.items ≡ b → list_any (same e.0) (cond b (d.0 ∷ settled_by equals names es) (settled_by equals names es)) ≡ true
-    here d same_one true t = or_left (same e.0 d.0) (list_any (same e.0) (settled_by equals names es)) (ap (λ (x : List ℕ × Expr). same e.0 x.0) same_one ∙ same_refl e.0)
+    here : (d : List ℕ × Expr) → d ≡ e → (b : Bool) → are_settled equals names d.1.items ≡ b
+        → list_any (same e.0) (cond b (d.0 ∷ settled_by equals names es) (settled_by equals names es)) ≡ true
+    here d same_one true t =
+        or_left (same e.0 d.0) (list_any (same e.0) (settled_by equals names es)) (ap (λ (x : List ℕ × Expr). same e.0 x.0) same_one ∙ same_refl e.0)
     here d same_one false t = absurd (true≢false (sym h ∙ ap (λ (x : List ℕ × Expr). are_settled equals names x.1.items) (sym same_one) ∙ t))
 round_has equals (d ∷ es) names (suc i) e at h = later (are_settled equals names d.1.items) (round_has equals es names i e at h)
   where
-    later : (b : Bool) → list_any (same e.0) (settled_by equals names es) ≡ true → list_any (same e.0) (cond b (d.0 ∷ settled_by equals names es) (settled_by equals names es)) ≡ true
+    later : (b : Bool) → list_any (same e.0) (settled_by equals names es) ≡ true
+        → list_any (same e.0) (cond b (d.0 ∷ settled_by equals names es) (settled_by equals names es)) ≡ true
     later true r = or_right (same e.0 d.0) (list_any (same e.0) (settled_by equals names es)) r
     later false r = r
 
@@ -52,7 +57,8 @@ pub record Settles (equals es : List (List ℕ × Expr)) (names : List (List ℕ
   pub called : one.0 ≡ q
   pub items : are_settled equals names one.1.items ≡ true
 
-pub round_only : (equals es : List (List ℕ × Expr)) (names : List (List ℕ)) (q : List ℕ) → list_any (same q) (settled_by equals names es) ≡ true → Settles equals es names q
+pub round_only : (equals es : List (List ℕ × Expr)) (names : List (List ℕ)) (q : List ℕ) → list_any (same q) (settled_by equals names es) ≡ true
+    → Settles equals es names q
 round_only equals [] names q h = absurd (true≢false (sym h))
 round_only equals (d ∷ es) names q h = by (are_settled equals names d.1.items) refl (λ e. round_only equals es names q e) h
   where
@@ -62,18 +68,21 @@ round_only equals (d ∷ es) names q h = by (are_settled equals names d.1.items)
     later : Settles equals es names q → Settles equals (d ∷ es) names q
     later s = record { place = suc s.place; one = s.one; there = s.there; called = s.called; items = s.items }
 
-    first : are_settled equals names d.1.items ≡ true → Rest → (same q d.0 ≡ true) ⊎ (list_any (same q) (settled_by equals names es) ≡ true) → Settles equals (d ∷ es) names q
+    first : are_settled equals names d.1.items ≡ true → Rest → (same q d.0 ≡ true) ⊎ (list_any (same q) (settled_by equals names es) ≡ true)
+        → Settles equals (d ∷ es) names q
     first t rest (inl e) = record { place = 0; one = d; there = refl; called = sym (same_true q d.0 e); items = t }
     first t rest (inr e) = later (rest e)
 
-    by : (b : Bool) → are_settled equals names d.1.items ≡ b → Rest → list_any (same q) (cond b (d.0 ∷ settled_by equals names es) (settled_by equals names es)) ≡ true → Settles equals (d ∷ es) names q
+    by : (b : Bool) → are_settled equals names d.1.items ≡ b → Rest → list_any (same q)
+        (cond b (d.0 ∷ settled_by equals names es) (settled_by equals names es)) ≡ true → Settles equals (d ∷ es) names q
     by true t rest k = first t rest (or_either (same q d.0) (list_any (same q) (settled_by equals names es)) k)
     by false t rest k = later (rest k)
 
 pub round_more : (equals es : List (List ℕ × Expr)) (a b : List (List ℕ)) → AreAmong a b → AreAmong (settled_by equals a es) (settled_by equals b es)
 round_more equals es a b more q h =
     let s = round_only equals es a q h in
-    ap (λ (n : List ℕ). list_any (same n) (settled_by equals b es)) (sym s.called) ∙ round_has equals es b s.place s.one s.there (items_more equals a b more s.one.1.items s.items)
+    ap (λ (n : List ℕ). list_any (same n) (settled_by equals b es)) (sym s.called)
+    ∙ round_has equals es b s.place s.one s.there (items_more equals a b more s.one.1.items s.items)
 
 -- a round with more names has no fewer, and the same ones where it has as many
 pub record Grows (now next : List (List ℕ)) : Type 0 where
@@ -96,7 +105,8 @@ round_within : (equals es : List (List ℕ × Expr)) (names : List (List ℕ)) �
 round_within equals [] names = omega arith
 round_within equals (d ∷ es) names = by (are_settled equals names d.1.items) (round_within equals es names)
   where
-    by : (b : Bool) → length (settled_by equals names es) ≤ length es → length (cond b (d.0 ∷ settled_by equals names es) (settled_by equals names es)) ≤ length (d ∷ es)
+    by : (b : Bool) → length (settled_by equals names es) ≤ length es → length (cond b (d.0 ∷ settled_by equals names es) (settled_by equals names es)) ≤ length
+        (d ∷ es)
     by true h = omega arith
     by false h = omega arith
 
@@ -134,12 +144,14 @@ after_stops (suc k) equals = by (after_stops k equals)
 pub rounds_stop : (equals : List (List ℕ × Expr)) → settled_by equals (settled equals) equals ≡ settled equals
 rounds_stop equals = by (after_stops (length equals) equals)
   where
-    by : (settled_after (suc (length equals)) equals ≡ settled_after (length equals) equals) ⊎ (length equals < length (settled_after (suc (length equals)) equals)) → settled_by equals (settled equals) equals ≡ settled equals
+    by : (settled_after (suc (length equals)) equals ≡ settled_after (length equals) equals)
+        ⊎ (length equals < length (settled_after (suc (length equals)) equals)) → settled_by equals (settled equals) equals ≡ settled equals
     by (inl e) = e
     by (inr h) = let w = round_within equals equals (settled equals) in absurd (omega arith)
 
 pub settled_is_closed : (equals : List (List ℕ × Expr)) → IsClosed equals (settled equals)
-settled_is_closed equals i e at h = ap (λ (l : List (List ℕ)). list_any (same e.0) l) (sym (rounds_stop equals)) ∙ round_has equals equals (settled equals) i e at h
+settled_is_closed equals i e at h =
+    ap (λ (l : List (List ℕ)). list_any (same e.0) l) (sym (rounds_stop equals)) ∙ round_has equals equals (settled equals) i e at h
 
 after_least : (k : ℕ) (equals : List (List ℕ × Expr)) (others : List (List ℕ)) → IsClosed equals others → AreAmong (settled_after k equals) others
 after_least zero equals others closed q h = absurd (true≢false (sym h))

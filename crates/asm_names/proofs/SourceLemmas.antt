@@ -22,7 +22,7 @@ use Rattle.asm_names.proofs.ListLemmas.{cut_at}
 use Rattle.asm_names.proofs.SearchLemmas.{names_more, one_more}
 use Rattle.asm_names.proofs.SettledLemmas.{rounds_stop}
 use Rattle.asm_names.specs.Steps.{one_entry}
-use Rattle.asm_names.specs.declared.lines.PlacedLine.{PlacedLine}
+use Rattle.asm_names.specs.declared.placed_lines.PlacedLine.{PlacedLine}
 use Rattle.asm_names.specs.declared.dues.Due.{Due}
 use Rattle.asm_names.specs.Owing.{owed_of}
 use Rattle.asm_names.specs.Source.{IsSource, Owed, line_entries, owed_in, equal_pair, Settles}
@@ -84,7 +84,8 @@ found_known known N d (s ∷ ss) h found =
 
 -- ---- all names
 
-pub all_names_found : (ss : List Statement) (lines : List PlacedLine) (declared : List LaidName) (all : List Owed) (whole : List ℕ) (first known : List LaidName)
+pub all_names_found : (ss : List Statement) (lines : List PlacedLine) (declared : List LaidName) (all : List Owed) (whole : List ℕ)
+    (first known : List LaidName)
     → IsSource ss lines declared
     → all ≡ flat_map owed_in lines → IsOrder (map equal_pair all) whole → first ≡ flat_map (line_entries []) lines
     → Settles declared all first whole known

@@ -7,6 +7,6 @@ pub mod Laws
 pub mod Order
 pub mod Search
 pub mod Defining
-pub mod Lines
+pub mod PlacedLines
 pub mod Owing
 pub mod Source

@@ -74,7 +74,8 @@ pub record IsLonger (k : ℕ) (w : Waiting) (lists after : Lists) : Type 0 where
 -- an expression has its place, or waits for a name
 abbrev pub Looked : Option Unknown → ℕ → Lists → Lists → List ℕ → List ℕ → Type 0
 Looked None i waits waits_now places places_now = (waits_now ≡ waits) × (places_now ≡ places ++ i ∷ [])
-Looked (Some u) i waits waits_now places places_now = IsLonger u.number (record { equal = i; item = u.item }) waits waits_now × (places_now ≡ places)
+Looked (Some u) i waits waits_now places places_now =
+    IsLonger u.number (record { equal = i; item = u.item }) waits waits_now × (places_now ≡ places)
 
 -- ---- all looks
 
@@ -105,7 +106,8 @@ one_below n i = if nat_lt i n then 1 else 0
 abbrev pub known_names : List (List ℕ × Expr) → ℕ → List ℕ → List (List ℕ)
 known_names equals done places = names_at equals (take done places)
 
-pub record Holds (equals : List (List ℕ × Expr)) (m : Numbers) (known : List Bool) (waits : Lists) (places : List ℕ) (done : ℕ) (hand : List Waiting) : Type 0 where
+pub record Holds (equals : List (List ℕ × Expr)) (m : Numbers) (known : List Bool) (waits : Lists) (places : List ℕ) (done : ℕ)
+    (hand : List Waiting) : Type 0 where
   pub size : length known ≡ length equals
   pub lists : length waits ≡ length equals
   pub index : IsIndexOf 0 equals m
@@ -114,8 +116,10 @@ pub record Holds (equals : List (List ℕ × Expr)) (m : Numbers) (known : List 
   pub knows : (q : List ℕ) → is_known m known q ≡ list_any (same q) (known_names equals done places)
   -- each expression has one place, or waits once, or is in hand
   pub once : (i : ℕ) → times i places + waits_in i waits + times_in i hand ≡ one_below (length equals) i
-  pub behind : (front : List ℕ) (i : ℕ) (rest : List ℕ) → places ≡ front ++ i ∷ rest → are_settled equals (names_at equals front) (items_at equals i) ≡ true
-  pub waiting : (k : ℕ) (v : Vec Waiting Global) → slice_get waits k ≡ Some v → AllByRecursion (WaitsFor equals m (known_names equals done places) k) v.items
+  pub behind : (front : List ℕ) (i : ℕ) (rest : List ℕ) → places ≡ front ++ i ∷ rest
+      → are_settled equals (names_at equals front) (items_at equals i) ≡ true
+  pub waiting : (k : ℕ) (v : Vec Waiting Global) → slice_get waits k ≡ Some v
+      → AllByRecursion (WaitsFor equals m (known_names equals done places) k) v.items
   pub reached : AllByRecursion (IsReached equals (known_names equals done places)) hand
 
 -- what holds while expressions in hand are yet to be looked at

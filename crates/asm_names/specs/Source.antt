@@ -14,9 +14,9 @@ use Rattle.asm_model.specs.Labels.{Defined, Equal, defined_by, imported_in, impo
 use Rattle.asm_model.specs.Laid.{LaidLine, laid}
 use Rattle.asm_model.specs.Sound.{IsSound, ArePlain}
 use Rattle.asm_names.specs.Steps.{one_entry}
-use Rattle.asm_names.specs.declared.lines.PlacedLine.{PlacedLine}
+use Rattle.asm_names.specs.declared.placed_lines.PlacedLine.{PlacedLine}
 use Rattle.asm_names.specs.Defining.{own_entry}
-use Rattle.asm_names.specs.Lines.{IsLine, line_of}
+use Rattle.asm_names.specs.PlacedLines.{IsLine, line_of}
 
 -- ---- a source
 

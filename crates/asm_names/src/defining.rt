@@ -21,15 +21,43 @@ pub enum Defines<'a> {
     RegisterName(&'a Text, &'a RnOperand),
 }
 
+fn directive_names<'a>(label: &'a Text, line: &'a DirectiveLine) -> Defines<'a>
+    ensures { defined_of result ≡ labels.directive_defines label.now line.now }
+{
+    match line {
+        DirectiveLine::Equ { value } => Defines::Equal(label, value),
+        DirectiveLine::Rn { register } => Defines::RegisterName(label, register),
+        DirectiveLine::Field { .. } => Defines::MapField(label),
+        DirectiveLine::Rout => Defines::Unnamed,
+        DirectiveLine::Area { .. }
+        | DirectiveLine::Entry
+        | DirectiveLine::End
+        | DirectiveLine::Export { .. }
+        | DirectiveLine::Import { .. }
+        | DirectiveLine::Extern { .. }
+        | DirectiveLine::Keep { .. }
+        | DirectiveLine::Assert { .. }
+        | DirectiveLine::Nofp
+        | DirectiveLine::Opt { .. }
+        | DirectiveLine::Ttl
+        | DirectiveLine::Subt
+        | DirectiveLine::Constants { .. }
+        | DirectiveLine::Space { .. }
+        | DirectiveLine::Align { .. }
+        | DirectiveLine::Ltorg
+        | DirectiveLine::Data
+        | DirectiveLine::Map { .. }
+        | DirectiveLine::Code16
+        | DirectiveLine::Code32 => Defines::Label(label),
+    }
+}
+
 fn named<'a>(label: &'a Text, what: &'a What) -> Defines<'a>
     ensures { defined_of result ≡ labels.what_defines label.now what.now }
 {
     match what {
-        What::Directive(DirectiveLine::Equ { value }) => Defines::Equal(label, value),
-        What::Directive(DirectiveLine::Rn { register }) => Defines::RegisterName(label, register),
-        What::Directive(DirectiveLine::Field { .. }) => Defines::MapField(label),
-        What::Directive(DirectiveLine::Rout) => Defines::Unnamed,
-        _ => Defines::Label(label),
+        What::Nothing | What::Arm(_) | What::Thumb(_) | What::Pseudo(_) => Defines::Label(label),
+        What::Directive(line) => directive_names(label, line),
     }
 }
 

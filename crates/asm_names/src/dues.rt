@@ -8,7 +8,7 @@ ghost use Rattle.asm_names.specs.Owing.{owed_of};
 ghost use Rattle.asm_names.specs.Source.{owed_in, equal_pair};
 
 use crate::defining::{Defines, defined_by};
-use crate::lines::PlacedLine;
+use crate::placed_lines::PlacedLine;
 use crate::{Equal, order_of};
 use asm_model::Expr;
 use sdt_fault::{NoMemory, Text};

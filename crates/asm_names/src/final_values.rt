@@ -2,9 +2,9 @@
 
 ghost use Rattle.asm_model.specs.AtLine.{with_names};
 ghost use Rattle.asm_model.specs.Meaning.{Evaluates};
-ghost use Rattle.asm_names.specs.Lines.{line_of};
+ghost use Rattle.asm_names.specs.PlacedLines.{line_of};
 
-use crate::lines::PlacedLine;
+use crate::placed_lines::PlacedLine;
 use asm_expr::{KnownNames, Seen, value_seen};
 use asm_model::{EvalFault, Expr, Value};
 use std::alloc::Global;

@@ -10,10 +10,10 @@ ghost use Rattle.asm_names.specs.Source.{own_entries, line_entries};
 use crate::KnownNames;
 use crate::copies::entry_copy;
 use crate::defining::{Defines, defined_by, own_entry};
-use crate::lines::PlacedLine;
-use crate::made::{imported_entry, imported_name};
+use crate::made::imported_entry;
+use crate::placed_lines::PlacedLine;
 pub use asm_expr::known::add_entry;
-use asm_model::{LaidName, What};
+use asm_model::{LaidName, What, imported_name};
 use sdt_fault::{NoMemory, Text};
 use std::alloc::Global;
 

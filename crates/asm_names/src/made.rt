@@ -3,10 +3,9 @@
 ghost use Rattle.std.specs.Prelude.{◌≡◌, Ok, IfOk};
 ghost use Rattle.std.specs.Option.{option_copied};
 ghost use Rattle.asm_model.specs.Entries as entries;
-ghost use Rattle.asm_model.specs.Labels.{imported_in};
 
 use asm_expr::KnownNames;
-use asm_model::{DirectiveLine, LaidName, Meaning, Value, What};
+use asm_model::{LaidName, Meaning, Value};
 use sdt_fault::kinds::LineKind;
 use sdt_fault::{NoMemory, Text};
 use std::alloc::Global;
@@ -151,16 +150,5 @@ pub fn equal_entry(
     match value {
         Ok(value) => known_entry(alloc, declared, area, name, value),
         Err(kind) => entry(alloc, name, Meaning::Faulty(kind), Some(0), false),
-    }
-}
-
-/// The name that a statement imports.
-pub fn imported_name(what: &What) -> Option<&Text>
-    ensures { option_copied result ≡ imported_in what.now }
-{
-    match what {
-        What::Directive(DirectiveLine::Import { name, .. }) => Some(name),
-        What::Directive(DirectiveLine::Extern { name, .. }) => Some(name),
-        _ => None,
     }
 }

@@ -7,8 +7,8 @@ ghost use Rattle.asm_names.specs.Source.{IsSource};
 
 use crate::KnownNames;
 use crate::dues::{dues_of, places_of};
-use crate::lines::PlacedLine;
 use crate::listing::entries_of;
+use crate::placed_lines::PlacedLine;
 use crate::settling::settled;
 use sdt_fault::NoMemory;
 use std::alloc::Global;

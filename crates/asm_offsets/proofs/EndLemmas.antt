@@ -3,7 +3,7 @@ use Rattle.std.proofs.Common.{◌≡◌, ℕ, zero, suc, ◌+◌, ◌<◌, ◌^�
 use Rattle.std.specs.Prelude.{slice_get, map}
 use Rattle.std.proofs.lemmas.Bool.{ne_eqb}
 use Rattle.sdt_fault.specs.declared.NoMemory.{NoMemory}
-use Rattle.asm_offsets.specs.declared.extents.Placed.{Placed}
+use Rattle.asm_offsets.specs.declared.extents.PlacedExtent.{PlacedExtent}
 use Rattle.asm_offsets.specs.declared.extents.TooLarge.{TooLarge}
 use Rattle.asm_pool.specs.Pooled.{flushed}
 use Rattle.asm_model.specs.Extents.{Extent, Pool}
@@ -24,7 +24,8 @@ stands_none area (s ∷ before) h =
       end = rest.end ∙ sym (ap (λ b. cond b (end_from (end_behind area before) (waiting area before) s.extent) (end_behind area before)) h.0);
       waiting = rest.waiting ∙ sym (ap (λ b. cond b (waiting_behind s.extent (waiting area before)) (waiting area before)) h.0);
       placed = rest.placed ∙ sym (ap (λ b. cond (b && is_pool s.extent) (all_pooled area before) (pooled area before)) h.0);
-      pools = rest.pools ∙ sym (ap (λ b. cond b (pools_from (start_in area before s.extent) s.extent (pools_behind area before)) (pools_behind area before)) h.0);
+      pools =
+          rest.pools ∙ sym (ap (λ b. cond b (pools_from (start_in area before s.extent) s.extent (pools_behind area before)) (pools_behind area before)) h.0);
     }
 
 pub each_more : {X : Type 0} (P : ℕ → Option X → Type 0) (xs : List X) (x : X) → ((i : ℕ) → P i None → P i (Some x))
@@ -86,7 +87,8 @@ goes_on area before e a x h =
     }
 
 -- the area of a number, among those that stand behind statements
-pub standing_there : (areas : List Standing) (before : List Piece) (k : ℕ) (a : Standing) → IsBehind before areas → slice_get areas k ≡ Some a → StandsBehind k before a
+pub standing_there : (areas : List Standing) (before : List Piece) (k : ℕ) (a : Standing) → IsBehind before areas → slice_get areas k ≡ Some a
+    → StandsBehind k before a
 standing_there areas before k a h e = subst (IsStanding k before) e (h.each k)
 
 pub behind_some : (areas : List Standing) (before : List Piece) (k : ℕ) (a : Standing) (e : Extent) → IsExtent e → k < length areas → slice_get areas k ≡ Some a
@@ -97,7 +99,7 @@ behind_some areas before k a e x within there h = record {
       (λ i o z. stays i before (piece (Some k) e) o (ne_eqb k i z)) (goes_on k before e a x (standing_there areas before k a h there)) h.each;
 }
 
-pub places_some : (areas : List Standing) (before : List Piece) (k : ℕ) (a b : Standing) (e : Extent) (r : Result (Result Placed TooLarge) NoMemory)
+pub places_some : (areas : List Standing) (before : List Piece) (k : ℕ) (a b : Standing) (e : Extent) (r : Result (Result PlacedExtent TooLarge) NoMemory)
     → IsExtent e → k < length areas → slice_get areas k ≡ Some a → Steps e a b r → IsBehind before areas → Places (Some k) e before (set areas k b) r
 places_some areas before k a b e (Err m) x within there step h = tt
 places_some areas before k a b e (Ok (Err t)) x within there step h =

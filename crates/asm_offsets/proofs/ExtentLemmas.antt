@@ -13,12 +13,14 @@ use Rattle.asm_model.specs.declared.thumb_lines.ThumbLine.{ThumbLine}
 use Rattle.asm_model.specs.declared.thumb_lines.ThumbLine.TheVariants as thumb
 use Rattle.asm_model.specs.declared.directives.Boundary.{Boundary}
 use Rattle.asm_model.specs.declared.directives.Boundary.TheVariants as limit
-use Rattle.asm_model.specs.declared.directives.DirectiveLine.{DirectiveLine}
-use Rattle.asm_model.specs.declared.directives.DirectiveLine.TheVariants as line
+use Rattle.asm_model.specs.declared.directives.DataItem.{DataItem}
+use Rattle.asm_model.specs.declared.directives.DataItem.TheVariants.{Word, UnalignedWord, HalfWord, Byte}
 use Rattle.asm_model.specs.declared.names.Names.{Names}
-use Rattle.asm_model.specs.Says.{on_both, mapped}
-use Rattle.asm_model.specs.Extents.{Extent, Block, Padding, Loading, Pool, number_there, literal_there, is_moved, is_power, loading, thumb_extent, pseudo_extent, as_multiple, padding, directive_extent, extent_of}
+use Rattle.asm_model.specs.DataItems.{item_alignment}
+use Rattle.asm_model.specs.Occupied.{Occupied, Unplaced, Opening, Marking, Entering, Items, Zeroes, UpTo, Literals, occupied}
+use Rattle.asm_model.specs.Extents.{Extent, Block, Padding, Loading, Pool, number_there, literal_there, is_moved, is_power, loading, thumb_extent, pseudo_extent, as_multiple, padding, occupied_extent, extent_of}
 use Rattle.asm_model.specs.OffsetLaws.{IsLiteral}
+use Rattle.asm_model.specs.Readings.{mapped, on_both}
 use Rattle.asm_model.proofs.LaidLemmas.{loadings_are_literals}
 use Rattle.asm_offsets.specs.Coded.{IsAlignment, IsExtent}
 use Rattle.asm_offsets.specs.Laws.{ExtentsArePlaceable}
@@ -109,23 +111,28 @@ aligned_padding s limit.Word = omega arith
 aligned_padding s (limit.Multiple e) = multiple_some (number_there s e) 0
 aligned_padding s (limit.Behind e f) = both_some (number_there s e) (number_there s f)
 
-aligned_directive : (s : Names) (l : DirectiveLine) → OkAligned (directive_extent s l)
-aligned_directive s line.Entry = aligned_instruction s.thumb 0 0
-aligned_directive s (line.Space e) = aligned_mapped (λ n. Block 1 n) (number_there s e) (λ x. one)
-aligned_directive s (line.Align b) = aligned_padding s b
-aligned_directive s (line.Dcd es) = four
-aligned_directive s (line.Dcdu es) = one
-aligned_directive s (line.Dcw es) = two
-aligned_directive s (line.Dcb es) = one
-aligned_directive s line.Ltorg = tt
-aligned_directive s l = one
+pub aligned_item : (i : DataItem) → IsAlignment (item_alignment i)
+aligned_item Word = four
+aligned_item UnalignedWord = one
+aligned_item HalfWord = two
+aligned_item Byte = one
+
+aligned_occupied : (s : Names) (o : Occupied) → OkAligned (occupied_extent s o)
+aligned_occupied s Unplaced = one
+aligned_occupied s (Opening a) = one
+aligned_occupied s Marking = one
+aligned_occupied s Entering = aligned_instruction s.thumb 0 0
+aligned_occupied s (Items item es) = aligned_item item
+aligned_occupied s (Zeroes e) = aligned_mapped (λ n. Block 1 n) (number_there s e) (λ x. one)
+aligned_occupied s (UpTo b) = aligned_padding s b
+aligned_occupied s Literals = tt
 
 aligned : (s : Names) (w : What) → OkAligned (extent_of s w)
 aligned s what.Nothing = one
 aligned s (what.Arm l) = four
 aligned s (what.Thumb l) = aligned_thumb l
 aligned s (what.Pseudo l) = aligned_pseudo s l
-aligned s (what.Directive l) = aligned_directive s l
+aligned s (what.Directive l) = aligned_occupied s (occupied l)
 
 with_literal : (e : Extent) → IsAligned e → ((n : ℕ) (v : Value) → e ≡ Loading n v → IsLiteral v) → IsExtent e
 with_literal (Block alignment n) h l = h

@@ -1,4 +1,4 @@
 mod EndLemmas
-mod ExtentLemmas
+pub mod ExtentLemmas
 mod PlaceLemmas
 mod WordLemmas

@@ -48,7 +48,8 @@ places_agree v (w ∷ ws) h =
     ∙ ap (λ o. cond (same_literal v w) (Some 0) (pool.one_later o)) (places_agree v ws h)
     ∙ by_tests (same_literal v w) (list_any (same_literal v) ws)
   where
-    by_tests : (a b : Bool) → cond a (Some 0) (pool.one_later (cond b (Some (place_among v ws)) None)) ≡ cond (a || b) (Some (cond a 0 (place_among v ws + 1))) None
+    by_tests : (a b : Bool) → cond a (Some 0) (pool.one_later (cond b (Some (place_among v ws)) None)) ≡ cond (a || b) (Some (cond a 0 (place_among v ws + 1)))
+        None
     by_tests true b = refl
     by_tests false true = ap Some (omega arith)
     by_tests false false = refl
@@ -72,7 +73,8 @@ pub record Notes (v : Value) (p q : Pooled) (n : ℕ) : Type 0 where
 
 pub notes : (v : Value) (p : Pooled) → IsLiteral v → Notes v p (pool.noted v p).1 (pool.noted v p).0
 notes v p h =
-    subst (λ o. Notes v p (pool.entry_at o v p).1 (pool.entry_at o v p).0) (sym (places_agree v p.waiting h)) (by_test (list_any (same_literal v) p.waiting) refl)
+    subst (λ o. Notes v p (pool.entry_at o v p).1 (pool.entry_at o v p).0) (sym (places_agree v p.waiting h))
+    (by_test (list_any (same_literal v) p.waiting) refl)
   where
     by_test : (b : Bool) → list_any (same_literal v) p.waiting ≡ b
         → Notes v p (pool.entry_at (cond b (Some (place_among v p.waiting)) None) v p).1 (pool.entry_at (cond b (Some (place_among v p.waiting)) None) v p).0
@@ -103,12 +105,15 @@ words_agree at [] = refl
 words_agree at (v ∷ vs) = ap (λ t. (v, at) ∷ t) (words_agree (at + 4) vs)
 
 -- with those of a pool more
-pub pool_placed : (area start : ℕ) (before : List Piece) (p : Pooled) → p.waiting ≡ waiting area before → p.placed ≡ pooled area before → start ≡ start_in area before Pool
+pub pool_placed : (area start : ℕ) (before : List Piece) (p : Pooled) → p.waiting ≡ waiting area before → p.placed ≡ pooled area before
+    → start ≡ start_in area before Pool
     → (pool.flushed start p).placed ≡ all_pooled area before
-pool_placed area start before p waits placed s = rw (waits, placed, s) (ap (λ ws. pooled area before ++ ws) (words_agree (start_in area before Pool) (waiting area before)))
+pool_placed area start before p waits placed s =
+    rw (waits, placed, s) (ap (λ ws. pooled area before ++ ws) (words_agree (start_in area before Pool) (waiting area before)))
 
 -- behind a statement
-pub placed_behind : (area start : ℕ) (e : Extent) (before : List Piece) (p : Pooled) → IsExtent e → p.waiting ≡ waiting area before → p.placed ≡ pooled area before
+pub placed_behind : (area start : ℕ) (e : Extent) (before : List Piece) (p : Pooled) → IsExtent e → p.waiting ≡ waiting area before
+    → p.placed ≡ pooled area before
     → start ≡ start_in area before e → (pools_from start e p).placed ≡ cond (is_pool e) (all_pooled area before) (pooled area before)
 placed_behind area start (Block a n) before p h waits placed s = placed
 placed_behind area start (Padding m n) before p h waits placed s = placed
@@ -138,7 +143,8 @@ flushed_count at p =
     omega arith
 
 -- each entry takes a byte at least
-pub few_behind : (start size : ℕ) (e : Extent) (p : Pooled) → IsExtent e → size ≡ size_of p.waiting start e → count p ≤ start → count (pools_from start e p) ≤ start + size
+pub few_behind : (start size : ℕ) (e : Extent) (p : Pooled) → IsExtent e → size ≡ size_of p.waiting start e → count p ≤ start
+    → count (pools_from start e p) ≤ start + size
 few_behind start size (Block a n) p x s h = omega arith
 few_behind start size (Padding m n) p x s h = omega arith
 few_behind start size (Loading n v) p x s h =
@@ -148,7 +154,8 @@ few_behind start size (Loading n v) p x s h =
     omega arith
 few_behind start size Pool p x s h = let c = flushed_count start p in omega arith
 
-pub low_behind : (end start size : ℕ) (e : Extent) (p q : Pooled) → IsExtent e → IsLow end p → start ≡ start_from end p.waiting e → size ≡ size_of p.waiting start e
+pub low_behind : (end start size : ℕ) (e : Extent) (p q : Pooled) → IsExtent e → IsLow end p → start ≡ start_from end p.waiting e
+    → size ≡ size_of p.waiting start e
     → start + size ≤ 2 ^ 24 → q ≡ pools_from start e p → IsLow (start + size) q
 low_behind end start size e p q x low from s fits to =
     let rise = more end (lacking end (alignment_of p.waiting e) 0) in

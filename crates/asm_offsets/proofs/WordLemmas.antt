@@ -37,10 +37,12 @@ from_place n w start (Padding m b) p h = h
 from_place n w start (Loading b v) p h = noted_place n w v p h
 from_place n w start Pool p h = place_front p.placed (pool.placed_from start p.waiting) n w h
 
-behind_place : (n w area : ℕ) (before : List Piece) (s : Piece) → place_of n (pools_behind area before) ≡ Some w → place_of n (pools_behind area (s ∷ before)) ≡ Some w
+behind_place : (n w area : ℕ) (before : List Piece) (s : Piece) → place_of n (pools_behind area before) ≡ Some w
+    → place_of n (pools_behind area (s ∷ before)) ≡ Some w
 behind_place n w area before s h = by_test (is_of area s.area)
   where
-    by_test : (b : Bool) → place_of n (cond b (pools_from (start_in area before s.extent) s.extent (pools_behind area before)) (pools_behind area before)) ≡ Some w
+    by_test : (b : Bool) → place_of n (cond b (pools_from (start_in area before s.extent) s.extent (pools_behind area before)) (pools_behind area before))
+        ≡ Some w
     by_test true = from_place n w (start_in area before s.extent) s.extent (pools_behind area before) h
     by_test false = h
 
@@ -68,7 +70,8 @@ flush_place : (n area : ℕ) (before : List Piece) (v : Value) → Waits n area 
 flush_place n area before v h =
     let below = place_below v (waiting area before) h.there in
     let few : place_among v (waiting area before) < length (pools_behind area before).waiting = rw h.agree (omega arith) in
-    ap (λ k. place_of k (final area before)) h.number ∙ pool_law.words (start_in area before Pool) (place_among v (waiting area before)) (pools_behind area before) few
+    ap (λ k. place_of k (final area before)) h.number ∙ pool_law.words (start_in area before Pool) (place_among v (waiting area before))
+    (pools_behind area before) few
 
 pool_places : (n area : ℕ) (before : List Piece) (s : Piece) (v : Value) → is_pool_of area s ≡ true → Waits n area before v
     → place_of n (pools_behind area (s ∷ before)) ≡ Some (word_behind area before v)
@@ -99,7 +102,8 @@ place_kept v w ws h = by_test (list_any (same_literal w) ws)
     by_test false = front ws (w ∷ []) h
 
 -- it waits behind a statement that is no pool of the area
-still_waits : (n area : ℕ) (before : List Piece) (s : Piece) (v : Value) → IsExtent s.extent → is_pool_of area s ≡ false → Waits n area before v → Waits n area (s ∷ before) v
+still_waits : (n area : ℕ) (before : List Piece) (s : Piece) (v : Value) → IsExtent s.extent → is_pool_of area s ≡ false → Waits n area before v
+    → Waits n area (s ∷ before) v
 still_waits n area before s v x e h = record {
   agree = agrees (is_of area s.area);
   number = numbers (is_of area s.area) s.extent x e;
@@ -165,7 +169,8 @@ loaded_waits area before s b v here loads all h =
     subst (λ t. WaitsIn (pool.noted v (pools_behind area before)).0
     (cond t (pools_from (start_in area before s.extent) s.extent (pools_behind area before)) (pools_behind area before))
     (cond t (waiting_behind s.extent (waiting area before)) (waiting area before)) v) (sym (is_here area s.area here))
-    (subst (λ e. WaitsIn (pool.noted v (pools_behind area before)).0 (pools_from (start_in area before e) e (pools_behind area before)) (waiting_behind e (waiting area before)) v) (sym loads)
+    (subst (λ e. WaitsIn (pool.noted v (pools_behind area before)).0 (pools_from (start_in area before e) e (pools_behind area before))
+    (waiting_behind e (waiting area before)) v) (sym loads)
     (noted_is_there area before v (all_agree area before all) h))
 
 pub literals_are_placed : LiteralsArePlaced

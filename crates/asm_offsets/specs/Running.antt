@@ -3,7 +3,7 @@
 -- the most is this project's.
 use Rattle.std.specs.Prelude.{◌≡◌, ℕ, ◌+◌, ◌^◌, ◌≤◌, ◌<◌, List, [], ◌∷◌, length, false, if◌then◌else◌, slice_get, Option, Some, None, Result, Ok, Err}
 use Rattle.sdt_fault.specs.declared.NoMemory.{NoMemory}
-use Rattle.asm_offsets.specs.declared.extents.Placed.{Placed}
+use Rattle.asm_offsets.specs.declared.extents.PlacedExtent.{PlacedExtent}
 use Rattle.asm_offsets.specs.declared.extents.TooLarge.{TooLarge}
 use Rattle.asm_pool.specs.Pooled.{Pooled, noted, flushed}
 use Rattle.asm_model.specs.Extents.{Extent, Loading, Pool, pool_alignment}
@@ -77,7 +77,7 @@ abbrev pub entry_behind : Option ℕ → List Piece → Extent → Option ℕ
 entry_behind None before e = None
 entry_behind (Some area) before e = entry_in e (pools_behind area before)
 
-pub record IsPlaced (area : Option ℕ) (e : Extent) (before : List Piece) (areas : List Standing) (p : Placed) : Type 0 where
+pub record IsPlaced (area : Option ℕ) (e : Extent) (before : List Piece) (areas : List Standing) (p : PlacedExtent) : Type 0 where
   pub offset : p.offset ≡ offset_of area before e
   pub size : p.size ≡ size_behind area before e
   pub fits : p.offset + p.size ≤ 2 ^ 24
@@ -85,13 +85,13 @@ pub record IsPlaced (area : Option ℕ) (e : Extent) (before : List Piece) (area
   pub behind : IsBehind (piece area e ∷ before) areas
 
 -- where a statement stands behind these, unless it ends behind 2^24
-abbrev pub Places : Option ℕ → Extent → List Piece → List Standing → Result (Result Placed TooLarge) NoMemory → Type 0
+abbrev pub Places : Option ℕ → Extent → List Piece → List Standing → Result (Result PlacedExtent TooLarge) NoMemory → Type 0
 Places area e before areas (Ok (Ok p)) = IsPlaced area e before areas p
 Places area e before areas (Ok (Err t)) = 2 ^ 24 < offset_of area before e + size_behind area before e
 Places area e before areas (Err m) = Unit {0}
 
 -- where a statement is not placed, nothing changes
-abbrev pub Keeps : List Standing → List Standing → Result (Result Placed TooLarge) NoMemory → Type 0
+abbrev pub Keeps : List Standing → List Standing → Result (Result PlacedExtent TooLarge) NoMemory → Type 0
 Keeps old new (Ok (Ok p)) = length new ≡ length old
 Keeps old new (Ok (Err t)) = new ≡ old
 Keeps old new (Err m) = new ≡ old

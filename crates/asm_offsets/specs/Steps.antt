@@ -2,7 +2,7 @@
 use Rattle.std.specs.Prelude.{◌≡◌, ℕ, ◌+◌, ◌%◌, ◌^◌, ◌≤◌, ◌<◌, List, length, Option, Result, Ok, Err}
 use Rattle.sdt_fault.specs.declared.NoMemory.{NoMemory}
 use Rattle.asm_model.specs.declared.values.Value.{Value}
-use Rattle.asm_offsets.specs.declared.extents.Placed.{Placed}
+use Rattle.asm_offsets.specs.declared.extents.PlacedExtent.{PlacedExtent}
 use Rattle.asm_offsets.specs.declared.extents.TooLarge.{TooLarge}
 use Rattle.asm_offsets.specs.Running.{Standing, entry_in, pools_from, moved}
 use Rattle.asm_pool.specs.Pooled.{Pooled}
@@ -29,7 +29,7 @@ abbrev pub Takes : ℕ → Extent → Pooled → Pooled → Result (Option ℕ) 
 Takes start e old new (Ok entry) = (entry ≡ entry_in e old) × (new ≡ pools_from start e old)
 Takes start e old new (Err m) = new ≡ old
 
-pub record Stands (e : Extent) (old new : Standing) (p : Placed) : Type 0 where
+pub record Stands (e : Extent) (old new : Standing) (p : PlacedExtent) : Type 0 where
   pub offset : p.offset ≡ start_from old.end old.pools.waiting e
   pub size : p.size ≡ size_of old.pools.waiting (start_from old.end old.pools.waiting e) e
   pub fits : p.offset + p.size ≤ 2 ^ 24
@@ -37,7 +37,7 @@ pub record Stands (e : Extent) (old new : Standing) (p : Placed) : Type 0 where
   pub moves : new ≡ moved e old
 
 -- an area with a statement more, unless it ends behind 2^24
-abbrev pub Steps : Extent → Standing → Standing → Result (Result Placed TooLarge) NoMemory → Type 0
+abbrev pub Steps : Extent → Standing → Standing → Result (Result PlacedExtent TooLarge) NoMemory → Type 0
 Steps e old new (Ok (Ok p)) = Stands e old new p
 Steps e old new (Ok (Err t)) =
     (new ≡ old) × (2 ^ 24 < start_from old.end old.pools.waiting e + size_of old.pools.waiting (start_from old.end old.pools.waiting e) e)

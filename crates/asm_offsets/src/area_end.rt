@@ -9,7 +9,7 @@ ghost use Rattle.asm_offsets.specs.Finished.{finished};
 ghost use Rattle.asm_offsets.specs.Running.{nothing};
 ghost use Rattle.asm_offsets.specs.Steps.{HasRoom, IsAligned, Takes, Steps};
 
-use crate::extents::{Extent, LaidPools, Placed, TooLarge};
+use crate::extents::{Extent, LaidPools, PlacedExtent, TooLarge};
 use crate::places::{pool_alignment, raised, size_of, start_of};
 use asm_pool::Pools;
 use sdt_fault::NoMemory;
@@ -99,7 +99,7 @@ impl AreaEnd {
     }
 
     /// Places a statement more.
-    pub fn place(&mut self, extent: &Extent) -> Result<Result<Placed, TooLarge>, NoMemory>
+    pub fn place(&mut self, extent: &Extent) -> Result<Result<PlacedExtent, TooLarge>, NoMemory>
         requires { IsExtent (extent_of_code extent.now) }
         ensures { Steps (extent_of_code extent.now) self.old self.new result }
     {
@@ -110,7 +110,7 @@ impl AreaEnd {
         }
         let literal = take(&mut self.pools, extent, offset)?;
         self.end = offset + size;
-        Ok(Ok(Placed {
+        Ok(Ok(PlacedExtent {
             offset,
             size,
             literal,

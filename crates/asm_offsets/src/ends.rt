@@ -7,7 +7,7 @@ ghost use Rattle.asm_offsets.specs.Finished.{finished, AreLaid};
 ghost use Rattle.asm_offsets.specs.Running.{nothing, pool_alignment_behind, start_behind, IsBehind, IsThere, Keeps, Places};
 
 use crate::area_end::AreaEnd;
-use crate::extents::{Extent, LaidPools, Placed, TooLarge};
+use crate::extents::{Extent, LaidPools, PlacedExtent, TooLarge};
 use sdt_fault::NoMemory;
 use std::alloc::Global;
 use std::marker::Model;
@@ -29,7 +29,7 @@ impl Model for Ends {
 }
 
 /// Before the first area statements take up nothing.
-const NOWHERE: Placed = Placed {
+const NOWHERE: PlacedExtent = PlacedExtent {
     offset: 0,
     size: 0,
     literal: None,
@@ -98,7 +98,7 @@ impl Ends {
         &mut self,
         area: Option<u32>,
         extent: Extent,
-    ) -> Result<Result<Placed, TooLarge>, NoMemory>
+    ) -> Result<Result<PlacedExtent, TooLarge>, NoMemory>
         requires there { IsThere area self.old }
         requires extent { IsExtent (extent_of_code extent) }
         ensures places { (before : List Piece) → IsBehind before self.old

@@ -17,7 +17,7 @@ pub enum Extent {
 
 /// Where a statement stands in its area.
 #[derive(Clone, Copy, PartialEq, Eq, Debug)]
-pub struct Placed {
+pub struct PlacedExtent {
     pub offset: u32,
     /// In bytes.
     pub size: u32,

@@ -26,7 +26,8 @@ still_there : (v : Value) (ws xs : List Value) (i : ℕ) → place_among v ws �
 still_there v [] xs i e = absurd (cc)
 still_there v (w ∷ ws) xs i e = by_test (same_literal v w) (place_among v ws) (place_among v (ws ++ xs)) e (λ j h. still_there v ws xs j h)
   where
-    by_test : (b : Bool) (o p : Option ℕ) → cond b (Some 0) (one_later o) ≡ Some i → ((j : ℕ) → o ≡ Some j → p ≡ Some j) → cond b (Some 0) (one_later p) ≡ Some i
+    by_test : (b : Bool) (o p : Option ℕ) → cond b (Some 0) (one_later o) ≡ Some i → ((j : ℕ) → o ≡ Some j → p ≡ Some j)
+        → cond b (Some 0) (one_later p) ≡ Some i
     by_test true o p e h = e
     by_test false None p e h = absurd (cc)
     by_test false (Some j) p e h = ap one_later (h j refl) ∙ e
@@ -46,7 +47,8 @@ notes : (v : Value) (p : Pooled) → Notes v p (noted v p).1 (noted v p).0
 notes v p = by_place (place_among v p.waiting) refl
   where
     by_place : (o : Option ℕ) → place_among v p.waiting ≡ o → Notes v p (entry_at o v p).1 (entry_at o v p).0
-    by_place None e = record { placed = refl; more = v ∷ []; waiting = refl; place = length p.waiting; among = placed_last v v p.waiting e (same_refl v); number = refl }
+    by_place None e =
+        record { placed = refl; more = v ∷ []; waiting = refl; place = length p.waiting; among = placed_last v v p.waiting e (same_refl v); number = refl }
     by_place (Some i) e = record { placed = refl; more = []; waiting = sym (append-nil p.waiting); place = i; among = e; number = refl }
 
 pub record Goes (p q : Pooled) : Type 0 where
@@ -59,7 +61,12 @@ goes [] p = record { placed = refl; more = []; waiting = sym (append-nil p.waiti
 goes (w ∷ ws) p =
     let n = notes w p in
     let g = goes ws (noted w p).1 in
-    record { placed = g.placed ∙ n.placed; more = n.more ++ g.more; waiting = g.waiting ∙ ap (λ l. l ++ g.more) n.waiting ∙ append_assoc p.waiting n.more g.more }
+    record {
+      placed = g.placed ∙ n.placed;
+      more = n.more ++ g.more;
+      waiting =
+          g.waiting ∙ ap (λ l. l ++ g.more) n.waiting ∙ append_assoc p.waiting n.more g.more;
+    }
 
 -- the literals of pools to which some were noted
 longer : (p q : Pooled) (g : Goes p q) → literals_of q ≡ literals_of p ++ g.more
@@ -68,7 +75,8 @@ longer p q g = rw (g.placed, g.waiting) (sym (append_assoc (map (λ (e : Value �
 -- an entry that waits
 waits_there : (p : Pooled) (i : ℕ) → slice_get (literals_of p) (length p.placed + i) ≡ slice_get p.waiting i
 waits_there p i =
-    ap (λ n. slice_get (literals_of p) (n + i)) (sym (length-map p.placed (λ (e : Value × ℕ). e.0))) ∙ get_behind (map (λ (e : Value × ℕ). e.0) p.placed) p.waiting i
+    ap (λ n. slice_get (literals_of p) (n + i)) (sym (length-map p.placed (λ (e : Value × ℕ). e.0)))
+    ∙ get_behind (map (λ (e : Value × ℕ). e.0) p.placed) p.waiting i
 
 literal_there : (v : Value) (p : Pooled) → slice_get (literals_of (noted v p).1) (noted v p).0 ≡ Some v
 literal_there v p =
@@ -126,7 +134,8 @@ none_past (x ∷ xs) zero e = absurd (cc)
 none_past (x ∷ xs) (suc i) e = let h = none_past xs i e in omega arith
 
 unplaced_there : (entry : ℕ) (p : Pooled) → (place_of entry p ≡ None) ↔ (length p.placed ≤ entry)
-unplaced_there entry p = (none_past p.placed entry, λ h. ap (λ (o : Option (Value × ℕ)). option_map (λ (e : Value × ℕ). e.1) o) (slice_get_past p.placed entry h))
+unplaced_there entry p =
+    (none_past p.placed entry, λ h. ap (λ (o : Option (Value × ℕ)). option_map (λ (e : Value × ℕ). e.1) o) (slice_get_past p.placed entry h))
 
 pub pool_law : PoolLaw
 pool_law = record {

@@ -67,7 +67,8 @@ pub placed_last : (q v : Value) (ws : List Value) → place_among q ws ≡ None 
 placed_last q v [] n e = rw e refl
 placed_last q v (w ∷ ws) n e = by_test (same_literal q w) (place_among q ws) (place_among q (ws ++ v ∷ [])) n (λ h. placed_last q v ws h e)
   where
-    by_test : (b : Bool) (o p : Option ℕ) → cond b (Some 0) (one_later o) ≡ None → (o ≡ None → p ≡ Some (length ws)) → cond b (Some 0) (one_later p) ≡ Some (length (w ∷ ws))
+    by_test : (b : Bool) (o p : Option ℕ) → cond b (Some 0) (one_later o) ≡ None → (o ≡ None → p ≡ Some (length ws))
+        → cond b (Some 0) (one_later p) ≡ Some (length (w ∷ ws))
     by_test true o p n h = absurd (cc)
     by_test false None p n h = ap one_later (h refl)
     by_test false (Some i) p n h = absurd (cc)

@@ -77,7 +77,8 @@ entries_of vs os within = rw (length_zip vs os within) (simp length-drop (omega 
 -- ---- a literal that is noted
 
 -- one that waits
-pub noted_old : (vs : List Value) (os : List ℕ) (v : Value) (number : ℕ) → length os ≤ length vs → Some number ≡ numbered (length os) (place_among v (drop (length os) vs))
+pub noted_old : (vs : List Value) (os : List ℕ) (v : Value) (number : ℕ) → length os ≤ length vs
+    → Some number ≡ numbered (length os) (place_among v (drop (length os) vs))
     → (number, pooled vs os) ≡ noted v (pooled vs os)
 noted_old vs os v number within found = by_place (place_among v (drop (length os) vs)) found
   where
@@ -104,10 +105,12 @@ kept_more vs os m n v kept room fresh more =
 
 -- ---- a pool
 
-pub flush_is : (vs : List Value) (os : List ℕ) (at : ℕ) → length os ≤ length vs → pooled vs (os ++ offsets_from at (drop (length os) vs)) ≡ flushed at (pooled vs os)
+pub flush_is : (vs : List Value) (os : List ℕ) (at : ℕ) → length os ≤ length vs
+    → pooled vs (os ++ offsets_from at (drop (length os) vs)) ≡ flushed at (pooled vs os)
 flush_is vs os at within = λ i. record { placed = zip_flush vs os at within i; waiting = drop_flush vs os at within i }
 
-pub kept_flush : (vs : List Value) (os : List ℕ) (at : ℕ) (m n : Numbers) → IsKept vs os m → IsEmpty n → IsKept vs (os ++ offsets_from at (drop (length os) vs)) n
+pub kept_flush : (vs : List Value) (os : List ℕ) (at : ℕ) (m n : Numbers) → IsKept vs os m → IsEmpty n
+    → IsKept vs (os ++ offsets_from at (drop (length os) vs)) n
 kept_flush vs os at m n kept empty =
     let within = kept.within in
     let all : length (os ++ offsets_from at (drop (length os) vs)) ≡ length vs = simp (length-append, length_offsets, length-drop) (omega arith) in

@@ -10,15 +10,15 @@ use Rattle.asm_model.specs.declared.operands.Shift.TheVariants as shift
 use Rattle.asm_model.specs.declared.operands.Indexing.{Indexing}
 use Rattle.asm_model.specs.declared.operands.Indexing.TheVariants as indexing_is
 use Rattle.asm_model.specs.Operands.{operands}
-use Rattle.asm_model.specs.Says.{on_both, mapped}
+use Rattle.asm_model.specs.Readings.{and_then, mapped, on_both}
 use Rattle.asm_arm.specs.declared.operands.Scale.{Scale}
 use Rattle.asm_arm.specs.declared.operands.Scale.TheVariants as scale
 use Rattle.asm_arm.specs.declared.addresses.Offset.{Offset}
 use Rattle.asm_arm.specs.declared.addresses.Offset.TheVariants as offset_is
 use Rattle.asm_arm.specs.declared.addresses.Addressed.{Addressed}
 use Rattle.asm_arm.specs.Addresses.{signed_by, signed_register, number_shift, ReadsPlainOffset, ReadsOffset, at, ReadsAt, ReadsScaledAt, ReadsInside, bracketed, before_of, ReadsBracketed, ReadsBefore, base, ReadsBehind, ReadsAfter, translated_of, is_base, translated_before, before_as, after_as, unshifted, half_offset}
-use Rattle.asm_arm.specs.Operands.{Cuts, one, two, three, cut, followed, without_first, register}
-use Rattle.said_model.specs.Said.{IsRead, RegisterSaid, ShiftSaid, HalfOffsetSaid, IsUntranslated}
+use Rattle.asm_arm.specs.Operands.{Cuts, one, two, three, cut, without_first, register}
+use Rattle.asm_model.specs.Said.{IsRead, RegisterSaid, ShiftSaid, HalfOffsetSaid, IsUntranslated}
 use Rattle.asm_reading.proofs.ExpressionLemmas.{zero_read, expression_gives}
 use Rattle.asm_reading.proofs.FormLemmas.{CutsHaveForm, SomeHaveForm, cuts_form, without_first_form, bracketed_form}
 use Rattle.asm_reading.proofs.GivesLemmas.{Gives, equal_gives, fault_gives, mapped_gives, followed_gives, both_give}
@@ -58,8 +58,8 @@ offset_said : (text : List ℕ) (x : List Token) (s : Option (List Token)) (r : 
     → ReadsOffset text x s r → Gives OffsetSaid r
 offset_said text x None r f g h = plain_offset_said text x (without_first text (codes "#") x) r (without_first_form text (codes "#") x f) h
 offset_said text x (Some s) r f g h =
-    equal_gives OffsetSaid r (on_both (λ p y. offset_is.Register p.0 p.1 y) (signed_register text x) (followed h.0 number_shift)) h.2
-    (both_give SignedSaid ShiftSaid OffsetSaid (λ p y. offset_is.Register p.0 p.1 y) (signed_register text x) (followed h.0 number_shift) (λ p y a b. (a, b))
+    equal_gives OffsetSaid r (on_both (λ p y. offset_is.Register p.0 p.1 y) (signed_register text x) (and_then h.0 number_shift)) h.2
+    (both_give SignedSaid ShiftSaid OffsetSaid (λ p y. offset_is.Register p.0 p.1 y) (signed_register text x) (and_then h.0 number_shift) (λ p y a b. (a, b))
     (signed_said text x) (followed_gives ScaleSaid ShiftSaid h.0 number_shift number_shift_said (scale_said text s h.0 g h.1)))
 
 -- ---- addresses
@@ -126,7 +126,8 @@ translated_before_said : (b : Bool) (p : Result Addressed LineKind) → Gives Pl
 translated_before_said true p h = translated_said indexing_is.Translated p h
 translated_before_said false p h = translated_said indexing_is.TranslatedBefore p h
 
-pub before_as_said : (text : List ℕ) (t : Bool) (a : List Token) (p : Result Addressed LineKind) → Gives PlacedSaid p → Gives AddressedSaid (before_as text t a p)
+pub before_as_said : (text : List ℕ) (t : Bool) (a : List Token) (p : Result Addressed LineKind) → Gives PlacedSaid p
+    → Gives AddressedSaid (before_as text t a p)
 before_as_said text true a p h = translated_before_said (is_base text (base text a)) p h
 before_as_said text false a p h = placed_addressed p h
 

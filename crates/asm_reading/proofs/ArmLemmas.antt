@@ -19,20 +19,20 @@ use Rattle.asm_model.specs.declared.statements.PseudoLine.TheVariants as pseudo
 use Rattle.asm_model.specs.declared.statements.What.{What}
 use Rattle.asm_model.specs.declared.statements.What.TheVariants as what
 use Rattle.asm_model.specs.Operands.{operands}
-use Rattle.asm_model.specs.Says.{on_both}
-use Rattle.asm_arm.specs.declared.words.Mnemonic.{Mnemonic}
-use Rattle.asm_arm.specs.declared.words.Mnemonic.TheVariants as mnemonic
+use Rattle.asm_model.specs.Readings.{both, on_both}
+use Rattle.asm_arm.specs.declared.mnemonics.Mnemonic.{Mnemonic}
+use Rattle.asm_arm.specs.declared.mnemonics.Mnemonic.TheVariants as mnemonic
 use Rattle.asm_arm.specs.declared.operands.Second.{Second}
 use Rattle.asm_arm.specs.declared.operands.Second.TheVariants as second
 use Rattle.asm_arm.specs.declared.addresses.Offset.{Offset}
 use Rattle.asm_arm.specs.declared.addresses.Offset.TheVariants as offset_is
 use Rattle.asm_arm.specs.declared.addresses.Addressed.{Addressed}
 use Rattle.asm_arm.specs.Addresses.{base, before_as, after_as, half_offset}
-use Rattle.asm_arm.specs.Lines.{hash, equals, bracket, data_line, absent, ReadsData, ReadsMove, ReadsComparison, ReadsSum, ReadsShape, multiply, multiply_long, based, swap, exchange, read_status, ReadsStatusValue, ReadsWriteStatus, moved, transfer_line, is_plain, ReadsConstant, ReadsLabel, transferred, ReadsOther, ReadsPlace, ReadsMoved, ReadsTransfer, half_line, half_moved, ReadsHalf, block_line, block, without_hash, address_line, ReadsAddress, idle, ReadsWord, Reads}
+use Rattle.asm_arm.specs.LineForms.{hash, equals, bracket, data_line, absent, ReadsData, ReadsMove, ReadsComparison, ReadsSum, ReadsShape, multiply, multiply_long, based, swap, exchange, read_status, ReadsStatusValue, ReadsWriteStatus, moved, transfer_line, is_plain, ReadsConstant, ReadsLabel, transferred, ReadsOther, ReadsPlace, ReadsMoved, ReadsTransfer, half_line, half_moved, ReadsHalf, block_line, block, without_hash, address_line, ReadsAddress, no_operation, ReadsWord, Reads}
 use Rattle.asm_arm.specs.Lists as lists
-use Rattle.asm_arm.specs.Operands.{Cuts, one, two, three, four, cut, both, without_first, no_register, register, two_registers, three_registers}
-use Rattle.asm_arm.specs.Words.{shape_of}
-use Rattle.said_model.specs.Said.{IsRead, RegisterSaid, OperationSaid, HalfSaid, HalfOffsetSaid}
+use Rattle.asm_arm.specs.Operands.{Cuts, one, two, three, four, cut, without_first, no_register, register, two_registers, three_registers}
+use Rattle.asm_arm.specs.Mnemonics.{shape_of}
+use Rattle.asm_model.specs.Said.{IsRead, RegisterSaid, OperationSaid, HalfSaid, HalfOffsetSaid}
 use Rattle.asm_reading.proofs.AddressLemmas.{OffsetSaid, AddressedSaid, PlacedSaid, before_said, after_said, before_as_said, after_as_said, half_offset_said}
 use Rattle.asm_reading.proofs.ExpressionLemmas.{zero_read, expression_gives, with_expression}
 use Rattle.asm_reading.proofs.FormLemmas.{CutsHaveForm, SomeHaveForm, cuts_form, without_first_form}
@@ -72,7 +72,8 @@ data_said text c o s rs x sh r d f g h =
 absent_said : RegisterSaid no_register
 absent_said = omega arith
 
-move_said : (text : List ℕ) (c : Condition) (o : Operation) (s : Bool) (os : Cuts) (r : Result What LineKind) → ((d : Register) → OperationSaid o s d no_register)
+move_said : (text : List ℕ) (c : Condition) (o : Operation) (s : Bool) (os : Cuts) (r : Result What LineKind)
+    → ((d : Register) → OperationSaid o s d no_register)
     → CutsHaveForm text os → ReadsMove text c o s os r → Said r
 move_said text c o s os r m = by_operands os
   where
@@ -82,7 +83,8 @@ move_said text c o s os r m = by_operands os
 
     by_operands : (os : Cuts) → CutsHaveForm text os → ReadsMove text c o s os r → Said r
     by_operands (two d x) f h = data_said text c o s (both (register text d) absent) x None r (of_register (register text d) (register_said text d)) f.1 tt h
-    by_operands (three d x sh) f h = data_said text c o s (both (register text d) absent) x (Some sh) r (of_register (register text d) (register_said text d)) f.1 f.2 h
+    by_operands (three d x sh) f h =
+        data_said text c o s (both (register text d) absent) x (Some sh) r (of_register (register text d) (register_said text d)) f.1 f.2 h
     by_operands os f h = fault Syntax r h
 
 comparison_said : (text : List ℕ) (c : Condition) (o : Operation) (os : Cuts) (r : Result What LineKind) → ((n : Register) → OperationSaid o true no_register n)
@@ -95,7 +97,8 @@ comparison_said text c o os r m = by_operands os
 
     by_operands : (os : Cuts) → CutsHaveForm text os → ReadsComparison text c o true os r → Said r
     by_operands (two n x) f h = data_said text c o true (both absent (register text n)) x None r (of_register (register text n) (register_said text n)) f.1 tt h
-    by_operands (three n x sh) f h = data_said text c o true (both absent (register text n)) x (Some sh) r (of_register (register text n) (register_said text n)) f.1 f.2 h
+    by_operands (three n x sh) f h =
+        data_said text c o true (both absent (register text n)) x (Some sh) r (of_register (register text n) (register_said text n)) f.1 f.2 h
     by_operands os f h = fault Syntax r h
 
 sum_said : (text : List ℕ) (c : Condition) (o : Operation) (s : Bool) (os : Cuts) (r : Result What LineKind) → ((p q : Register) → OperationSaid o s p q)
@@ -108,7 +111,8 @@ sum_said text c o s os r m = by_operands os
 
     by_operands : (os : Cuts) → CutsHaveForm text os → ReadsSum text c o s os r → Said r
     by_operands (three d n x) f h = data_said text c o s (two_registers text d n) x None r (of_registers (two_registers text d n) (pair_said text d n)) f.2 tt h
-    by_operands (four d n x sh) f h = data_said text c o s (two_registers text d n) x (Some sh) r (of_registers (two_registers text d n) (pair_said text d n)) f.2 f.3 h
+    by_operands (four d n x sh) f h =
+        data_said text c o s (two_registers text d n) x (Some sh) r (of_registers (two_registers text d n) (pair_said text d n)) f.2 f.3 h
     by_operands os f h = fault Syntax r h
 
 shape_said : (text : List ℕ) (c : Condition) (o : Operation) (s : Bool) (os : Cuts) (r : Result What LineKind) → CutsHaveForm text os
@@ -128,13 +132,15 @@ multiply_said text c false s (three d m x) =
     mapped_gives ThreeSaid InstructionSaid (λ p. what.Arm (line.Multiply c false s p.0.0 p.0.1 p.1 no_register)) (three_registers text d m x)
     (λ p q. (q.0.0, q.0.1, q.1, absent_said, refl)) (three_said text d m x)
 multiply_said text c true s (four d m x n) =
-    mapped_gives FourSaid InstructionSaid (λ p. what.Arm (line.Multiply c true s p.0.0 p.0.1 p.1.0 p.1.1)) (both (two_registers text d m) (two_registers text x n))
+    mapped_gives FourSaid InstructionSaid (λ p. what.Arm (line.Multiply c true s p.0.0 p.0.1 p.1.0 p.1.1))
+    (both (two_registers text d m) (two_registers text x n))
     (λ p q. (q.0.0, q.0.1, q.1.0, q.1.1, tt)) (four_said text d m x n)
 multiply_said text c a s os = tt
 
 multiply_long_said : (text : List ℕ) (c : Condition) (g a s : Bool) (os : Cuts) → Said (multiply_long text c g a s os)
 multiply_long_said text c g a s (four l h m x) =
-    mapped_gives FourSaid InstructionSaid (λ p. what.Arm (line.MultiplyLong c g a s p.0.0 p.0.1 p.1.0 p.1.1)) (both (two_registers text l h) (two_registers text m x))
+    mapped_gives FourSaid InstructionSaid (λ p. what.Arm (line.MultiplyLong c g a s p.0.0 p.0.1 p.1.0 p.1.1))
+    (both (two_registers text l h) (two_registers text m x))
     (λ p q. (q.0.0, q.0.1, q.1.0, q.1.1)) (four_said text l h m x)
 multiply_long_said text c g a s os = tt
 
@@ -159,7 +165,8 @@ exchange_said text c os = tt
 
 read_status_said : (text : List ℕ) (c : Condition) (os : Cuts) → Said (read_status text c os)
 read_status_said text c (two d p) =
-    both_give RegisterSaid (λ s. Unit {0}) InstructionSaid (λ rd saved. what.Arm (line.ReadStatus c saved rd)) (register text d) (lists.status text p) (λ rd s p q. p)
+    both_give RegisterSaid (λ s. Unit {0}) InstructionSaid (λ rd saved. what.Arm (line.ReadStatus c saved rd)) (register text d) (lists.status text p)
+    (λ rd s p q. p)
     (register_said text d) (any_gives (lists.status text p))
 read_status_said text c os = tt
 
@@ -170,7 +177,8 @@ status_value_said text c p m (Some e) r f h =
     (fields_said text p)
 status_value_said text c p m None r f h =
     equal_gives InstructionSaid r (on_both (λ q rm. what.Arm (line.WriteStatus c q.0 q.1 rm)) (lists.fields text p) (register text m)) h
-    (both_give FieldsSaid RegisterSaid InstructionSaid (λ q rm. what.Arm (line.WriteStatus c q.0 q.1 rm)) (lists.fields text p) (register text m) (λ q x a b. (a, b))
+    (both_give FieldsSaid RegisterSaid InstructionSaid (λ q rm. what.Arm (line.WriteStatus c q.0 q.1 rm)) (lists.fields text p) (register text m)
+    (λ q x a b. (a, b))
     (fields_said text p) (register_said text m))
 
 write_status_said : (text : List ℕ) (c : Condition) (os : Cuts) (r : Result What LineKind) → CutsHaveForm text os → ReadsWriteStatus text c os r → Said r
@@ -191,12 +199,15 @@ transferred_said text c l b d a h =
     both_give RegisterSaid AddressedSaid InstructionSaid (λ rd x. transfer_line c l b rd x) (register text d) a
     (λ rd x p q. moved_said c l b rd x.indexing x.rn x.offset p q.0 q.1) (register_said text d) h
 
-constant_said : (text : List ℕ) (c : Condition) (l : Bool) (d e : List Token) (r : Result What LineKind) → EachHasForm text e → ReadsConstant text c l d e r → Said r
+constant_said : (text : List ℕ) (c : Condition) (l : Bool) (d e : List Token) (r : Result What LineKind) → EachHasForm text e → ReadsConstant text c l d e r
+    → Said r
 constant_said text c true d e r f h =
-    with_expression RegisterSaid InstructionSaid text (λ rd x. what.Pseudo (pseudo.LoadConstant c rd x)) (register text d) e r f h (λ rd x p q. (p, q)) (register_said text d)
+    with_expression RegisterSaid InstructionSaid text (λ rd x. what.Pseudo (pseudo.LoadConstant c rd x)) (register text d) e r f h (λ rd x p q. (p, q))
+    (register_said text d)
 constant_said text c false d e r f h = fault Syntax r h
 
-label_said : (text : List ℕ) (c : Condition) (l w : Bool) (d e : List Token) (r : Result What LineKind) → EachHasForm text e → ReadsLabel text c l w d e r → Said r
+label_said : (text : List ℕ) (c : Condition) (l w : Bool) (d e : List Token) (r : Result What LineKind) → EachHasForm text e → ReadsLabel text c l w d e r
+    → Said r
 label_said text c l true d e r f h =
     with_expression RegisterSaid InstructionSaid text (λ rd x. what.Arm (line.TransferImmediate c l false rd (address.Label x))) (register text d) e r f h
     (λ rd x p q. (p, q)) (register_said text d)
@@ -214,7 +225,8 @@ place_said text c l b t d a (Some e) r f h =
     (transferred_said text c l b d (before_as text t a h.0) (before_as_said text t a h.0 (before_said text true a h.0 f h.1)))
 place_said text c l b t d a None r f h = other_said text c l b t d a (without_first text equals a) r f (without_first_form text equals a f) h
 
-behind_moved_said : (text : List ℕ) (c : Condition) (l b t : Bool) (d a x : List Token) (sh : Option (List Token)) (r : Result What LineKind) → EachHasForm text x
+behind_moved_said : (text : List ℕ) (c : Condition) (l b t : Bool) (d a x : List Token) (sh : Option (List Token)) (r : Result What LineKind)
+    → EachHasForm text x
     → SomeHaveForm text sh → ReadsMoved text c l b t d a x sh r → Said r
 behind_moved_said text c l b t d a x sh r f g h =
     equal_gives InstructionSaid r (transferred text c l b d (after_as t h.0)) h.2
@@ -232,7 +244,8 @@ transfer_said text c l b t os r f h = fault Syntax r h
 abbrev HalfMovedSaid : Register × Addressed → Type 0
 HalfMovedSaid p = RegisterSaid p.0 × PlacedSaid p.1
 
-half_line_said : (c : Condition) (l : Bool) (k : HalfKind) (rd : Register) (a : Addressed) → HalfSaid l k → RegisterSaid rd → PlacedSaid a → Said (half_line c l k rd a)
+half_line_said : (c : Condition) (l : Bool) (k : HalfKind) (rd : Register) (a : Addressed) → HalfSaid l k → RegisterSaid rd → PlacedSaid a
+    → Said (half_line c l k rd a)
 half_line_said c l k rd a m d p =
     mapped_gives HalfOffsetSaid InstructionSaid (λ o. what.Arm (line.TransferHalf c l k rd a.rn a.indexing o)) (half_offset a.offset)
     (λ o q. (d, p.0.0, m, p.1, q)) (half_offset_said a.offset p.0.1)
@@ -263,14 +276,16 @@ address_line_said : (c : Condition) (long : Bool) (rd : Register) (e : Expr) →
 address_line_said c false rd e p q = (p, q)
 address_line_said c true rd e p q = (p, q)
 
-address_said : (text : List ℕ) (c : Condition) (long : Bool) (os : Cuts) (r : Result What LineKind) → CutsHaveForm text os → ReadsAddress text c long os r → Said r
+address_said : (text : List ℕ) (c : Condition) (long : Bool) (os : Cuts) (r : Result What LineKind) → CutsHaveForm text os → ReadsAddress text c long os r
+    → Said r
 address_said text c long (two d e) r f h =
     with_expression RegisterSaid InstructionSaid text (address_line c long) (register text d) e r f.1 h (address_line_said c long) (register_said text d)
 address_said text c long os r f h = fault Syntax r h
 
 -- ---- all forms
 
-pub without_hash_form : (text : List ℕ) (ts : List Token) (o : Option (List Token)) → EachHasForm text ts → SomeHaveForm text o → EachHasForm text (without_hash ts o)
+pub without_hash_form : (text : List ℕ) (ts : List Token) (o : Option (List Token)) → EachHasForm text ts → SomeHaveForm text o
+    → EachHasForm text (without_hash ts o)
 without_hash_form text ts (Some e) f g = g
 without_hash_form text ts None f g = f
 
@@ -299,10 +314,11 @@ word_said text m c ts r f = by_word m
         (without_hash_form text ts number f (without_first_form text hash ts f)) h (λ e p. p)
     by_word mnemonic.Address h = address_said text c false os r (cuts_form text ts f) h
     by_word mnemonic.LongAddress h = address_said text c true os r (cuts_form text ts f) h
-    by_word mnemonic.NoOperation h = equal_gives InstructionSaid r (idle ts) h (idle_in false ts)
+    by_word mnemonic.NoOperation h = equal_gives InstructionSaid r (no_operation ts) h (idle_in false ts)
     by_word mnemonic.FloatingPoint h = fault FloatingPoint r h
 
-pub instruction_said : (text : List ℕ) (unnamed : LineKind) (m : Option (Mnemonic × Condition)) (ts : List Token) (r : Result What LineKind) → EachHasForm text ts
+pub instruction_said : (text : List ℕ) (unnamed : LineKind) (m : Option (Mnemonic × Condition)) (ts : List Token) (r : Result What LineKind)
+    → EachHasForm text ts
     → Reads text unnamed m ts r → Said r
 instruction_said text unnamed None ts r f h = fault unnamed r h
 instruction_said text unnamed (Some m) ts r f h = word_said text m.0 m.1 ts r f h

@@ -27,10 +27,11 @@ use Rattle.asm_model.specs.Forms.{is_short}
 use Rattle.asm_model.specs.Grammar.{ParsesTokens}
 use Rattle.asm_model.specs.Operands.{operands}
 use Rattle.asm_model.specs.Parts.{piece}
-use Rattle.asm_model.specs.Says.{Form, bare, name, imported, expression, expressions, area, register, boundary, refused, form_of_directive, on_both, mapped, name_of, name_alone, weak_mark, import_of, register_alone, Expressions, SomeExpressions, Area, Register, Aligned, bare_of, Reads, label_of, label_field}
-use Rattle.said_model.specs.Fit.{MarksAgree}
-use Rattle.said_model.specs.Said.{IsRead, AllRead, DirectiveSaid, directive_names}
-use Rattle.said_model.proofs.SharedLemmas.{IsText, MarksFit}
+use Rattle.asm_model.specs.Readings.{mapped, on_both}
+use Rattle.asm_model.specs.Says.{Form, bare, name, imported, expression, expressions, area, register, boundary, refused, form_of_directive, name_of, name_alone, weak_mark, import_of, register_alone, Expressions, SomeExpressions, Area, Register, Aligned, bare_of, Reads, label_of, label_field}
+use Rattle.asm_model.specs.Fit.{MarksAgree}
+use Rattle.asm_model.specs.Said.{IsRead, AllRead, DirectiveSaid, directive_names}
+use Rattle.asm_model.proofs.SaidLemmas.{IsText, MarksFit}
 use Rattle.asm_reading.proofs.ExpressionLemmas.{parsed_read, expression_gives}
 use Rattle.asm_reading.proofs.FormLemmas.{AllHaveForm, operands_form}
 use Rattle.asm_reading.proofs.GivesLemmas.{Gives, OptionGives, any_gives, equal_gives, fault_gives, mapped_gives, both_give}
@@ -122,7 +123,8 @@ code_alone false false i h = (refl, refl)
 abbrev AttributesFine : AreaAttributes → Type 0
 AttributesFine a = AllRead a.alignments × MarksAgree a.contents a.interwork a.halfword
 
-attributes_fine : (text : List ℕ) (os : List (List Token)) (alignments : List Expr) → AllRead alignments → AttributesFine (attributes_written text os alignments)
+attributes_fine : (text : List ℕ) (os : List (List Token)) (alignments : List Expr) → AllRead alignments
+    → AttributesFine (attributes_written text os alignments)
 attributes_fine text os alignments h =
     let words = attributes_in text os in
     (h, code_alone (has Code words) (has NoInit words) (has Interwork words) (has Halfword words))
@@ -167,7 +169,8 @@ alone_small : (text : List ℕ) (ts : List Token) → OptionGives IsRegister (re
 alone_small text (t ∷ []) = register_small (piece text t)
 alone_small text ts = tt
 
-given_fine : (text : List ℕ) (o : Option ℕ) (ts : List Token) (r : Result DirectiveLine LineKind) → OptionGives IsRegister o → EachHasForm text ts → Register text o ts r
+given_fine : (text : List ℕ) (o : Option ℕ) (ts : List Token) (r : Result DirectiveLine LineKind) → OptionGives IsRegister o → EachHasForm text ts
+    → Register text o ts r
     → Gives DirectiveFine r
 given_fine text (Some n) ts r k f h = equal_gives DirectiveFine r (Ok (line.Rn (rn.Register n))) h (k, tt, tt)
 given_fine text None ts r k f h = expression_gives DirectiveFine text (λ e. line.Rn (rn.Number e)) ts r f h (λ e p. (p, tt, tt))
@@ -206,10 +209,7 @@ directive_form directive.Keep = λ n h. (tt, (h, tt), tt)
 directive_form directive.Equ = λ e h. (h, tt, tt)
 directive_form directive.Assert = λ e h. (h, tt, tt)
 directive_form directive.Opt = λ e h. (h, tt, tt)
-directive_form directive.Dcd = λ es h. (h, tt, tt)
-directive_form directive.Dcdu = λ es h. (h, tt, tt)
-directive_form directive.Dcw = λ es h. (h, tt, tt)
-directive_form directive.Dcb = λ es h. (h, tt, tt)
+directive_form (directive.Constants item) = λ es h. (h, tt, tt)
 directive_form directive.Space = λ e h. (h, tt, tt)
 directive_form directive.Map = λ e h. (h, tt, tt)
 directive_form directive.Field = λ e h. (h, tt, tt)

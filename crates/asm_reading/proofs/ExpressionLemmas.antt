@@ -13,11 +13,12 @@ use Rattle.asm_model.specs.declared.tokens.TokenKind.TheVariants as kind
 use Rattle.asm_model.specs.declared.values.Value.TheVariants.{Number}
 use Rattle.asm_model.specs.Grammar.{Tree, Leaf, postfix, plain, operand_of, Spells, operand, of_name, before, grouped, between, tighter, ParsesTokens}
 use Rattle.asm_model.specs.Parts.{part_of, part_of_kind, number_value, number_item, braced_part, worded_part, plain_part, piece}
-use Rattle.asm_model.specs.Says.{on_both, mapped, Expression}
+use Rattle.asm_model.specs.Readings.{mapped, on_both}
+use Rattle.asm_model.specs.Says.{Expression}
 use Rattle.asm_model.specs.Sound.{HasNoPlace, HaveNoPlaces}
 use Rattle.asm_arm.specs.Addresses.{zero}
-use Rattle.said_model.specs.Named.{ItemNamed, AllItemsNamed}
-use Rattle.said_model.specs.Said.{IsRead}
+use Rattle.asm_model.specs.Named.{ItemNamed, AllItemsNamed}
+use Rattle.asm_model.specs.Said.{IsRead}
 use Rattle.asm_reading.proofs.GivesLemmas.{Gives, equal_gives, mapped_gives, both_give}
 use Rattle.asm_reading.proofs.NameLemmas.{word_text}
 use Rattle.asm_reading.proofs.TokenLemmas.{HasForm, EachHasForm}
@@ -132,8 +133,10 @@ pub expression_gives : {A : Type 0} (P : A → Type 0) (text : List ℕ) (make :
 expression_gives P text make ts r f h g =
     equal_gives P r (mapped make h.0) h.2 (mapped_gives IsRead P make h.0 g (parsed_read text ts h.0 f h.1))
 
-pub with_expression : {A B : Type 0} (P : A → Type 0) (Q : B → Type 0) (text : List ℕ) (make : A → Expr → B) (x : Result A LineKind) (ts : List Token) (r : Result B LineKind)
-    → EachHasForm text ts → ((v : Result Expr LineKind) × ParsesTokens text ts v × (r ≡ on_both make x v)) → ((a : A) (e : Expr) → P a → IsRead e → Q (make a e))
+pub with_expression : {A B : Type 0} (P : A → Type 0) (Q : B → Type 0) (text : List ℕ) (make : A → Expr → B) (x : Result A LineKind) (ts : List Token)
+    (r : Result B LineKind)
+    → EachHasForm text ts → ((v : Result Expr LineKind) × ParsesTokens text ts v × (r ≡ on_both make x v))
+    → ((a : A) (e : Expr) → P a → IsRead e → Q (make a e))
     → Gives P x → Gives Q r
 with_expression P Q text make x ts r f h g k =
     equal_gives Q r (on_both make x h.0) h.2 (both_give P IsRead Q make x h.0 g k (parsed_read text ts h.0 f h.1))

@@ -10,16 +10,16 @@ use Rattle.asm_model.specs.declared.statements.What.TheVariants as what
 use Rattle.asm_model.specs.Before.{state_behind, thumb_behind}
 use Rattle.asm_model.specs.Laid.{reversed}
 use Rattle.asm_model.specs.PlacedLines.{AllNamed}
-use Rattle.said_model.specs.Fit.{IsFit}
-use Rattle.said_model.specs.Named.{AllLoadsNamed}
-use Rattle.said_model.specs.Said.{HasTexts}
-use Rattle.said_model.proofs.SharedLemmas.{IsFine, fine_texts, fine_named, fine_fit, fine_loads}
+use Rattle.asm_model.specs.Fit.{IsFit}
+use Rattle.asm_model.specs.Named.{AllLoadsNamed}
+use Rattle.asm_model.specs.Said.{HasTexts}
+use Rattle.asm_model.proofs.SaidLemmas.{IsFine, fine_texts, fine_named, fine_fit, fine_loads}
 use Rattle.source_laws.specs.Laws.{IsOfState, KeepStates}
 use Rattle.asm_locals.specs.Labels.{target}
 use Rattle.asm_locals.specs.Naming.{Targets, named_what, named_behind}
 use Rattle.asm_reading.specs.Laws.{ReadingsAreFit}
 use Rattle.asm_model.specs.Says.{Said}
-use Rattle.asm_reading.specs.Reading.{Say, statements_in}
+use Rattle.asm_reading.specs.FlatLines.{Say, statements_in}
 use Rattle.asm_reading.proofs.LineLemmas.{lines_are_fine}
 use Rattle.asm_reading.proofs.ReadLemmas.{named_fine, each_gives, all_said}
 
@@ -56,7 +56,8 @@ named_states thumb front [] h = tt
 named_states thumb front (s ∷ rest) h =
     let t = target (s ∷ front) rest in (
       of_state_kept t s.what thumb h.0,
-      subst (λ (b : Bool). GoByStates b (named_behind (s ∷ front) rest)) (sym (state_kept t s.what thumb)) (named_states (state_behind s.what thumb) (s ∷ front) rest h.1),
+      subst (λ (b : Bool). GoByStates b (named_behind (s ∷ front) rest)) (sym (state_kept t s.what thumb))
+          (named_states (state_behind s.what thumb) (s ∷ front) rest h.1),
     )
 
 states_reversed : (ss after : List Statement) → GoByStates (thumb_behind after) ss → KeepStates after → KeepStates (reversed ss after)
@@ -88,5 +89,6 @@ readings_are_fit lines r h =
       named = all_named ss fine;
       loads_named = all_loads_named ss fine;
       states = states_reversed r.statements.items []
-          (subst (λ (l : List Statement). GoByStates false l) (sym h.statements) (named_states false [] (statements_in h.says) (said_states false lines h.says h.say))) tt;
+          (subst (λ (l : List Statement). GoByStates false l) (sym h.statements)
+          (named_states false [] (statements_in h.says) (said_states false lines h.says h.say))) tt;
     }

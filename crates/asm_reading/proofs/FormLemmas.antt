@@ -31,7 +31,8 @@ pub joined_form : (text : List ℕ) (us ts : List Token) → EachHasForm text us
 joined_form text [] ts h k = k
 joined_form text (u ∷ us) ts h k = (h.0, joined_form text us ts h.1 k)
 
-pub lengthened_form : (text : List ℕ) (us : List Token) (os : List (List Token)) → EachHasForm text us → AllHaveForm text os → AllHaveForm text (lengthened us os)
+pub lengthened_form : (text : List ℕ) (us : List Token) (os : List (List Token)) → EachHasForm text us → AllHaveForm text os
+    → AllHaveForm text (lengthened us os)
 lengthened_form text us [] h k = (h, tt)
 lengthened_form text us (o ∷ os) h k = (joined_form text us o h k.0, k.1)
 

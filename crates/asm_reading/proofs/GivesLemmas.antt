@@ -3,8 +3,7 @@ use Rattle.std.proofs.Common.{◌≡◌, Bool, true, false, cond, sym, subst, Op
 use Rattle.std.specs.Prelude.{Result, Ok, Err}
 use Rattle.sdt_fault.specs.declared.kinds.LineKind.{LineKind}
 use Rattle.asm_model.specs.Directives.{or_else}
-use Rattle.asm_model.specs.Says.{on_both, mapped}
-use Rattle.asm_arm.specs.Operands.{followed}
+use Rattle.asm_model.specs.Readings.{and_then, mapped, on_both}
 
 abbrev pub Gives : {A : Type 0} → (A → Type 0) → Result A LineKind → Type 0
 Gives P (Ok a) = P a
@@ -31,7 +30,7 @@ mapped_gives P Q make (Err k) f h = tt
 
 -- a reading of a reading
 pub followed_gives : {A B : Type 0} (P : A → Type 0) (Q : B → Type 0) (r : Result A LineKind) (f : A → Result B LineKind)
-    → ((a : A) → P a → Gives Q (f a)) → Gives P r → Gives Q (followed r f)
+    → ((a : A) → P a → Gives Q (f a)) → Gives P r → Gives Q (and_then r f)
 followed_gives P Q (Ok a) f g h = g a h
 followed_gives P Q (Err k) f g h = tt
 

@@ -7,8 +7,8 @@ use Rattle.asm_model.specs.declared.thumb_lines.ThumbLine.{ThumbLine}
 use Rattle.asm_model.specs.declared.tokens.Token.{Token}
 use Rattle.asm_model.specs.declared.statements.What.{What}
 use Rattle.asm_model.specs.declared.statements.What.TheVariants as what
-use Rattle.asm_arm.specs.Lines.{idle}
-use Rattle.said_model.specs.Said.{ArmSaid, ThumbSaid, PseudoSaid}
+use Rattle.asm_arm.specs.LineForms.{no_operation}
+use Rattle.asm_model.specs.Said.{ArmSaid, ThumbSaid, PseudoSaid}
 use Rattle.asm_reading.proofs.GivesLemmas.{Gives}
 
 abbrev pub ArmIn : Bool → ArmLine → Type 0
@@ -29,6 +29,6 @@ InstructionIn thumb (what.Directive l) = ⊥
 abbrev pub SaidIn : Bool → Result What LineKind → Type 0
 SaidIn thumb r = Gives (InstructionIn thumb) r
 
-pub idle_in : (thumb : Bool) (ts : List Token) → SaidIn thumb (idle ts)
+pub idle_in : (thumb : Bool) (ts : List Token) → SaidIn thumb (no_operation ts)
 idle_in thumb [] = tt
 idle_in thumb (t ∷ ts) = tt

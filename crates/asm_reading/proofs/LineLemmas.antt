@@ -14,12 +14,13 @@ use Rattle.asm_model.specs.declared.statements.What.{What}
 use Rattle.asm_model.specs.declared.statements.What.TheVariants as what
 use Rattle.asm_model.specs.Directives.{label_need}
 use Rattle.asm_model.specs.Parts.{piece}
-use Rattle.asm_model.specs.Says.{on_both, label_field, Sentence, sentence, directive_of, unnamed, Said, statement, statement_of, SaysAs}
+use Rattle.asm_model.specs.Readings.{on_both}
+use Rattle.asm_model.specs.Says.{label_field, Sentence, sentence, directive_of, unnamed, Said, statement, statement_of, SaysAs}
 use Rattle.asm_model.specs.Tokens.{is_long, first_due, Tokens}
-use Rattle.asm_arm.specs.Words as arm_words
-use Rattle.asm_thumb.specs.Words as thumb_words
-use Rattle.said_model.specs.Said.{label_names, directive_names}
-use Rattle.said_model.proofs.SharedLemmas.{IsText, IsFine}
+use Rattle.asm_arm.specs.Mnemonics as arm_words
+use Rattle.asm_thumb.specs.Mnemonics as thumb_words
+use Rattle.asm_model.specs.Said.{label_names, directive_names}
+use Rattle.asm_model.proofs.SaidLemmas.{IsText, IsFine}
 use Rattle.source_laws.specs.Laws.{IsOfState}
 use Rattle.asm_reading.specs.Says.{alone, SaysWords, SaysOr, SaysTokens, with_long, SaysLine, ReadsArm, ReadsThumb, SaysBy}
 use Rattle.asm_reading.proofs.ArmLemmas.{instruction_said}
@@ -60,7 +61,8 @@ either_state : (l : DirectiveLine) (state : Bool) → IsOfState state (what.Dire
 either_state l true = tt
 either_state l false = tt
 
-instruction_fine : (state : Bool) (flat : Flat) (o : Option (List ℕ)) (w : What) → OptionGives IsText o → InstructionIn state w → OptionGives (LineFine state) (statement flat o w)
+instruction_fine : (state : Bool) (flat : Flat) (o : Option (List ℕ)) (w : What) → OptionGives IsText o → InstructionIn state w
+    → OptionGives (LineFine state) (statement flat o w)
 instruction_fine state flat o what.Nothing h k = absurd k
 instruction_fine true flat o (what.Arm l) h k = absurd k
 instruction_fine false flat o (what.Arm l) h k = (record { read = k; texts = with_label o [] h tt; marks = tt }, tt)

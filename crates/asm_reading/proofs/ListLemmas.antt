@@ -14,7 +14,7 @@ use Rattle.asm_model.specs.Operands.{operands_at}
 use Rattle.asm_model.specs.Parts.{piece}
 use Rattle.asm_arm.specs.Lists.{base, range_of, item, items, pc_alone, is_pc, content, list, register_list, status_begun, or_none, occurrences, are_fields, fields_with, fields_named, with_fields, fields_of, fields}
 use Rattle.asm_arm.specs.Operands.{marked, between, register, register_of}
-use Rattle.said_model.specs.Said.{RegisterSaid, ItemSaid, AllItemsSaid}
+use Rattle.asm_model.specs.Said.{RegisterSaid, ItemSaid, AllItemsSaid}
 use Rattle.asm_reading.proofs.GivesLemmas.{Gives, OptionGives, mapped_gives, both_give, cond_gives}
 use Rattle.asm_reading.proofs.OperandLemmas.{register_of_said, register_said}
 

@@ -7,8 +7,8 @@ use Rattle.asm_model.specs.declared.tokens.TokenKind.TheVariants as kind
 use Rattle.asm_model.specs.Forms.{is_digit, is_letter, is_word, is_between_bars, one_or_more, ends_with_bar, form_of, form_or, is_name, is_barred, is_number, is_quoted, is_character, is_one_of, braced_words, is_local, signs, is_short}
 use Rattle.asm_model.specs.Says.{between_bars, name_of}
 use Rattle.asm_model.specs.PlacedLines.{IsName}
-use Rattle.said_model.specs.Said.{HoldsNoZero}
-use Rattle.said_model.proofs.SharedLemmas.{IsText}
+use Rattle.asm_model.specs.Said.{HoldsNoZero}
+use Rattle.asm_model.proofs.SaidLemmas.{IsText}
 use Rattle.asm_reading.proofs.GivesLemmas.{Gives}
 use Rattle.asm_reading.proofs.TokenLemmas.{HasForm}
 
@@ -22,7 +22,8 @@ WordForm s kind.Name = is_name s ≡ true
 WordForm s kind.Barred = is_barred s ≡ true
 WordForm s _ = Unit {0}
 
-or_form : (P : TokenKind → Type 0) (j : TokenKind) (b : Bool) (k : TokenKind) (o : Option TokenKind) → (b ≡ true → P k) → (o ≡ Some j → P j) → form_or b k o ≡ Some j → P j
+or_form : (P : TokenKind → Type 0) (j : TokenKind) (b : Bool) (k : TokenKind) (o : Option TokenKind) → (b ≡ true → P k) → (o ≡ Some j → P j)
+    → form_or b k o ≡ Some j → P j
 or_form P j true k o f g e = let x : k ≡ j = cc in subst P x (f refl)
 or_form P j false k o f g e = g e
 

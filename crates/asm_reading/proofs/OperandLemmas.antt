@@ -10,15 +10,15 @@ use Rattle.asm_model.specs.declared.tokens.TokenKind.TheVariants as kind
 use Rattle.asm_model.specs.declared.operands.Register.{Register}
 use Rattle.asm_model.specs.declared.operands.Shift.TheVariants as shift
 use Rattle.asm_model.specs.Parts.{piece}
+use Rattle.asm_model.specs.Readings.{both, mapped, on_both}
 use Rattle.asm_model.specs.Registers.{numbered_register, special_register, call_register, register_named}
-use Rattle.asm_model.specs.Says.{on_both, mapped}
 use Rattle.asm_model.specs.Tokens.{is_called}
 use Rattle.asm_arm.specs.declared.operands.Scale.{Scale}
 use Rattle.asm_arm.specs.declared.operands.Scale.TheVariants as scale
 use Rattle.asm_arm.specs.declared.operands.Second.{Second}
 use Rattle.asm_arm.specs.declared.operands.Second.TheVariants as second
-use Rattle.asm_arm.specs.Operands.{both, without_first, named, register_of, register, two_registers, three_registers, shift_named, extended, ReadsAmount, ReadsKind, ReadsScale, scaled, ReadsPlain, ReadsSecond}
-use Rattle.said_model.specs.Said.{IsRead, RegisterSaid, ShiftSaid}
+use Rattle.asm_arm.specs.Operands.{without_first, named, register_of, register, two_registers, three_registers, shift_named, extended, ReadsAmount, ReadsKind, ReadsScale, scaled, ReadsPlain, ReadsSecond}
+use Rattle.asm_model.specs.Said.{IsRead, RegisterSaid, ShiftSaid}
 use Rattle.asm_reading.proofs.ExpressionLemmas.{expression_gives}
 use Rattle.asm_reading.proofs.FormLemmas.{SomeHaveForm, without_first_form}
 use Rattle.asm_reading.proofs.GivesLemmas.{Gives, OptionGives, equal_gives, fault_gives, mapped_gives, both_give, cond_gives, or_else_gives, option_gives}
@@ -72,15 +72,18 @@ FourSaid p = PairSaid p.0 × PairSaid p.1
 
 pub pair_said : (text : List ℕ) (a b : List Token) → Gives PairSaid (two_registers text a b)
 pair_said text a b =
-    both_give RegisterSaid RegisterSaid PairSaid (λ x y. (x, y)) (register text a) (register text b) (λ x y p q. (p, q)) (register_said text a) (register_said text b)
+    both_give RegisterSaid RegisterSaid PairSaid (λ x y. (x, y)) (register text a) (register text b) (λ x y p q. (p, q)) (register_said text a)
+    (register_said text b)
 
 pub three_said : (text : List ℕ) (a b c : List Token) → Gives ThreeSaid (three_registers text a b c)
 three_said text a b c =
-    both_give PairSaid RegisterSaid ThreeSaid (λ x y. (x, y)) (two_registers text a b) (register text c) (λ x y p q. (p, q)) (pair_said text a b) (register_said text c)
+    both_give PairSaid RegisterSaid ThreeSaid (λ x y. (x, y)) (two_registers text a b) (register text c) (λ x y p q. (p, q)) (pair_said text a b)
+    (register_said text c)
 
 pub four_said : (text : List ℕ) (a b c d : List Token) → Gives FourSaid (both (two_registers text a b) (two_registers text c d))
 four_said text a b c d =
-    both_give PairSaid PairSaid FourSaid (λ x y. (x, y)) (two_registers text a b) (two_registers text c d) (λ x y p q. (p, q)) (pair_said text a b) (pair_said text c d)
+    both_give PairSaid PairSaid FourSaid (λ x y. (x, y)) (two_registers text a b) (two_registers text c d) (λ x y p q. (p, q)) (pair_said text a b)
+    (pair_said text c d)
 
 -- ---- shifts and second operands
 
@@ -101,7 +104,8 @@ amount_said text k ts None r f h =
     equal_gives ScaleSaid r (mapped (λ rs. scale.Register k rs) (register text ts)) h
     (mapped_gives RegisterSaid ScaleSaid (λ rs. scale.Register k rs) (register text ts) (λ rs p. p) (register_said text ts))
 
-kind_said : (text : List ℕ) (k : Option ShiftKind) (ts : List Token) (r : Result Scale LineKind) → EachHasForm text ts → ReadsKind text k ts r → Gives ScaleSaid r
+kind_said : (text : List ℕ) (k : Option ShiftKind) (ts : List Token) (r : Result Scale LineKind) → EachHasForm text ts → ReadsKind text k ts r
+    → Gives ScaleSaid r
 kind_said text None ts r f h = fault_gives ScaleSaid Syntax r h
 kind_said text (Some k) ts r f h =
     amount_said text k ts (without_first text (codes "#") ts) r (without_first_form text (codes "#") ts f) h
@@ -117,7 +121,8 @@ scaled_said rm (scale.By k a) h p = (h, p)
 scaled_said rm (scale.Register k rs) h p = (h, p)
 scaled_said rm scale.Extended h p = (h, tt)
 
-plain_said : (text : List ℕ) (x : List Token) (o : Option (List Token)) (r : Result Second LineKind) → SomeHaveForm text o → ReadsPlain text x o r → Gives SecondSaid r
+plain_said : (text : List ℕ) (x : List Token) (o : Option (List Token)) (r : Result Second LineKind) → SomeHaveForm text o → ReadsPlain text x o r
+    → Gives SecondSaid r
 plain_said text x (Some e) r f h = expression_gives SecondSaid text (λ v. second.Number v) e r f h (λ v p. p)
 plain_said text x None r f h =
     equal_gives SecondSaid r (mapped (λ rm. second.Shifted rm shift.Unshifted) (register text x)) h

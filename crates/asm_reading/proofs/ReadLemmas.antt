@@ -4,14 +4,14 @@ use Rattle.std.proofs.Math.Seq.{take-suc}
 use Rattle.asm_model.specs.declared.lines.Flat.{Flat}
 use Rattle.asm_model.specs.declared.statements.Statement.{Statement}
 use Rattle.asm_model.specs.Directives.{or_else}
-use Rattle.said_model.specs.Said.{AllSaid}
-use Rattle.said_model.proofs.SharedLemmas.{IsFine, fine_said}
+use Rattle.asm_model.specs.Said.{AllSaid}
+use Rattle.asm_model.proofs.SaidLemmas.{IsFine, fine_said}
 use Rattle.asm_reading.proofs.LineLemmas.{lines_are_fine}
-use Rattle.asm_reading.specs.declared.reading.Reading.{Reading}
-use Rattle.asm_reading.specs.declared.reading.Unread.{Unread}
+use Rattle.asm_reading.specs.declared.flat_lines.Reading.{Reading}
+use Rattle.asm_reading.specs.declared.flat_lines.Unread.{Unread}
 use Rattle.asm_model.specs.Says.{Said}
 use Rattle.asm_reading.specs.Says.{SaysBy}
-use Rattle.asm_reading.specs.Reading.{state_after, Say, statement_in, statements_in, unread_in, first_unread, is_unread, read_first, before_behind, Keeps, IsWritten, IsReading}
+use Rattle.asm_reading.specs.FlatLines.{state_after, Say, statement_in, statements_in, unread_in, first_unread, is_unread, read_first, before_behind, Keeps, IsWritten, IsReading}
 use Rattle.asm_locals.specs.Naming.{in_names}
 use Rattle.asm_locals.proofs.KeptLemmas.{statement_fine, all_in_names, as_many}
 use Rattle.std.specs.List.{AllByRecursion}
@@ -24,7 +24,8 @@ append_nil (x ∷ xs) = ap (λ l. x ∷ l) (append_nil xs)
 
 statements_joined : (ps qs : List (Flat × Said)) → statements_in (ps ++ qs) ≡ statements_in ps ++ statements_in qs
 statements_joined [] qs = refl
-statements_joined (p ∷ ps) qs = ap (λ (l : List Statement). statement_in p.1 ++ l) (statements_joined ps qs) ∙ sym (append_assoc (statement_in p.1) (statements_in ps) (statements_in qs))
+statements_joined (p ∷ ps) qs =
+    ap (λ (l : List Statement). statement_in p.1 ++ l) (statements_joined ps qs) ∙ sym (append_assoc (statement_in p.1) (statements_in ps) (statements_in qs))
 
 or_assoc : (a b c : Option Unread) → or_else a (or_else b c) ≡ or_else (or_else a b) c
 or_assoc None b c = refl
@@ -51,7 +52,8 @@ few [] = omega arith
 few (p ∷ ps) =
     let h : length (statements_in ps) ≤ length ps = few ps in
     let k : length (statement_in p.1) ≤ 1 = one_at_most p.1 in
-    let j : length (statement_in p.1 ++ statements_in ps) ≡ length (statement_in p.1) + length (statements_in ps) = length-append (statement_in p.1) (statements_in ps) in
+    let j : length (statement_in p.1 ++ statements_in ps) ≡ length (statement_in p.1) + length (statements_in ps) =
+    length-append (statement_in p.1) (statements_in ps) in
     omega arith
 
 as_many_lines : (thumb : Bool) (fs : List Flat) (ps : List (Flat × Said)) → Say thumb fs ps → length ps ≡ length fs
@@ -60,14 +62,16 @@ as_many_lines thumb [] (p ∷ ps) h = absurd h
 as_many_lines thumb (f ∷ fs) [] h = absurd h
 as_many_lines thumb (f ∷ fs) (p ∷ ps) h = ap suc (as_many_lines (state_after thumb p.1) fs ps h.2)
 
-few_named : (lines : List Flat) (ps : List (Flat × Said)) → Say false lines ps → (named : List Statement) → named ≡ in_names (statements_in ps) → length named ≤ length lines
+few_named : (lines : List Flat) (ps : List (Flat × Said)) → Say false lines ps → (named : List Statement) → named ≡ in_names (statements_in ps)
+    → length named ≤ length lines
 few_named lines ps h named e =
     let a : length (statements_in ps) ≤ length ps = few ps in
     let b : length ps ≡ length lines = as_many_lines false lines ps h in
     let k : length named ≡ length (statements_in ps) = ap length e ∙ as_many (statements_in ps) in
     omega (arith, k)
 
-pub few_written : (lines : List Flat) (w : Reading) → IsWritten lines w → (named : List Statement) → named ≡ in_names w.statements.items → length named ≤ length lines
+pub few_written : (lines : List Flat) (w : Reading) → IsWritten lines w → (named : List Statement) → named ≡ in_names w.statements.items
+    → length named ≤ length lines
 few_written lines w h named e = few_named lines h.says h.say named (e ∙ ap in_names h.statements)
 
 pub few_read : (lines : List Flat) (r : Reading) → IsReading lines r → length r.statements.items ≤ length lines
@@ -91,7 +95,8 @@ all_fine thumb (f ∷ fs) [] h = absurd h
 all_fine thumb (f ∷ fs) (p ∷ ps) h =
     kept_joined IsFine (statement_in p.1) (statements_in ps) (one_fine thumb f p.1 h.1) (all_fine (state_after thumb p.1) fs ps h.2)
 
-pub named_fine : (lines : List Flat) (ps : List (Flat × Said)) → Say false lines ps → (named : List Statement) → named ≡ in_names (statements_in ps) → AllByRecursion IsFine named
+pub named_fine : (lines : List Flat) (ps : List (Flat × Said)) → Say false lines ps → (named : List Statement) → named ≡ in_names (statements_in ps)
+    → AllByRecursion IsFine named
 named_fine lines ps h named e = rw e (all_in_names IsFine statement_fine (statements_in ps) (all_fine false lines ps h))
 
 pub each_gives : {A : Type 0} (P Q : A → Type 0) → ((a : A) → P a → Q a) → (xs : List A) → AllByRecursion P xs → AllByRecursion Q xs

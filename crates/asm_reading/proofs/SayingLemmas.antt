@@ -7,15 +7,16 @@ use Rattle.asm_model.specs.declared.lines.Flat.{Flat}
 use Rattle.asm_model.specs.declared.tokens.Token.{Token}
 use Rattle.asm_model.specs.declared.statements.What.{What}
 use Rattle.asm_model.specs.declared.directives.LabelNeed.TheVariants as need
-use Rattle.asm_model.specs.Says.{Said, statement, on_both, mapped, label_field, sentence, OneDirective}
+use Rattle.asm_model.specs.Readings.{both, mapped, on_both}
+use Rattle.asm_model.specs.Says.{Said, statement, label_field, sentence, OneDirective}
 use Rattle.asm_model.specs.Tokens.{is_long, Tokens, OneScan}
-use Rattle.asm_arm.specs.Operands.{both}
 use Rattle.asm_reading.specs.Says.{with_long, SaysOperation, SaysWords, SaysOr, SaysTokens, SaysAll, SaysLine}
 use Rattle.asm_expr.proofs.SayingLemmas.{made_of_both}
 
 -- ---- a line with an operation
 
-pub operation_said : {E : Type 0} (Operation : List ℕ → Token → List Token → Result What LineKind → Type 0) (flat : Flat) (label : Option Token) (t : Token) (ts : List Token)
+pub operation_said : {E : Type 0} (Operation : List ℕ → Token → List Token → Result What LineKind → Type 0) (flat : Flat) (label : Option Token) (t : Token)
+    (ts : List Token)
     (text : List ℕ) (l : Result (Option (List ℕ)) LineKind) (w : Result What LineKind) (x : Result (Option (List ℕ) × What) LineKind) (q : Result Said E)
     → text ≡ flat.text → l ≡ label_field need.Optional text label → Operation text t ts w → x ≡ both l w
     → IfOk q (λ r. r ≡ mapped (λ p. statement flat p.0 p.1) x) → IfOk q (λ r. SaysOperation Operation flat label t ts r)
@@ -34,7 +35,8 @@ operation_said Operation flat label t ts text l w x (Ok r) e le h b k = (
 abbrev pub OneOperation : (List ℕ → Token → List Token → Result What LineKind → Type 0) → Type 0
 OneOperation Operation = (text : List ℕ) (t : Token) (ts : List Token) (a b : Result What LineKind) → Operation text t ts a → Operation text t ts b → a ≡ b
 
-one_words : (Operation : List ℕ → Token → List Token → Result What LineKind → Type 0) → OneOperation Operation → (flat : Flat) (label o : Option Token) (ts : List Token) (a b : Said)
+one_words : (Operation : List ℕ → Token → List Token → Result What LineKind → Type 0) → OneOperation Operation
+    → (flat : Flat) (label o : Option Token) (ts : List Token) (a b : Said)
     → SaysWords Operation flat label o ts a → SaysWords Operation flat label o ts b → a ≡ b
 one_words Operation law flat label None ts a b p q = p ∙ sym q
 one_words Operation law flat label (Some t) ts a b p q = p.2 ∙ ap (on_both (statement flat) _) (law flat.text t ts p.0 q.0 p.1 q.1) ∙ sym q.2
@@ -45,17 +47,20 @@ one_or Operation law flat ts (Ok None) a b p q = one_words Operation law flat (s
 one_or Operation law flat ts (Ok (Some s)) a b p q = p ∙ sym q
 one_or Operation law flat ts (Err k) a b p q = p ∙ sym q
 
-one_of_tokens : (Operation : List ℕ → Token → List Token → Result What LineKind → Type 0) → OneOperation Operation → OneDirective → (flat : Flat) (ts : List Token) (a b : Said)
+one_of_tokens : (Operation : List ℕ → Token → List Token → Result What LineKind → Type 0) → OneOperation Operation → OneDirective
+    → (flat : Flat) (ts : List Token) (a b : Said)
     → SaysTokens Operation flat ts a → SaysTokens Operation flat ts b → a ≡ b
 one_of_tokens Operation law directive flat ts a b p q =
     one_or Operation law flat ts p.0 a b p.2 (subst (λ d. SaysOr Operation flat ts d b) (sym (directive flat ts p.0 q.0 p.1 q.1)) q.2)
 
-one_all : (Operation : List ℕ → Token → List Token → Result What LineKind → Type 0) → OneOperation Operation → OneDirective → (flat : Flat) (o : Option (List Token)) (a b : Said)
+one_all : (Operation : List ℕ → Token → List Token → Result What LineKind → Type 0) → OneOperation Operation → OneDirective
+    → (flat : Flat) (o : Option (List Token)) (a b : Said)
     → SaysAll Operation flat o a → SaysAll Operation flat o b → a ≡ b
 one_all Operation law directive flat None a b p q = p ∙ sym q
 one_all Operation law directive flat (Some ts) a b p q = p.2 ∙ ap (with_long _) (one_of_tokens Operation law directive flat ts p.0 q.0 p.1 q.1) ∙ sym q.2
 
-pub one_saying : (Operation : List ℕ → Token → List Token → Result What LineKind → Type 0) → OneOperation Operation → OneDirective → OneScan → (flat : Flat) (a b : Said)
+pub one_saying : (Operation : List ℕ → Token → List Token → Result What LineKind → Type 0) → OneOperation Operation → OneDirective → OneScan
+    → (flat : Flat) (a b : Said)
     → SaysLine Operation flat a → SaysLine Operation flat b → a ≡ b
 one_saying Operation law directive scan flat a b p q =
     one_all Operation law directive flat p.0 a b p.2 (subst (λ o. SaysAll Operation flat o b) (sym (scan flat.text p.0 q.0 p.1 q.1)) q.2)

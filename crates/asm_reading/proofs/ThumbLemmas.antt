@@ -19,21 +19,21 @@ use Rattle.asm_model.specs.declared.statements.What.{What}
 use Rattle.asm_model.specs.declared.statements.What.TheVariants as what
 use Rattle.asm_model.specs.declared.thumb_lines.ThumbLine.TheVariants as line
 use Rattle.asm_model.specs.Operands.{operands}
-use Rattle.asm_model.specs.Says.{mapped}
+use Rattle.asm_model.specs.Readings.{and_then, mapped}
 use Rattle.asm_arm.specs.Addresses.{zero}
-use Rattle.asm_arm.specs.Lines.{hash, equals, bracket, without_hash, idle}
+use Rattle.asm_arm.specs.LineForms.{hash, equals, bracket, without_hash, no_operation}
 use Rattle.asm_arm.specs.Lists as lists
-use Rattle.asm_arm.specs.Operands.{Cuts, one, two, three, cut, between, followed, marked, without_first, no_register, register, two_registers, three_registers}
+use Rattle.asm_arm.specs.Operands.{Cuts, one, two, three, cut, between, marked, without_first, no_register, register, two_registers, three_registers}
 use Rattle.asm_thumb.specs.declared.frames.Frame.{Frame}
 use Rattle.asm_thumb.specs.declared.frames.Frame.TheVariants as frame
-use Rattle.asm_thumb.specs.declared.words.Mnemonic.{Mnemonic}
-use Rattle.asm_thumb.specs.declared.words.Mnemonic.TheVariants as mnemonic
+use Rattle.asm_thumb.specs.declared.mnemonics.Mnemonic.{Mnemonic}
+use Rattle.asm_thumb.specs.declared.mnemonics.Mnemonic.TheVariants as mnemonic
 use Rattle.asm_thumb.specs.Data.{sum_of, stack_frame, immediate_frame, high_line, low_line, pair_line, ReadsPair, sum_frame, ReadsSum, ReadsImmediate, registers_line, registers, shift_operation, shift_frame, ReadsShiftBy, ReadsShift}
 use Rattle.asm_thumb.specs.Frames.{filled, ReadsWith, with_zero}
-use Rattle.asm_thumb.specs.Lines.{push_pop, multiple, exchange, ReadsAddress, ReadsWord, Reads}
+use Rattle.asm_thumb.specs.LineForms.{push_pop, multiple, exchange, ReadsAddress, ReadsWord, Reads}
 use Rattle.asm_thumb.specs.Operands.{is_sp, is_pc, may_be_high, unmarked, register_list, written, written_base}
 use Rattle.asm_thumb.specs.Transfers.{is_word, number_frame, based, register_line, ReadsOffset, ReadsInside, cuts_of, bracketed, ReadsBracketed, ReadsLoaded, ReadsPlace, ReadsTransfer, signed_inside, signed_transfer}
-use Rattle.said_model.specs.Said.{IsRead, RegisterSaid, AllItemsSaid, IsConditional}
+use Rattle.asm_model.specs.Said.{IsRead, RegisterSaid, AllItemsSaid, IsConditional}
 use Rattle.asm_reading.proofs.ArmLemmas.{without_hash_form}
 use Rattle.asm_reading.proofs.ExpressionLemmas.{zero_read, with_expression}
 use Rattle.asm_reading.proofs.FormLemmas.{CutsHaveForm, SomeHaveForm, cuts_form, without_first_form, between_form}
@@ -134,7 +134,7 @@ pair_reads : (text : List ℕ) (o : ImmediateOperation) (d x : List Token) (n : 
 pair_reads text o d x (Some e) r f h =
     with_said text (mapped (immediate_frame o) (register text d)) e r (register_frame text (immediate_frame o) d (immediate_frame_said o)) f h
 pair_reads text o d x None r f h =
-    equal_gives InThumb r (followed (two_registers text d x) (λ p. pair_line o p.0 p.1)) h
+    equal_gives InThumb r (and_then (two_registers text d x) (λ p. pair_line o p.0 p.1)) h
     (followed_gives PairSaid InThumb (two_registers text d x) (λ p. pair_line o p.0 p.1) (pair_line_said o) (pair_said text d x))
 
 sum_frame_said : (subtract : Bool) (p : Register × Register) → PairSaid p → FrameSaid (sum_frame subtract p.0 p.1)
@@ -154,7 +154,8 @@ sum_reads text (Some subtract) d s x None r f h =
     equal_gives InThumb r (mapped make (three_registers text d s x)) h
     (mapped_gives ThreeSaid InThumb make (three_registers text d s x) (λ p q. (q.0.0, q.0.1, q.1)) (three_said text d s x))
 
-immediate_reads : (text : List ℕ) (o : ImmediateOperation) (os : Cuts) (r : Result What LineKind) → CutsHaveForm text os → ReadsImmediate text o os r → SaidInThumb r
+immediate_reads : (text : List ℕ) (o : ImmediateOperation) (os : Cuts) (r : Result What LineKind) → CutsHaveForm text os → ReadsImmediate text o os r
+    → SaidInThumb r
 immediate_reads text o (two d x) r f h = pair_reads text o d x (without_first text hash x) r (without_first_form text hash x f.1) h
 immediate_reads text o (three d s x) r f h = sum_reads text (sum_of o) d s x (without_first text hash x) r (without_first_form text hash x f.2) h
 immediate_reads text o os r f h = fault Syntax r h
@@ -232,7 +233,8 @@ place_reads text l w d a (Some ts) r f h =
 place_reads text l w d a None r f h =
     loaded_reads text (l && is_word w) d a (without_first text equals a) r f (without_first_form text equals a f) h
 
-transfer_reads : (text : List ℕ) (l : Bool) (w : Width) (os : Cuts) (r : Result What LineKind) → CutsHaveForm text os → ReadsTransfer text l w os r → SaidInThumb r
+transfer_reads : (text : List ℕ) (l : Bool) (w : Width) (os : Cuts) (r : Result What LineKind) → CutsHaveForm text os → ReadsTransfer text l w os r
+    → SaidInThumb r
 transfer_reads text l w (two d a) r f h = place_reads text l w d a (without_first text bracket a) r f.1 h
 transfer_reads text l w os r f h = fault Syntax r h
 
@@ -288,7 +290,8 @@ address_reads text (two d e) r f h =
     with_said text (mapped (λ rd. frame.Address rd) (register text d)) e r (register_frame text (λ rd. frame.Address rd) d (λ rd p. p)) f.1 h
 address_reads text os r f h = fault Syntax r h
 
-word_reads : (text : List ℕ) (m : Mnemonic) (ts : List Token) (r : Result What LineKind) → ThumbMnemonicSaid m → EachHasForm text ts → ReadsWord text m ts r → SaidInThumb r
+word_reads : (text : List ℕ) (m : Mnemonic) (ts : List Token) (r : Result What LineKind) → ThumbMnemonicSaid m → EachHasForm text ts → ReadsWord text m ts r
+    → SaidInThumb r
 word_reads text m ts r k f = by_word m k
   where
     os : Cuts
@@ -310,10 +313,11 @@ word_reads text m ts r k f = by_word m k
         let number = without_first text hash ts in
         with_said text (Ok frame.SoftwareInterrupt) (without_hash ts number) r tt (without_hash_form text ts number f (without_first_form text hash ts f)) h
     by_word mnemonic.Address k h = address_reads text os r (cuts_form text ts f) h
-    by_word mnemonic.NoOperation k h = equal_gives InThumb r (idle ts) h (idle_in true ts)
+    by_word mnemonic.NoOperation k h = equal_gives InThumb r (no_operation ts) h (idle_in true ts)
     by_word mnemonic.FloatingPoint k h = fault FloatingPoint r h
 
-pub thumb_instruction_said : (text : List ℕ) (unnamed : LineKind) (m : Option Mnemonic) (ts : List Token) (r : Result What LineKind) → OptionGives ThumbMnemonicSaid m
+pub thumb_instruction_said : (text : List ℕ) (unnamed : LineKind) (m : Option Mnemonic) (ts : List Token) (r : Result What LineKind)
+    → OptionGives ThumbMnemonicSaid m
     → EachHasForm text ts → Reads text unnamed m ts r → SaidInThumb r
 thumb_instruction_said text unnamed None ts r k f h = fault unnamed r h
 thumb_instruction_said text unnamed (Some m) ts r k f h = word_reads text m ts r k f h

@@ -1,13 +1,13 @@
 -- The operation words of Thumb state: no branch with a condition is one that always goes.
 use Rattle.std.proofs.Common.{ℕ, List, Option, Some, None}
 use Rattle.sdt_word.specs.declared.codes.Condition.{Condition}
-use Rattle.asm_arm.specs.declared.words.Mnemonic.{Mnemonic as ArmMnemonic}
-use Rattle.asm_arm.specs.declared.words.Mnemonic.TheVariants as arm
-use Rattle.asm_arm.specs.Words as arm_words
-use Rattle.asm_thumb.specs.declared.words.Mnemonic.{Mnemonic}
-use Rattle.asm_thumb.specs.declared.words.Mnemonic.TheVariants as mnemonic
-use Rattle.asm_thumb.specs.Words.{core_named, float_word, floating, operation_named}
-use Rattle.said_model.specs.Said.{IsConditional}
+use Rattle.asm_arm.specs.declared.mnemonics.Mnemonic.{Mnemonic as ArmMnemonic}
+use Rattle.asm_arm.specs.declared.mnemonics.Mnemonic.TheVariants as arm
+use Rattle.asm_arm.specs.Mnemonics as arm_words
+use Rattle.asm_thumb.specs.declared.mnemonics.Mnemonic.{Mnemonic}
+use Rattle.asm_thumb.specs.declared.mnemonics.Mnemonic.TheVariants as mnemonic
+use Rattle.asm_thumb.specs.Mnemonics.{core_named, float_word, floating, operation_named}
+use Rattle.asm_model.specs.Said.{IsConditional}
 use Rattle.asm_reading.proofs.GivesLemmas.{OptionGives, option_gives, or_else_gives}
 
 abbrev pub ThumbMnemonicSaid : Mnemonic → Type 0

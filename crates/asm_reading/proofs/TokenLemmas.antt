@@ -44,7 +44,8 @@ rest_behind text rest t place n e s f =
     ap (λ z. drop n (drop (blanks rest) z)) e ∙ ap (drop n) (sym (further place (blanks rest) text)) ∙ ap (λ z. drop n (drop z text)) (sym s)
     ∙ sym (further t.start n text) ∙ ap (λ z. drop z text) (sym f)
 
-pub tokens_form : (text : List ℕ) (ts : List Token) (d : Due) (place : ℕ) (rest : List ℕ) → rest ≡ drop place text → TokensFrom ts d place rest → EachHasForm text ts
+pub tokens_form : (text : List ℕ) (ts : List Token) (d : Due) (place : ℕ) (rest : List ℕ) → rest ≡ drop place text → TokensFrom ts d place rest
+    → EachHasForm text ts
 tokens_form text [] d place rest e h = tt
 tokens_form text (t ∷ ts) d place rest e h = (
   subst (HasForm t.kind) (sym (piece_at text rest t place h.0 e h.1 h.2)) (token_form d t.kind h.0 (drop (blanks rest) rest) h.3),

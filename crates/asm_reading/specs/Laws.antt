@@ -7,12 +7,12 @@ use Rattle.asm_model.specs.declared.statements.Statement.{Statement}
 use Rattle.asm_model.specs.Laid.{reversed}
 use Rattle.asm_model.specs.PlacedLines.{AllNamed}
 use Rattle.asm_model.specs.Says.{Said}
-use Rattle.said_model.specs.Fit.{AllFit}
-use Rattle.said_model.specs.Named.{AllLoadsNamed}
-use Rattle.said_model.specs.Said.{AllSaid, AllHaveTexts}
+use Rattle.asm_model.specs.Fit.{AllFit}
+use Rattle.asm_model.specs.Named.{AllLoadsNamed}
+use Rattle.asm_model.specs.Said.{AllSaid, AllHaveTexts}
 use Rattle.source_laws.specs.Laws.{KeepStates}
-use Rattle.asm_reading.specs.declared.reading.Reading.{Reading}
-use Rattle.asm_reading.specs.Reading.{IsReading}
+use Rattle.asm_reading.specs.declared.flat_lines.Reading.{Reading}
+use Rattle.asm_reading.specs.FlatLines.{IsReading}
 use Rattle.asm_reading.specs.Says.{SaysBy}
 
 -- a line, of Thumb or ARM state, says one statement, or has one fault

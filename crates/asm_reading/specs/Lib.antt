@@ -1,4 +1,4 @@
 -- What the clauses of the crate cite.
+pub mod FlatLines
 pub mod Laws
-pub mod Reading
 pub mod Says

@@ -12,12 +12,13 @@ use Rattle.asm_model.specs.declared.directives.LabelNeed.TheVariants as need
 use Rattle.asm_model.specs.declared.statements.What.{What}
 use Rattle.asm_model.specs.declared.statements.What.TheVariants as what
 use Rattle.asm_model.specs.Parts.{piece}
-use Rattle.asm_model.specs.Says.{Said, statement, on_both, mapped, label_field, Sentence, sentence, unnamed, SaysDirective}
+use Rattle.asm_model.specs.Readings.{mapped, on_both}
+use Rattle.asm_model.specs.Says.{Said, statement, label_field, Sentence, sentence, unnamed, SaysDirective}
 use Rattle.asm_model.specs.Tokens.{is_long, AreTokens}
-use Rattle.asm_arm.specs.Lines as arm_lines
-use Rattle.asm_arm.specs.Words as arm_words
-use Rattle.asm_thumb.specs.Lines as thumb_lines
-use Rattle.asm_thumb.specs.Words as thumb_words
+use Rattle.asm_arm.specs.LineForms as arm_lines
+use Rattle.asm_arm.specs.Mnemonics as arm_words
+use Rattle.asm_thumb.specs.LineForms as thumb_lines
+use Rattle.asm_thumb.specs.Mnemonics as thumb_words
 
 -- a line without an operation: a label alone, or nothing
 abbrev pub alone : Flat → Option Token → Said
@@ -27,11 +28,13 @@ alone flat (Some t) = mapped (λ label. statement flat label what.Nothing) (labe
 -- ---- a line of a state, whose operations and what stands behind them read so
 
 -- a line with an operation
-abbrev pub SaysOperation : (List ℕ → Token → List Token → Result What LineKind → Type 0) → Flat → Option Token → Token → List Token → Said → Type 0
+abbrev pub SaysOperation : (List ℕ → Token → List Token → Result What LineKind → Type 0) → Flat → Option Token → Token → List Token → Said
+    → Type 0
 SaysOperation Operation flat label t ts r =
     (w : Result What LineKind) × Operation flat.text t ts w × (r ≡ on_both (statement flat) (label_field need.Optional flat.text label) w)
 
-abbrev pub SaysWords : (List ℕ → Token → List Token → Result What LineKind → Type 0) → Flat → Option Token → Option Token → List Token → Said → Type 0
+abbrev pub SaysWords : (List ℕ → Token → List Token → Result What LineKind → Type 0) → Flat → Option Token → Option Token → List Token
+    → Said → Type 0
 SaysWords Operation flat label None ts r = r ≡ alone flat label
 SaysWords Operation flat label (Some t) ts r = SaysOperation Operation flat label t ts r
 

@@ -7,21 +7,21 @@ ghost use Rattle.asm_model.specs.Told.{Told};
 ghost use Rattle.asm_model.specs.Tokens.{is_long};
 ghost use Rattle.asm_reading.specs.Says as says;
 
-use asm_arm::operands::both;
-use asm_arm::{lines as arm_lines, words as arm_words};
+use asm_arm::{line_forms as arm_forms, mnemonics as arm_mnemonics};
 use asm_expr::directives::{Sentence, label_field, parts_of};
+use asm_expr::kinds::both;
 use asm_expr::operands::piece_of;
-use asm_expr::says::{Said, said_directive, statement, told};
+use asm_expr::says::{ParsedStatement, said_directive, statement, statement_or_refusal};
 use asm_lines::scan::{has_long, scan};
 use asm_model::{Flat, LabelNeed, Statement, Token, What};
-use asm_thumb::{lines as thumb_lines, words as thumb_words};
+use asm_thumb::{line_forms as thumb_forms, mnemonics as thumb_mnemonics};
 use sdt_fault::NoMemory;
 use sdt_fault::answer::Fault;
 use sdt_fault::kinds::LineKind;
 use std::alloc::Global;
 
 /// A line without an operation.
-fn alone(alloc: Global, line: &Flat, label: Option<Token>) -> Result<Said, NoMemory>
+fn alone(alloc: Global, line: &Flat, label: Option<Token>) -> Result<ParsedStatement, NoMemory>
     ensures { IfOk result (λ said. said ≡ says.alone line.now label) }
 {
     let Some(label) = label else {
@@ -48,14 +48,14 @@ fn read_operation(
 ) -> Result<Result<What, LineKind>, NoMemory>
     ensures { IfOk result (λ said. says.ReadsBy thumb text.now operation tokens.now said) }
 {
-    let fault = arm_lines::unnamed(operation.kind);
+    let fault = arm_forms::unnamed(operation.kind);
     let piece = piece_of(text, operation);
     if thumb {
-        let word = thumb_words::operation_named(piece);
-        return thumb_lines::instruction(alloc, text, fault, word, tokens);
+        let word = thumb_mnemonics::operation_named(piece);
+        return thumb_forms::instruction(alloc, text, fault, word, tokens);
     }
-    let word = arm_words::operation_named(piece);
-    arm_lines::instruction(alloc, text, fault, word, tokens)
+    let word = arm_mnemonics::operation_named(piece);
+    arm_forms::instruction(alloc, text, fault, word, tokens)
 }
 
 /// A line with an operation.
@@ -66,7 +66,7 @@ fn with_operation(
     label: Option<Token>,
     operation: Token,
     tokens: &[Token],
-) -> Result<Said, NoMemory>
+) -> Result<ParsedStatement, NoMemory>
     ensures { IfOk result (λ said.
         says.SaysOperation (says.ReadsBy thumb) line.now label operation tokens.now said) }
 {
@@ -77,7 +77,12 @@ fn with_operation(
 }
 
 /// What a line without a directive says.
-fn words(alloc: Global, thumb: bool, line: &Flat, sentence: Sentence<'_>) -> Result<Said, NoMemory>
+fn words(
+    alloc: Global,
+    thumb: bool,
+    line: &Flat,
+    sentence: Sentence<'_>,
+) -> Result<ParsedStatement, NoMemory>
     ensures { IfOk result (λ said.
         says.SaysInstruction (says.ReadsBy thumb) line.now (sentence_of sentence.entry) said) }
 {
@@ -91,7 +96,12 @@ fn words(alloc: Global, thumb: bool, line: &Flat, sentence: Sentence<'_>) -> Res
 }
 
 /// What the tokens of a line say.
-fn said_by(alloc: Global, thumb: bool, line: &Flat, tokens: &[Token]) -> Result<Said, NoMemory>
+fn said_by(
+    alloc: Global,
+    thumb: bool,
+    line: &Flat,
+    tokens: &[Token],
+) -> Result<ParsedStatement, NoMemory>
     ensures { IfOk result
         (λ said. says.SaysTokens (says.ReadsBy thumb) line.now tokens.now said) }
 {
@@ -102,7 +112,7 @@ fn said_by(alloc: Global, thumb: bool, line: &Flat, tokens: &[Token]) -> Result<
 }
 
 /// What a line says whose tokens say so, where a name among them may be beyond the limit.
-fn with_long(tokens: &[Token], said: Said) -> Said
+fn with_long(tokens: &[Token], said: ParsedStatement) -> ParsedStatement
     ensures { result ≡ says.with_long (list_any is_long tokens.now) said }
 {
     match said {
@@ -116,7 +126,7 @@ fn with_long(tokens: &[Token], said: Said) -> Said
 }
 
 /// What a line of Thumb state says, or one of ARM state. A line of 2^32 bytes counts as want of memory.
-pub fn said_in(alloc: Global, thumb: bool, line: &Flat) -> Result<Said, NoMemory>
+pub fn said_in(alloc: Global, thumb: bool, line: &Flat) -> Result<ParsedStatement, NoMemory>
     ensures { IfOk result (λ said. says.SaysBy thumb line.now said) }
 {
     let text = line.text.as_slice();
@@ -139,7 +149,7 @@ pub fn parse_arm(alloc: Global, line: &Flat) -> Result<Option<Statement>, Fault>
     ensures { Told line.now.source line.now.number (says.SaysArm line.now) result }
 {
     let said = said_in(alloc, false, line);
-    told(alloc, line, said)
+    statement_or_refusal(alloc, line, said)
 }
 
 /// What a line of Thumb state says; None exactly for a blank line. A line with faults is refused, and of several kinds
@@ -151,5 +161,5 @@ pub fn parse_thumb(alloc: Global, line: &Flat) -> Result<Option<Statement>, Faul
     ensures { Told line.now.source line.now.number (says.SaysThumb line.now) result }
 {
     let said = said_in(alloc, true, line);
-    told(alloc, line, said)
+    statement_or_refusal(alloc, line, said)
 }

@@ -10,7 +10,6 @@ use Rattle.asm_model.specs.declared.operands.Register.{Register}
 use Rattle.asm_model.specs.declared.operands.Register.TheVariants as register
 use Rattle.asm_model.specs.declared.operands.ListItem.{ListItem}
 use Rattle.asm_model.specs.declared.operands.ListItem.TheVariants as item
-use Rattle.asm_model.specs.declared.arm_lines.ArmLine.TheVariants as arm
 use Rattle.asm_model.specs.declared.statements.PseudoLine.{PseudoLine}
 use Rattle.asm_model.specs.declared.statements.PseudoLine.TheVariants as pseudo
 use Rattle.asm_model.specs.declared.statements.Statement.{Statement}
@@ -23,7 +22,7 @@ use Rattle.asm_model.specs.Kinds.{told_kind, kind_if}
 use Rattle.asm_model.proofs.FaultLemmas.{told_by_parts}
 use Rattle.asm_model.specs.Labels.{defined_by}
 use Rattle.asm_model.specs.Laid.{LaidLine, reversed}
-use Rattle.source_model.specs.Registers.{Named, register_in, named_by, register_names, registers_behind, registers_of, no_register, kinds_unless, name_kinds, names_kinds, number_of, range_kinds, is_pc, has_row, thumb_list, has_pseudo, pseudo_kinds, operand_kinds, given_kinds, register_kinds}
+use Rattle.source_model.specs.Registers.{Named, register_in, named_by, register_names, registers_behind, registers_of, no_register, kinds_unless, name_kinds, names_kinds, number_of, range_kinds, is_pc, has_row, arm_list, thumb_list, has_pseudo, pseudo_kinds, operand_kinds, given_kinds, register_kinds}
 use Rattle.asm_registers.specs.declared.registers.Registers.{Registers}
 use Rattle.asm_sets.specs.Sets.{HaveSame}
 use Rattle.asm_registers.specs.Kept.{AreRegisters, IsLine}
@@ -43,7 +42,8 @@ name_same names names' all all' known known' h q =
     ap (λ o. kinds_unless o (no_register names q (named_in q all))) (h.numbers q)
     ∙ ap (kinds_unless (register_in q known')) (by_names (named_in q all) (named_in q all') (h.registers q) (h.others q))
   where
-    by_names : (b b' : Option LaidName) → list_any (same q) names ≡ list_any (same q) names' → is_some b ≡ is_some b' → no_register names q b ≡ no_register names' q b'
+    by_names : (b b' : Option LaidName) → list_any (same q) names ≡ list_any (same q) names' → is_some b ≡ is_some b'
+        → no_register names q b ≡ no_register names' q b'
     by_names None None e f = refl
     by_names None (Some n) e f = absurd (cc)
     by_names (Some n) None e f = absurd (cc)
@@ -59,11 +59,13 @@ names_same names names' all all' known known' h (register.Named q ∷ rs) =
 
 -- ---- operands
 
-pub number_same : (known known' : List Named) → ((q : List ℕ) → register_in q known ≡ register_in q known') → (r : Register) → number_of known r ≡ number_of known' r
+pub number_same : (known known' : List Named) → ((q : List ℕ) → register_in q known ≡ register_in q known') → (r : Register)
+    → number_of known r ≡ number_of known' r
 number_same known known' h (register.Number n) = refl
 number_same known known' h (register.Named q) = h q
 
-ranges_same : (known known' : List Named) → ((q : List ℕ) → register_in q known ≡ register_in q known') → (is : List ListItem) → range_kinds known is ≡ range_kinds known' is
+ranges_same : (known known' : List Named) → ((q : List ℕ) → register_in q known ≡ register_in q known') → (is : List ListItem)
+    → range_kinds known is ≡ range_kinds known' is
 ranges_same known known' h [] = refl
 ranges_same known known' h (item.One r ∷ is) = ranges_same known known' h is
 ranges_same known known' h (item.Range first last ∷ is) =
@@ -80,7 +82,7 @@ pseudo_same false known known' h _ = refl
 
 operands_same : (thumb : Bool) (known known' : List Named) → ((q : List ℕ) → register_in q known ≡ register_in q known') → (w : What)
     → operand_kinds thumb known w ≡ operand_kinds thumb known' w
-operands_same thumb known known' h (what.Arm (arm.TransferBlock condition load mode rn write_back list user)) = ranges_same known known' h list.items
+operands_same thumb known known' h (what.Arm l) = ranges_same known known' h (arm_list l)
 operands_same thumb known known' h (what.Thumb l) =
     ap (λ ks. ks ++ kind_if (not (has_row (number_of known) l)) BadOperand) (ranges_same known known' h (thumb_list l))
     ∙ ap (λ n. range_kinds known' (thumb_list l) ++ kind_if (not (has_row n l)) BadOperand) (all_same known known' h)
@@ -89,7 +91,8 @@ operands_same thumb known known' h _ = refl
 
 -- ---- lines
 
-pub line_told : (names : List (List ℕ)) (s : Statement) (thumb : Bool) (number : Result ℕ LineKind) (declared : List LaidName) (l : LaidLine) (before : List LaidLine) (old : Registers)
+pub line_told : (names : List (List ℕ)) (s : Statement) (thumb : Bool) (number : Result ℕ LineKind) (declared : List LaidName) (l : LaidLine)
+    (before : List LaidLine) (old : Registers)
     (given named operand : Option LineKind)
     → AreRegisters names before old → IsLine s thumb number declared l
     → given ≡ told_kind (given_kinds l.seen (defined_by s))
@@ -108,11 +111,13 @@ line_told names s thumb number declared l before old given named operand k i a b
     let operands_told : operand ≡ told_kind (operand_kinds thumb (registers_behind before) s.what) =
     c ∙ ap told_kind (operands_same thumb old.known (registers_behind before) numbers s.what) in
     rw (i.said, i.state, a, names_told, operands_told)
-    (sym (told_by_parts (given_kinds l.seen (defined_by s) ++ names_kinds names l.seen.list (registers_behind before) (registers_of s.what)) (operand_kinds thumb (registers_behind before) s.what)
+    (sym (told_by_parts (given_kinds l.seen (defined_by s) ++ names_kinds names l.seen.list (registers_behind before) (registers_of s.what))
+    (operand_kinds thumb (registers_behind before) s.what)
     ∙ ap (λ o. first_told o (told_kind (operand_kinds thumb (registers_behind before) s.what)))
     (told_by_parts (given_kinds l.seen (defined_by s)) (names_kinds names l.seen.list (registers_behind before) (registers_of s.what)))))
 
-pub line_left : (names : List (List ℕ)) (s : Statement) (thumb : Bool) (number : Result ℕ LineKind) (declared : List LaidName) (l : LaidLine) (before : List LaidLine) (old new : Registers)
+pub line_left : (names : List (List ℕ)) (s : Statement) (thumb : Bool) (number : Result ℕ LineKind) (declared : List LaidName) (l : LaidLine)
+    (before : List LaidLine) (old new : Registers)
     → AreRegisters names before old → IsLine s thumb number declared l → new.all ≡ old.all
     → ((q : List ℕ) → register_in q new.known ≡ register_in q (old.known ++ named_by l.seen (defined_by s)))
     → AreRegisters names (l ∷ before) new

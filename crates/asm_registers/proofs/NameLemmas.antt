@@ -37,7 +37,8 @@ before_more q xs ys zs e = in_both q xs zs ∙ ap (λ o. or_else o (register_in 
 pub kept : (q name : List ℕ) (known : List Named) (r : Result ℕ LineKind) (n m : ℕ) → r ≡ Ok n → register_in name known ≡ Some m
     → register_in q known ≡ register_in q (known ++ with_register name r)
 kept q name known r n m e there =
-    rw e (by_register (register_in q known) (same name q) refl (λ t. let h : name ≡ q = same_true name q t in rw (← h) there) ∙ sym (in_both q known ((name, n) ∷ [])))
+    rw e (by_register (register_in q known) (same name q) refl (λ t. let h : name ≡ q = same_true name q t in rw (← h) there)
+    ∙ sym (in_both q known ((name, n) ∷ [])))
   where
     by_register : (o : Option ℕ) (b : Bool) → same name q ≡ b → (b ≡ true → o ≡ Some m) → o ≡ or_else o (cond (same name q) (Some n) None)
     by_register (Some j) b s h = refl
@@ -58,7 +59,8 @@ between_more statements rest s old new h more = record {
   before = s ∷ h.before;
   whole = h.whole;
   names = λ q.
-      more q ∙ list_any-append (same q) (register_name (defined_by s)) old ∙ ap (λ (b : Bool). list_any (same q) (register_name (defined_by s)) || b) (h.names q)
+      more q ∙ list_any-append (same q) (register_name (defined_by s)) old ∙ ap (λ (b : Bool). list_any (same q) (register_name (defined_by s)) || b)
+      (h.names q)
       ∙ or_comm (list_any (same q) (register_name (defined_by s))) (list_any (same q) (register_names h.before))
       ∙ sym (list_any-append (same q) (register_names h.before) (register_name (defined_by s)));
 }

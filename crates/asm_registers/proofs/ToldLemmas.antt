@@ -56,7 +56,8 @@ item_next s left i told now all h some at e =
 
 ranges_joined : (known : List Named) (i : ListItem) (is : List ListItem) → range_kinds known (i ∷ is) ≡ range_kinds known (i ∷ []) ++ range_kinds known is
 ranges_joined known (item.One r) is = refl
-ranges_joined known (item.Range first last) is = ap (λ ks. ks ++ range_kinds known is) (sym (append-nil (kind_if (falls (number_of known first) (number_of known last)) BadOperand)))
+ranges_joined known (item.Range first last) is =
+    ap (λ ks. ks ++ range_kinds known is) (sym (append-nil (kind_if (falls (number_of known first) (number_of known last)) BadOperand)))
 
 range_told : (known : List Named) (i : ListItem) (is : List ListItem) (told now all : Option LineKind)
     → first_told told (told_kind (range_kinds known (i ∷ is))) ≡ all → now ≡ told_kind (range_kinds known (i ∷ []))

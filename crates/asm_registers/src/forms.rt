@@ -148,7 +148,7 @@ pub fn names_kind(scope: &Scope<'_>, what: &What) -> Option<LineKind>
         What::Arm(line) => arm_kind(scope, line),
         What::Thumb(line) => thumb_kind(scope, line),
         What::Pseudo(line) => pseudo_kind(scope, line),
-        _ => None,
+        What::Nothing | What::Directive(_) => None,
     }
 }
 
@@ -169,14 +169,54 @@ fn row_kind(known: &NameMap<u8>, line: &ThumbLine) -> Option<LineKind>
     kind_if(!has_row(known, line), LineKind::BadOperand)
 }
 
-/// The fault of a range that falls.
+/// The fault of a range that falls in ARM state.
+fn arm_range_kind(known: &NameMap<u8>, line: &ArmLine) -> Option<LineKind>
+    ensures { result ≡ told_kind (registers.range_kinds known.now (registers.arm_list line.now)) }
+{
+    match line {
+        ArmLine::TransferBlock { list, .. } => ranges_kind(known, list.items.as_slice()),
+        ArmLine::DataImmediate { .. }
+        | ArmLine::DataShifted { .. }
+        | ArmLine::DataRegisterShifted { .. }
+        | ArmLine::Multiply { .. }
+        | ArmLine::MultiplyLong { .. }
+        | ArmLine::Swap { .. }
+        | ArmLine::BranchExchange { .. }
+        | ArmLine::ReadStatus { .. }
+        | ArmLine::WriteStatus { .. }
+        | ArmLine::WriteStatusImmediate { .. }
+        | ArmLine::TransferImmediate { .. }
+        | ArmLine::TransferShifted { .. }
+        | ArmLine::TransferHalf { .. }
+        | ArmLine::Branch { .. }
+        | ArmLine::SoftwareInterrupt { .. } => None,
+    }
+}
+
+/// The fault of a range that falls in Thumb state.
 fn thumb_range_kind(known: &NameMap<u8>, line: &ThumbLine) -> Option<LineKind>
     ensures { result ≡ told_kind (registers.range_kinds known.now (registers.thumb_list line.now)) }
 {
     match line {
         ThumbLine::PushPop { list, .. } => ranges_kind(known, list.items.as_slice()),
         ThumbLine::TransferMultiple { list, .. } => ranges_kind(known, list.items.as_slice()),
-        _ => None,
+        ThumbLine::ShiftImmediate { .. }
+        | ThumbLine::AddSubtract { .. }
+        | ThumbLine::DataImmediate { .. }
+        | ThumbLine::DataRegister { .. }
+        | ThumbLine::HighRegister { .. }
+        | ThumbLine::LoadLiteral { .. }
+        | ThumbLine::TransferRegister { .. }
+        | ThumbLine::TransferSigned { .. }
+        | ThumbLine::TransferImmediate { .. }
+        | ThumbLine::TransferHalf { .. }
+        | ThumbLine::TransferStack { .. }
+        | ThumbLine::LoadAddress { .. }
+        | ThumbLine::AdjustStack { .. }
+        | ThumbLine::BranchConditional { .. }
+        | ThumbLine::SoftwareInterrupt { .. }
+        | ThumbLine::Branch { .. }
+        | ThumbLine::BranchLink { .. } => None,
     }
 }
 
@@ -196,7 +236,8 @@ fn pseudo_operand_kind(thumb: bool, known: &NameMap<u8>, line: &PseudoLine) -> O
         PseudoLine::LongAddress { rd, .. } => {
             kind_if(is_pc(number_of(known, rd)), LineKind::BadOperand)
         }
-        _ => None,
+        PseudoLine::LoadConstant { .. } | PseudoLine::Address { .. } | PseudoLine::NoOperation =>
+            None,
     }
 }
 
@@ -206,9 +247,9 @@ pub fn operand_kind(thumb: bool, known: &NameMap<u8>, what: &What) -> Option<Lin
     ensures { result ≡ told_kind (registers.operand_kinds thumb known.now what.now) }
 {
     match what {
-        What::Arm(ArmLine::TransferBlock { list, .. }) => ranges_kind(known, list.items.as_slice()),
+        What::Arm(line) => arm_range_kind(known, line),
         What::Thumb(line) => thumb_operand_kind(known, line),
         What::Pseudo(line) => pseudo_operand_kind(thumb, known, line),
-        _ => None,
+        What::Nothing | What::Directive(_) => None,
     }
 }

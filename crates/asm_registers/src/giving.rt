@@ -73,7 +73,7 @@ pub fn note(
 }
 
 /// The fault of a register that RN gives a name. From now on the name stands for it.
-fn give(
+fn name_register(
     alloc: Global,
     known: &mut NameMap<u8>,
     name: &Text,
@@ -102,7 +102,7 @@ pub fn given_kind(
 {
     match (&statement.label, &statement.what) {
         (Some(name), What::Directive(DirectiveLine::Rn { register })) => {
-            let told = give(alloc, known, name, given(register, number))?;
+            let told = name_register(alloc, known, name, given(register, number))?;
             Ok(told)
         }
         (_, _) => Ok(None),

@@ -197,7 +197,12 @@ pub fn has_row(known: &NameMap<u8>, line: &ThumbLine) -> bool
         ThumbLine::TransferMultiple { rn, list, .. } => {
             is_low(known, rn) && has_items(known, 0, list.items.as_slice())
         }
-        _ => true,
+        ThumbLine::HighRegister { .. }
+        | ThumbLine::AdjustStack { .. }
+        | ThumbLine::BranchConditional { .. }
+        | ThumbLine::SoftwareInterrupt { .. }
+        | ThumbLine::Branch { .. }
+        | ThumbLine::BranchLink { .. } => true,
     }
 }
 
@@ -208,6 +213,6 @@ pub fn has_pseudo(known: &NameMap<u8>, line: &PseudoLine) -> bool
     match line {
         PseudoLine::LoadConstant { rd, .. } => is_low(known, rd),
         PseudoLine::Address { rd, .. } => is_low(known, rd),
-        _ => true,
+        PseudoLine::LongAddress { .. } | PseudoLine::NoOperation => true,
     }
 }

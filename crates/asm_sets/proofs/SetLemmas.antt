@@ -42,7 +42,8 @@ within q (m ∷ ms) = by (same q m) (within q ms)
     later : (k n : ℕ) → nat_lt (k + 1) (suc n) ≡ nat_lt k n
     later k n = grind arith
 
-    by : (b : Bool) → nat_lt (place_of q ms) (length ms) ≡ list_any (same q) ms → nat_lt (cond b 0 (place_of q ms + 1)) (length (m ∷ ms)) ≡ b || list_any (same q) ms
+    by : (b : Bool) → nat_lt (place_of q ms) (length ms) ≡ list_any (same q) ms → nat_lt (cond b 0 (place_of q ms + 1)) (length (m ∷ ms)) ≡ b
+        || list_any (same q) ms
     by true h = grind arith
     by false h = later (place_of q ms) (length ms) ∙ h
 
@@ -67,9 +68,11 @@ with_one name names q = by (list_any (same name) names) refl
         either false true = refl
         either false false = refl
 
-pub among_shown : (q : List ℕ) (keys : List (Bor (List ℕ))) → list_any (λ (k : Bor (List ℕ)). pointwise nat_eq q k.now) keys ≡ list_any (same q) (map (λ (k : Bor (List ℕ)). k.now) keys)
+pub among_shown : (q : List ℕ) (keys : List (Bor (List ℕ))) → list_any (λ (k : Bor (List ℕ)). pointwise nat_eq q k.now) keys ≡ list_any (same q)
+    (map (λ (k : Bor (List ℕ)). k.now) keys)
 among_shown q [] = refl
-among_shown q (k ∷ ks) = rw (among_shown q ks) (ap (λ (t : List ℕ → List ℕ → Bool). t q k.now || list_any (same q) (map (λ (x : Bor (List ℕ)). x.now) ks)) is_same)
+among_shown q (k ∷ ks) =
+    rw (among_shown q ks) (ap (λ (t : List ℕ → List ℕ → Bool). t q k.now || list_any (same q) (map (λ (x : Bor (List ℕ)). x.now) ks)) is_same)
 
 pub ref_added : (old new : List (Bor (List ℕ))) (name : List ℕ)
     → ((q : List ℕ) → list_any (λ (k : Bor (List ℕ)). pointwise nat_eq q k.now) new
@@ -81,7 +84,8 @@ ref_added old new name h q =
 pub found : {V : Type 0} → (q : List ℕ) (es : List (List ℕ × V)) → lookup (pointwise nat_eq q) es ≡ found_in q es
 found q es = ap (λ (t : List ℕ → Bool). lookup t es) (λ i k. tests q k i)
 
-pub entry_added : {V S : Type 0} (m : IndexMap (List ℕ) V S) (name copy : List ℕ) (v : V) (new : List (List ℕ × V)) → copy ≡ name → found_in name m.entries ≡ None
+pub entry_added : {V S : Type 0} (m : IndexMap (List ℕ) V S) (name copy : List ℕ) (v : V) (new : List (List ℕ × V)) → copy ≡ name
+    → found_in name m.entries ≡ None
     → new ≡ insert_entry (pointwise nat_eq) m.entries copy v → new ≡ m.entries ++ (name, v) ∷ []
 entry_added m name copy v new e fresh h =
     h ∙ ap (λ (n : List ℕ). insert_entry (pointwise nat_eq) m.entries n v) e ∙ insert_entry-new (pointwise nat_eq) m name v (found name m.entries ∙ fresh)

@@ -1,4 +1,5 @@
-//! Names in sets and maps, found by hash.
+//! Names in sets and maps, found by hash. This project's. Checks, registers and symbols use `NameSet` (names with their
+//! places), `NameRefs` (names that stand elsewhere) and `NameMap` (names with values).
 #![tactic(auto)]
 
 mod maps;

@@ -9,19 +9,20 @@ use Rattle.asm_model.specs.declared.tokens.Token.{Token}
 use Rattle.asm_model.specs.declared.statements.What.{What}
 use Rattle.asm_model.specs.Grammar.{OneParse, ParsesTokens}
 use Rattle.asm_model.specs.Operands.{operands}
-use Rattle.asm_arm.specs.Lines.{hash, equals, bracket, without_hash}
+use Rattle.asm_arm.specs.LineForms.{hash, equals, bracket, without_hash}
 use Rattle.asm_arm.specs.Operands.{Cuts, none, one, two, three, four, more, cut, without_first}
 use Rattle.asm_arm.proofs.LawLemmas.{one_value, one_made}
 use Rattle.asm_thumb.specs.declared.frames.Frame.{Frame}
 use Rattle.asm_thumb.specs.declared.frames.Frame.TheVariants as frame
-use Rattle.asm_thumb.specs.declared.words.Mnemonic.{Mnemonic}
-use Rattle.asm_thumb.specs.declared.words.Mnemonic.TheVariants as mnemonic
+use Rattle.asm_thumb.specs.declared.mnemonics.Mnemonic.{Mnemonic}
+use Rattle.asm_thumb.specs.declared.mnemonics.Mnemonic.TheVariants as mnemonic
 use Rattle.asm_thumb.specs.Data as forms
-use Rattle.asm_thumb.specs.Lines as lines
+use Rattle.asm_thumb.specs.LineForms as lines
 use Rattle.asm_thumb.specs.Frames.{ReadsWith}
 use Rattle.asm_thumb.specs.Transfers as transfers
 
-one_with : OneParse → (text : List ℕ) (f : Result Frame LineKind) (e : List Token) (a b : Result What LineKind) → ReadsWith text f e a → ReadsWith text f e b → a ≡ b
+one_with : OneParse → (text : List ℕ) (f : Result Frame LineKind) (e : List Token) (a b : Result What LineKind) → ReadsWith text f e a → ReadsWith text f e b
+    → a ≡ b
 one_with law text f e a b p q = one_made (ParsesTokens text e) _ (one_value law text e) a b p q
 
 one_pair : OneParse → (text : List ℕ) (o : ImmediateOperation) (d x : List Token) (n : Option (List Token)) (a b : Result What LineKind)
@@ -106,7 +107,8 @@ one_address law text (three d x y) a b p q = p ∙ sym q
 one_address law text (four d x y z) a b p q = p ∙ sym q
 one_address law text more a b p q = p ∙ sym q
 
-one_word : OneParse → (text : List ℕ) (m : Mnemonic) (ts : List Token) (a b : Result What LineKind) → lines.ReadsWord text m ts a → lines.ReadsWord text m ts b → a ≡ b
+one_word : OneParse → (text : List ℕ) (m : Mnemonic) (ts : List Token) (a b : Result What LineKind) → lines.ReadsWord text m ts a → lines.ReadsWord text m ts b
+    → a ≡ b
 one_word law text (mnemonic.Immediate o) ts a b p q = one_immediate law text o (cut (operands text ts)) a b p q
 one_word law text (mnemonic.Shift k) ts a b p q = one_shift law text k (cut (operands text ts)) a b p q
 one_word law text (mnemonic.Register o) ts a b p q = p ∙ sym q
@@ -123,6 +125,7 @@ one_word law text mnemonic.Address ts a b p q = one_address law text (cut (opera
 one_word law text mnemonic.NoOperation ts a b p q = p ∙ sym q
 one_word law text mnemonic.FloatingPoint ts a b p q = p ∙ sym q
 
-pub one_reading : OneParse → (text : List ℕ) (k : LineKind) (m : Option Mnemonic) (ts : List Token) (a b : Result What LineKind) → lines.Reads text k m ts a → lines.Reads text k m ts b → a ≡ b
+pub one_reading : OneParse → (text : List ℕ) (k : LineKind) (m : Option Mnemonic) (ts : List Token) (a b : Result What LineKind) → lines.Reads text k m ts a
+    → lines.Reads text k m ts b → a ≡ b
 one_reading law text k None ts a b p q = p ∙ sym q
 one_reading law text k (Some m) ts a b p q = one_word law text m ts a b p q

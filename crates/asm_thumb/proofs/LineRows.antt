@@ -26,9 +26,9 @@ use Rattle.asm_model.specs.Operands.{depth_behind}
 use Rattle.asm_model.specs.Parts.{piece}
 use Rattle.asm_model.specs.Registers.{call_register, numbered_register, register_named, special_register}
 use Rattle.asm_model.specs.Says.{unnamed}
-use Rattle.asm_arm.specs.Words as arm
-use Rattle.asm_thumb.specs.Lines.{Reads}
-use Rattle.asm_thumb.specs.Words.{core_named, operation_named}
+use Rattle.asm_arm.specs.Mnemonics as arm
+use Rattle.asm_thumb.specs.LineForms.{Reads}
+use Rattle.asm_thumb.specs.Mnemonics.{core_named, operation_named}
 
 abbrev token : TokenKind → ℕ → ℕ → Token
 token kind start end = record { kind = kind; start = start; end = end }
@@ -53,7 +53,8 @@ parsed ps i e p =
 
 -- ` ADD r0,r1,#5`
 pub sum_of_three : Says (codes " ADD r0,r1,#5") (token kind.Name 1 4)
-    ((token kind.Name 5 7) ∷ (token kind.Sign 7 8) ∷ (token kind.Name 8 10) ∷ (token kind.Sign 10 11) ∷ (token kind.Sign 11 12) ∷ (token kind.Number 12 13) ∷ [])
+    ((token kind.Name 5 7) ∷ (token kind.Sign 7 8) ∷ (token kind.Name 8 10) ∷ (token kind.Sign 10 11) ∷ (token kind.Sign 11 12) ∷ (token kind.Number 12 13)
+    ∷ [])
     (Ok (what.Thumb (line.AddSubtract false (register.Number 0) (register.Number 1) (operand.Number (number 5)))))
 unfolding operation_named core_named depth_behind register_named numbered_register special_register call_register
 sum_of_three = (Ok (number 5), parsed _ (item.Constant (value.Number 5)) refl refl, refl)
@@ -102,7 +103,8 @@ no_difference_of_two = refl
 
 -- ` ADD r0,sp,#8`
 pub stack_address : Says (codes " ADD r0,sp,#8") (token kind.Name 1 4)
-    ((token kind.Name 5 7) ∷ (token kind.Sign 7 8) ∷ (token kind.Name 8 10) ∷ (token kind.Sign 10 11) ∷ (token kind.Sign 11 12) ∷ (token kind.Number 12 13) ∷ [])
+    ((token kind.Name 5 7) ∷ (token kind.Sign 7 8) ∷ (token kind.Name 8 10) ∷ (token kind.Sign 10 11) ∷ (token kind.Sign 11 12) ∷ (token kind.Number 12 13)
+    ∷ [])
     (Ok (what.Thumb (line.LoadAddress true (register.Number 0) (number 8))))
 unfolding operation_named core_named depth_behind register_named numbered_register special_register call_register
 stack_address = (Ok (number 8), parsed _ (item.Constant (value.Number 8)) refl refl, refl)
@@ -116,7 +118,8 @@ stack_down = (Ok (number 8), parsed _ (item.Constant (value.Number 8)) refl refl
 
 -- ` LDR r0,[sp,#8]`
 pub stack_load : Says (codes " LDR r0,[sp,#8]") (token kind.Name 1 4)
-    ((token kind.Name 5 7) ∷ (token kind.Sign 7 8) ∷ (token kind.Sign 8 9) ∷ (token kind.Name 9 11) ∷ (token kind.Sign 11 12) ∷ (token kind.Sign 12 13) ∷ (token kind.Number 13 14) ∷ (token kind.Sign 14 15) ∷ [])
+    ((token kind.Name 5 7) ∷ (token kind.Sign 7 8) ∷ (token kind.Sign 8 9) ∷ (token kind.Name 9 11) ∷ (token kind.Sign 11 12) ∷ (token kind.Sign 12 13)
+    ∷ (token kind.Number 13 14) ∷ (token kind.Sign 14 15) ∷ [])
     (Ok (what.Thumb (line.TransferStack true (register.Number 0) (number 8))))
 unfolding operation_named core_named depth_behind register_named numbered_register special_register call_register
 stack_load = (Ok (number 8), parsed _ (item.Constant (value.Number 8)) refl refl, refl)
@@ -130,14 +133,16 @@ base_alone = refl
 
 -- ` LDRSB r0,[r1,#4]`
 pub no_signed_number : Says (codes " LDRSB r0,[r1,#4]") (token kind.Name 1 6)
-    ((token kind.Name 7 9) ∷ (token kind.Sign 9 10) ∷ (token kind.Sign 10 11) ∷ (token kind.Name 11 13) ∷ (token kind.Sign 13 14) ∷ (token kind.Sign 14 15) ∷ (token kind.Number 15 16) ∷ (token kind.Sign 16 17) ∷ [])
+    ((token kind.Name 7 9) ∷ (token kind.Sign 9 10) ∷ (token kind.Sign 10 11) ∷ (token kind.Name 11 13) ∷ (token kind.Sign 13 14) ∷ (token kind.Sign 14 15)
+    ∷ (token kind.Number 15 16) ∷ (token kind.Sign 16 17) ∷ [])
     (Err Syntax)
 unfolding operation_named core_named depth_behind register_named numbered_register special_register call_register
 no_signed_number = refl
 
 -- ` PUSH {r0-r3,lr}`
 pub push : Says (codes " PUSH {r0-r3,lr}") (token kind.Name 1 5)
-    ((token kind.Sign 6 7) ∷ (token kind.Name 7 9) ∷ (token kind.Sign 9 10) ∷ (token kind.Name 10 12) ∷ (token kind.Sign 12 13) ∷ (token kind.Name 13 15) ∷ (token kind.Sign 15 16) ∷ [])
+    ((token kind.Sign 6 7) ∷ (token kind.Name 7 9) ∷ (token kind.Sign 9 10) ∷ (token kind.Name 10 12) ∷ (token kind.Sign 12 13) ∷ (token kind.Name 13 15)
+    ∷ (token kind.Sign 15 16) ∷ [])
     (Ok (what.Thumb (line.PushPop false (record { items = entry.Range (register.Number 0) (register.Number 3) ∷ entry.One (register.Number 14) ∷ [] }))))
 unfolding operation_named core_named depth_behind register_named numbered_register special_register call_register
 push = refl
@@ -160,5 +165,8 @@ branch = (Ok (name (codes "f")), parsed _ (item.Name (codes "f")) refl refl, ref
 pub no_branch_always : Says (codes " BAL f") (token kind.Name 1 4)
     ((token kind.Name 5 6) ∷ [])
     (Err UnknownWord)
-unfolding operation_named core_named depth_behind register_named numbered_register special_register call_register arm.operation_named arm.data_named arm.data_stem arm.multiply_named arm.multiply_stem arm.long_named arm.long_stem arm.moving_named arm.transfer_named arm.transfer_stem arm.block_named arm.block_stem arm.swap_named arm.swap_stem arm.other_named arm.plain_named arm.plain_stem arm.long_address_named arm.long_address_stem arm.branch_named arm.short_branch_stem arm.branch_stem arm.condition_named
+unfolding operation_named core_named depth_behind register_named numbered_register special_register call_register arm.operation_named arm.data_named
+    arm.data_stem arm.multiply_named arm.multiply_stem arm.long_named arm.long_stem arm.moving_named arm.transfer_named arm.transfer_stem arm.block_named
+    arm.block_stem arm.swap_named arm.swap_stem arm.other_named arm.plain_named arm.plain_stem arm.long_address_named arm.long_address_stem arm.branch_named
+    arm.short_branch_stem arm.branch_stem arm.condition_named
 no_branch_always = refl

@@ -19,9 +19,9 @@ use Rattle.asm_model.specs.declared.operands.ThumbOperand.TheVariants as operand
 use Rattle.asm_model.specs.declared.statements.What.{What}
 use Rattle.asm_model.specs.declared.statements.What.TheVariants as what
 use Rattle.asm_model.specs.declared.thumb_lines.ThumbLine.TheVariants as line
-use Rattle.asm_model.specs.Says.{mapped}
-use Rattle.asm_arm.specs.Lines.{hash}
-use Rattle.asm_arm.specs.Operands.{Cuts, two, three, followed, register, two_registers, three_registers, without_first}
+use Rattle.asm_model.specs.Readings.{and_then, mapped}
+use Rattle.asm_arm.specs.LineForms.{hash}
+use Rattle.asm_arm.specs.Operands.{Cuts, two, three, register, two_registers, three_registers, without_first}
 use Rattle.asm_thumb.specs.declared.frames.Frame.{Frame}
 use Rattle.asm_thumb.specs.declared.frames.Frame.TheVariants as frame
 use Rattle.asm_thumb.specs.Frames.{ReadsWith, with_zero}
@@ -62,7 +62,7 @@ pair_line o rd rs = if may_be_high rd || may_be_high rs then high_line o rd rs e
 -- Rd and a number, or two registers
 abbrev pub ReadsPair : List ℕ → ImmediateOperation → List Token → List Token → Option (List Token) → Result What LineKind → Type 0
 ReadsPair text o d x (Some e) r = ReadsWith text (mapped (immediate_frame o) (register text d)) e r
-ReadsPair text o d x None r = r ≡ followed (two_registers text d x) (λ p. pair_line o p.0 p.1)
+ReadsPair text o d x None r = r ≡ and_then (two_registers text d x) (λ p. pair_line o p.0 p.1)
 
 -- a sum of a register and a number; ADD of sp or pc is an address
 abbrev pub sum_frame : Bool → Register → Register → Frame

@@ -11,7 +11,7 @@ use Rattle.asm_model.specs.declared.statements.What.{What}
 use Rattle.asm_model.specs.declared.statements.What.TheVariants as what
 use Rattle.asm_model.specs.declared.thumb_lines.ThumbLine.TheVariants as line
 use Rattle.asm_model.specs.Grammar.{ParsesTokens}
-use Rattle.asm_model.specs.Says.{mapped, on_both}
+use Rattle.asm_model.specs.Readings.{mapped, on_both}
 use Rattle.asm_arm.specs.Addresses.{zero}
 use Rattle.asm_thumb.specs.declared.frames.Frame.{Frame}
 use Rattle.asm_thumb.specs.declared.frames.Frame.TheVariants as frame

@@ -1,8 +1,8 @@
 -- What the clauses of the crate cite.
 pub mod Data
 pub mod Frames
-pub mod Lines
+pub mod LineForms
+pub mod Mnemonics
 pub mod Operands
 pub mod Steps
 pub mod Transfers
-pub mod Words

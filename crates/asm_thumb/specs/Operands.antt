@@ -8,8 +8,9 @@ use Rattle.asm_model.specs.declared.tokens.Token.{Token}
 use Rattle.asm_model.specs.declared.operands.Register.{Register}
 use Rattle.asm_model.specs.declared.operands.Register.TheVariants as register_is
 use Rattle.asm_model.specs.declared.operands.ListItem.{ListItem}
+use Rattle.asm_model.specs.Readings.{and_then}
 use Rattle.asm_arm.specs.Lists as lists
-use Rattle.asm_arm.specs.Operands.{followed, marked}
+use Rattle.asm_arm.specs.Operands.{marked}
 
 -- sp and pc by their own names
 abbrev pub is_sp : Register → Bool
@@ -39,4 +40,4 @@ written true rn = Ok rn
 written false rn = Err Syntax
 
 abbrev pub written_base : List ℕ → List Token → Result Register LineKind
-written_base text ts = followed (lists.base text ts) (λ b. written b.1 b.0)
+written_base text ts = and_then (lists.base text ts) (λ b. written b.1 b.0)

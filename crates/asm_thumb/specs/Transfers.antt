@@ -14,8 +14,8 @@ use Rattle.asm_model.specs.declared.statements.What.{What}
 use Rattle.asm_model.specs.declared.statements.What.TheVariants as what
 use Rattle.asm_model.specs.declared.thumb_lines.ThumbLine.TheVariants as line
 use Rattle.asm_model.specs.Operands.{operands}
-use Rattle.asm_model.specs.Says.{mapped}
-use Rattle.asm_arm.specs.Lines.{hash, equals, bracket}
+use Rattle.asm_model.specs.Readings.{mapped}
+use Rattle.asm_arm.specs.LineForms.{hash, equals, bracket}
 use Rattle.asm_arm.specs.Operands.{Cuts, one, two, cut, between, register, two_registers, three_registers, without_first}
 use Rattle.asm_thumb.specs.declared.frames.Frame.{Frame}
 use Rattle.asm_thumb.specs.declared.frames.Frame.TheVariants as frame

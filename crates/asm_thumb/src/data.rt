@@ -1,15 +1,16 @@
 //! What the operands of moves, comparisons, sums, shifts and logical operations say.
 
 ghost use Rattle.std.specs.Prelude.{◌≡◌, IfOk, Some};
-ghost use Rattle.asm_model.specs.Says as says;
-ghost use Rattle.asm_arm.specs.Lines as arm;
+ghost use Rattle.asm_model.specs.Readings as readings;
+ghost use Rattle.asm_arm.specs.LineForms as arm;
 ghost use Rattle.asm_arm.specs.Operands as arm_operands;
 ghost use Rattle.asm_arm.specs.Steps.{cut_of};
 ghost use Rattle.asm_thumb.specs.Data as forms;
 
-use crate::frames::{Frame, Said, with_value, with_zero};
+use crate::frames::{Frame, ParsedOperation, with_value, with_zero};
 use crate::operands::{copy_of, is_pc, is_sp, may_be_high};
 use asm_arm::operands::{Cut, register, three_registers, two_registers, without_first};
+use asm_expr::or_kind;
 use asm_model::{Register, ThumbLine, ThumbOperand, Token, What};
 use sdt_fault::kinds::LineKind;
 use std::alloc::Global;
@@ -41,17 +42,13 @@ fn immediate_frame(
     operation: ImmediateOperation,
     rd: Result<Register, LineKind>,
 ) -> Result<Frame, LineKind>
-    ensures { result ≡ says.mapped (forms.immediate_frame operation) rd }
+    ensures { result ≡ readings.mapped (forms.immediate_frame operation) rd }
 {
-    match rd {
-        Ok(rd) => {
-            if is_sp(&rd) {
-                return Ok(stack_frame(operation, rd));
-            }
-            Ok(Frame::Immediate { operation, rd })
-        }
-        Err(kind) => Err(kind),
+    let rd = rd?;
+    if is_sp(&rd) {
+        return Ok(stack_frame(operation, rd));
     }
+    Ok(Frame::Immediate { operation, rd })
 }
 
 /// An operation of two registers of which one is r8 to r15, or a name.
@@ -68,7 +65,12 @@ fn high_line(operation: ImmediateOperation, rd: Register, rs: Register) -> Resul
 }
 
 /// An operation of two registers from r0 to r7.
-fn low_line(alloc: Global, operation: ImmediateOperation, rd: Register, rs: Register) -> Said
+fn low_line(
+    alloc: Global,
+    operation: ImmediateOperation,
+    rd: Register,
+    rs: Register,
+) -> ParsedOperation
     ensures { IfOk result (λ said. said ≡ forms.low_line operation rd rs) }
 {
     match operation {
@@ -95,7 +97,12 @@ fn low_line(alloc: Global, operation: ImmediateOperation, rd: Register, rs: Regi
 }
 
 /// An operation of two registers.
-fn pair_line(alloc: Global, operation: ImmediateOperation, rd: Register, rs: Register) -> Said
+fn pair_line(
+    alloc: Global,
+    operation: ImmediateOperation,
+    rd: Register,
+    rs: Register,
+) -> ParsedOperation
     ensures { IfOk result (λ said. said ≡ forms.pair_line operation rd rs) }
 {
     if may_be_high(&rd) || may_be_high(&rs) {
@@ -111,7 +118,7 @@ fn pair(
     operation: ImmediateOperation,
     rd: &[Token],
     operand: &[Token],
-) -> Said
+) -> ParsedOperation
     ensures { IfOk result
         (λ said. forms.ReadsPair text.now operation rd.now operand.now
         (arm_operands.without_first text.now arm.hash operand.now) said) }
@@ -120,10 +127,8 @@ fn pair(
         let frame = immediate_frame(operation, register(alloc, text, rd)?);
         return with_value(alloc, text, frame, number);
     }
-    match two_registers(alloc, text, rd, operand)? {
-        Ok((rd, rs)) => pair_line(alloc, operation, rd, rs),
-        Err(kind) => Ok(Err(kind)),
-    }
+    let (rd, rs) = or_kind!(two_registers(alloc, text, rd, operand)?);
+    pair_line(alloc, operation, rd, rs)
 }
 
 /// A sum of a register and a number; ADD of sp or pc is an address.
@@ -147,12 +152,10 @@ fn sum_of_read(
     subtract: bool,
     pair: Result<(Register, Register), LineKind>,
 ) -> Result<Frame, LineKind>
-    ensures { result ≡ says.mapped (λ p. forms.sum_frame subtract p.0 p.1) pair }
+    ensures { result ≡ readings.mapped (λ p. forms.sum_frame subtract p.0 p.1) pair }
 {
-    match pair {
-        Ok((rd, rs)) => Ok(sum_frame(subtract, rd, rs)),
-        Err(kind) => Err(kind),
-    }
+    let (rd, rs) = pair?;
+    Ok(sum_frame(subtract, rd, rs))
 }
 
 /// Rd, Rs, and a number or a register.
@@ -163,7 +166,7 @@ fn sum(
     rd: &[Token],
     rs: &[Token],
     operand: &[Token],
-) -> Said
+) -> ParsedOperation
     ensures { IfOk result
         (λ said. forms.ReadsSum text.now (Some subtract) rd.now rs.now operand.now
         (arm_operands.without_first text.now arm.hash operand.now) said) }
@@ -172,19 +175,22 @@ fn sum(
         let frame = sum_of_read(subtract, two_registers(alloc, text, rd, rs)?);
         return with_value(alloc, text, frame, number);
     }
-    match three_registers(alloc, text, rd, rs, operand)? {
-        Ok(((rd, rs), rn)) => Ok(Ok(What::Thumb(ThumbLine::AddSubtract {
-            subtract,
-            rd,
-            rs,
-            operand: ThumbOperand::Register(rn),
-        }))),
-        Err(kind) => Ok(Err(kind)),
-    }
+    let ((rd, rs), rn) = or_kind!(three_registers(alloc, text, rd, rs, operand)?);
+    Ok(Ok(What::Thumb(ThumbLine::AddSubtract {
+        subtract,
+        rd,
+        rs,
+        operand: ThumbOperand::Register(rn),
+    })))
 }
 
 /// MOV, CMP, ADD and SUB.
-pub fn immediates(alloc: Global, text: &[u8], operation: ImmediateOperation, cut: Cut<'_>) -> Said
+pub fn immediates(
+    alloc: Global,
+    text: &[u8],
+    operation: ImmediateOperation,
+    cut: Cut<'_>,
+) -> ParsedOperation
     ensures { IfOk result
         (λ said. forms.ReadsImmediate text.now operation (cut_of cut.entry) said) }
 {
@@ -199,14 +205,19 @@ pub fn immediates(alloc: Global, text: &[u8], operation: ImmediateOperation, cut
 }
 
 /// AND to MVN.
-pub fn registers(alloc: Global, text: &[u8], operation: ThumbOperation, cut: Cut<'_>) -> Said
+pub fn registers(
+    alloc: Global,
+    text: &[u8],
+    operation: ThumbOperation,
+    cut: Cut<'_>,
+) -> ParsedOperation
     ensures { IfOk result (λ said. said ≡ forms.registers text.now operation (cut_of cut.entry)) }
 {
     match cut {
-        Cut::Two(rd, rs) => match two_registers(alloc, text, rd, rs)? {
-            Ok((rd, rs)) => Ok(Ok(What::Thumb(ThumbLine::DataRegister { operation, rd, rs }))),
-            Err(kind) => Ok(Err(kind)),
-        },
+        Cut::Two(rd, rs) => {
+            let (rd, rs) = or_kind!(two_registers(alloc, text, rd, rs)?);
+            Ok(Ok(What::Thumb(ThumbLine::DataRegister { operation, rd, rs })))
+        }
         _ => Ok(Err(LineKind::Syntax)),
     }
 }
@@ -229,14 +240,12 @@ fn shift_frame(
 ) -> Result<Frame, LineKind>
     ensures { result ≡ forms.shift_frame shift pair }
 {
-    match pair {
-        Ok((rd, rs)) => Ok(Frame::Shift { shift, rd, rs }),
-        Err(kind) => Err(kind),
-    }
+    let (rd, rs) = pair?;
+    Ok(Frame::Shift { shift, rd, rs })
 }
 
 /// LSL, LSR and ASR.
-pub fn shifts(alloc: Global, text: &[u8], shift: ThumbShift, cut: Cut<'_>) -> Said
+pub fn shifts(alloc: Global, text: &[u8], shift: ThumbShift, cut: Cut<'_>) -> ParsedOperation
     ensures { IfOk result (λ said. forms.ReadsShift text.now shift (cut_of cut.entry) said) }
 {
     match cut {

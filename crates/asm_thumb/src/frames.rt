@@ -4,13 +4,13 @@ ghost use Rattle.std.specs.Prelude.{◌≡◌, Result, IfOk};
 ghost use Rattle.sdt_fault.specs.declared.kinds.LineKind.{LineKind};
 ghost use Rattle.asm_model.specs.declared.exprs.Expr.{Expr};
 ghost use Rattle.asm_model.specs.Grammar.{ParsesTokens};
-ghost use Rattle.asm_model.specs.Says as says;
+ghost use Rattle.asm_model.specs.Readings as readings;
 ghost use Rattle.asm_arm.specs.Addresses as addresses;
-ghost use Rattle.asm_arm.specs.Operands as operands;
 ghost use Rattle.asm_thumb.specs.Frames as frames;
 
 use asm_arm::addresses::zero;
-use asm_arm::operands::both;
+use asm_expr::kinds::both;
+use asm_expr::or_kind;
 use asm_expr::read::expression;
 use asm_model::{Expr, LiteralAddress, PseudoLine, Register, ThumbLine, ThumbOperand, Token, What};
 use sdt_fault::NoMemory;
@@ -20,7 +20,7 @@ use std::alloc::Global;
 use thumb_isa::{ImmediateOperation, ThumbShift};
 
 /// The outcome of a reading: what is said or the kind of its fault, or want of memory.
-pub type Said = Result<Result<What, LineKind>, NoMemory>;
+pub type ParsedOperation = Result<Result<What, LineKind>, NoMemory>;
 
 /// A line but for its expression.
 #[derive(Drop)]
@@ -188,7 +188,7 @@ fn with_expression<F: Drop>(
     tokens: &[Token],
 ) -> Result<Result<(F, Expr), LineKind>, NoMemory>
     ensures { IfOk result (λ read. (value : Result Expr LineKind)
-        × ParsesTokens text.now tokens.now value × (read ≡ operands.both frame value)) }
+        × ParsesTokens text.now tokens.now value × (read ≡ readings.both frame value)) }
 {
     let value = expression(alloc, text, tokens)?;
     Ok(both(frame, value))
@@ -200,12 +200,10 @@ fn zeroed<F: Drop>(
     frame: Result<F, LineKind>,
 ) -> Result<Result<(F, Expr), LineKind>, NoMemory>
     ensures { IfOk result
-        (λ read. read ≡ says.mapped (λ frame. (frame, addresses.zero)) frame) }
+        (λ read. read ≡ readings.mapped (λ frame. (frame, addresses.zero)) frame) }
 {
-    match frame {
-        Ok(frame) => Ok(Ok((frame, zero(alloc)?))),
-        Err(kind) => Ok(Err(kind)),
-    }
+    let frame = or_kind!(frame);
+    Ok(Ok((frame, zero(alloc)?)))
 }
 
 /// A line, from what is read of its registers and the tokens of its expression.
@@ -214,21 +212,17 @@ pub fn with_value(
     text: &[u8],
     frame: Result<Frame, LineKind>,
     tokens: &[Token],
-) -> Said
+) -> ParsedOperation
     ensures { IfOk result (λ said. frames.ReadsWith text.now frame tokens.now said) }
 {
-    match with_expression(alloc, text, frame, tokens)? {
-        Ok((frame, value)) => Ok(Ok(filled(frame, value))),
-        Err(kind) => Ok(Err(kind)),
-    }
+    let (frame, value) = or_kind!(with_expression(alloc, text, frame, tokens)?);
+    Ok(Ok(filled(frame, value)))
 }
 
 /// A line whose number is 0 and isn't written.
-pub fn with_zero(alloc: Global, frame: Result<Frame, LineKind>) -> Said
+pub fn with_zero(alloc: Global, frame: Result<Frame, LineKind>) -> ParsedOperation
     ensures { IfOk result (λ said. said ≡ frames.with_zero frame) }
 {
-    match zeroed(alloc, frame)? {
-        Ok((frame, value)) => Ok(Ok(filled(frame, value))),
-        Err(kind) => Ok(Err(kind)),
-    }
+    let (frame, value) = or_kind!(zeroed(alloc, frame)?);
+    Ok(Ok(filled(frame, value)))
 }

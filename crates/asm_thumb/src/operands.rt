@@ -5,6 +5,7 @@ ghost use Rattle.asm_thumb.specs.Operands as operands;
 
 use asm_arm::lists;
 use asm_arm::operands::marked;
+use asm_expr::or_kind;
 use asm_model::{ListItem, Register, Token};
 use sdt_fault::kinds::LineKind;
 use sdt_fault::{List, NoMemory};
@@ -62,10 +63,8 @@ pub fn register_list(
     if mark {
         return Ok(Err(LineKind::Syntax));
     }
-    match lists::register_list(alloc, text, tokens)? {
-        Ok((items, _)) => Ok(Ok(items)),
-        Err(kind) => Ok(Err(kind)),
-    }
+    let (items, _) = or_kind!(lists::register_list(alloc, text, tokens)?);
+    Ok(Ok(items))
 }
 
 /// A base that is written back.
@@ -76,13 +75,9 @@ pub fn written_base(
 ) -> Result<Result<Register, LineKind>, NoMemory>
     ensures { IfOk result (λ base. base ≡ operands.written_base text.now tokens.now) }
 {
-    match lists::base(alloc, text, tokens)? {
-        Ok((register, mark)) => {
-            if mark {
-                return Ok(Ok(register));
-            }
-            Ok(Err(LineKind::Syntax))
-        }
-        Err(kind) => Ok(Err(kind)),
+    let (register, mark) = or_kind!(lists::base(alloc, text, tokens)?);
+    if mark {
+        return Ok(Ok(register));
     }
+    Ok(Err(LineKind::Syntax))
 }

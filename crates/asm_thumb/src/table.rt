@@ -1,6 +1,6 @@
 //! The operation words of Thumb state.
 
-use crate::words::Mnemonic;
+use crate::mnemonics::Mnemonic;
 use sdt_word::{Condition, Width};
 use thumb_isa::{ImmediateOperation, SignedTransfer, ThumbOperation, ThumbShift};
 

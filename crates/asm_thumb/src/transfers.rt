@@ -1,19 +1,21 @@
 //! What the operands of transfers say.
 
 ghost use Rattle.std.specs.Prelude.{◌≡◌, IfOk, ◌&&◌};
-ghost use Rattle.asm_model.specs.Says as says;
-ghost use Rattle.asm_arm.specs.Lines as arm;
+ghost use Rattle.asm_model.specs.Readings as readings;
+ghost use Rattle.asm_arm.specs.LineForms as arm;
 ghost use Rattle.asm_arm.specs.Operands as arm_operands;
 ghost use Rattle.asm_arm.specs.Steps.{cut_of};
+ghost use Rattle.asm_thumb.specs.Frames as frames;
 ghost use Rattle.asm_thumb.specs.Steps.{cuts_in};
 ghost use Rattle.asm_thumb.specs.Transfers as transfers;
 ghost use Rattle.asm_thumb.specs.declared.frames.Frame.TheVariants as frame;
 
-use crate::frames::{Frame, Said, with_value, with_zero};
+use crate::frames::{Frame, ParsedOperation, with_value, with_zero};
 use crate::operands::{is_pc, is_sp};
 use asm_arm::operands::{
     Cut, between, cut_operands, register, three_registers, two_registers, without_first,
 };
+use asm_expr::or_kind;
 use asm_model::{Register, ThumbLine, Token, What};
 use sdt_fault::NoMemory;
 use sdt_fault::kinds::LineKind;
@@ -84,10 +86,8 @@ fn based(
     ensures { IfOk result (λ frame. frame
         ≡ transfers.based text.now word.load word.width rd.now rn.now) }
 {
-    match two_registers(alloc, text, rd, rn)? {
-        Ok((rd, rn)) => Ok(Ok(number_frame(word, rd, rn))),
-        Err(kind) => Ok(Err(kind)),
-    }
+    let (rd, rn) = or_kind!(two_registers(alloc, text, rd, rn)?);
+    Ok(Ok(number_frame(word, rd, rn)))
 }
 
 /// A transfer of half-words without a sign.
@@ -137,7 +137,7 @@ fn any_offset(
     rd: &[Token],
     rn: &[Token],
     offset: &[Token],
-) -> Said
+) -> ParsedOperation
     ensures { IfOk result
         (λ said. transfers.ReadsOffset text.now word.load word.width rd.now rn.now offset.now
         (arm_operands.without_first text.now arm.hash offset.now) said) }
@@ -146,10 +146,8 @@ fn any_offset(
         let frame = based(alloc, text, word, rd, rn)?;
         return with_value(alloc, text, frame, number);
     }
-    match three_registers(alloc, text, rd, rn, offset)? {
-        Ok(((rd, rn), ro)) => Ok(Ok(register_line(word, rd, rn, ro))),
-        Err(kind) => Ok(Err(kind)),
-    }
+    let ((rd, rn), ro) = or_kind!(three_registers(alloc, text, rd, rn, offset)?);
+    Ok(Ok(register_line(word, rd, rn, ro)))
 }
 
 /// The operands in brackets.
@@ -163,7 +161,13 @@ fn bracketed<'a>(text: &[u8], tokens: &'a [Token]) -> Option<Cut<'a>>
 }
 
 /// A transfer with an address in brackets.
-fn in_brackets(alloc: Global, text: &[u8], word: Transfer, rd: &[Token], tokens: &[Token]) -> Said
+fn in_brackets(
+    alloc: Global,
+    text: &[u8],
+    word: Transfer,
+    rd: &[Token],
+    tokens: &[Token],
+) -> ParsedOperation
     ensures { IfOk result
         (λ said. transfers.ReadsBracketed text.now word.load word.width rd.now
         (transfers.bracketed text.now tokens.now) said) }
@@ -177,26 +181,50 @@ fn in_brackets(alloc: Global, text: &[u8], word: Transfer, rd: &[Token], tokens:
 
 /// A number that is loaded.
 fn constant_frame(rd: Result<Register, LineKind>) -> Result<Frame, LineKind>
-    ensures { result ≡ says.mapped (λ rd. frame.Constant rd) rd }
+    ensures { result ≡ readings.mapped (λ rd. frame.Constant rd) rd }
 {
-    match rd {
-        Ok(rd) => Ok(Frame::Constant { rd }),
-        Err(kind) => Err(kind),
-    }
+    let rd = rd?;
+    Ok(Frame::Constant { rd })
+}
+
+/// Rd and a number that is loaded.
+fn constant(alloc: Global, text: &[u8], rd: &[Token], number: &[Token]) -> ParsedOperation
+    ensures { IfOk result
+        (λ said. frames.ReadsWith text.now
+        (readings.mapped (λ rd. frame.Constant rd) (arm_operands.register text.now rd.now)) number.now
+        said) }
+{
+    let rd = register(alloc, text, rd)?;
+    with_value(alloc, text, constant_frame(rd), number)
 }
 
 /// A label that is loaded.
 fn label_frame(rd: Result<Register, LineKind>) -> Result<Frame, LineKind>
-    ensures { result ≡ says.mapped (λ rd. frame.Label rd) rd }
+    ensures { result ≡ readings.mapped (λ rd. frame.Label rd) rd }
 {
-    match rd {
-        Ok(rd) => Ok(Frame::Label { rd }),
-        Err(kind) => Err(kind),
-    }
+    let rd = rd?;
+    Ok(Frame::Label { rd })
+}
+
+/// Rd and a label that is loaded.
+fn label(alloc: Global, text: &[u8], rd: &[Token], tokens: &[Token]) -> ParsedOperation
+    ensures { IfOk result
+        (λ said. frames.ReadsWith text.now
+        (readings.mapped (λ rd. frame.Label rd) (arm_operands.register text.now rd.now)) tokens.now
+        said) }
+{
+    let rd = register(alloc, text, rd)?;
+    with_value(alloc, text, label_frame(rd), tokens)
 }
 
 /// A transfer whose second operand isn't in brackets.
-fn loaded(alloc: Global, text: &[u8], word: Transfer, rd: &[Token], tokens: &[Token]) -> Said
+fn loaded(
+    alloc: Global,
+    text: &[u8],
+    word: Transfer,
+    rd: &[Token],
+    tokens: &[Token],
+) -> ParsedOperation
     ensures { IfOk result
         (λ said. transfers.ReadsLoaded text.now
         (word.load && transfers.is_word word.width) rd.now tokens.now
@@ -208,15 +236,14 @@ fn loaded(alloc: Global, text: &[u8], word: Transfer, rd: &[Token], tokens: &[To
     if !is_word(word.width) {
         return Ok(Err(LineKind::Syntax));
     }
-    let rd = register(alloc, text, rd)?;
     match without_first(text, b"=", tokens) {
-        Some(number) => with_value(alloc, text, constant_frame(rd), number),
-        None => with_value(alloc, text, label_frame(rd), tokens),
+        Some(number) => constant(alloc, text, rd, number),
+        None => label(alloc, text, rd, tokens),
     }
 }
 
 /// LDR and STR, with B and H.
-pub fn transferred(alloc: Global, text: &[u8], word: Transfer, cut: Cut<'_>) -> Said
+pub fn transferred(alloc: Global, text: &[u8], word: Transfer, cut: Cut<'_>) -> ParsedOperation
     ensures { IfOk result
         (λ said. transfers.ReadsTransfer text.now word.load word.width (cut_of cut.entry) said) }
 {
@@ -236,26 +263,26 @@ fn signed_inside(
     kind: SignedTransfer,
     rd: &[Token],
     address: Option<Cut<'_>>,
-) -> Said
+) -> ParsedOperation
     ensures { IfOk result (λ said. said
         ≡ transfers.signed_inside text.now kind rd.now (cuts_in address.entry)) }
 {
     match address {
-        Some(Cut::Two(rn, ro)) => match three_registers(alloc, text, rd, rn, ro)? {
-            Ok(((rd, rn), ro)) => Ok(Ok(What::Thumb(ThumbLine::TransferSigned {
-                kind,
-                rd,
-                rn,
-                ro,
-            }))),
-            Err(fault) => Ok(Err(fault)),
-        },
+        Some(Cut::Two(rn, ro)) => {
+            let ((rd, rn), ro) = or_kind!(three_registers(alloc, text, rd, rn, ro)?);
+            Ok(Ok(What::Thumb(ThumbLine::TransferSigned { kind, rd, rn, ro })))
+        }
         _ => Ok(Err(LineKind::Syntax)),
     }
 }
 
 /// LDRSB and LDRSH.
-pub fn signed_transfer(alloc: Global, text: &[u8], kind: SignedTransfer, cut: Cut<'_>) -> Said
+pub fn signed_transfer(
+    alloc: Global,
+    text: &[u8],
+    kind: SignedTransfer,
+    cut: Cut<'_>,
+) -> ParsedOperation
     ensures { IfOk result (λ said. said
         ≡ transfers.signed_transfer text.now kind (cut_of cut.entry)) }
 {

@@ -2,12 +2,12 @@
 use Rattle.std.proofs.Common.{◌≡◌, ◌≤◌, ◌-◌, List, [], ◌∷◌, ◌++◌, length, take, drop, get_or, refl, sym, ap, ◌∙◌, subst, append_assoc}
 use Rattle.std.specs.Prelude.{Result, Ok, Err}
 use Rattle.sdt_fault.specs.declared.kinds.LineKind.{LineKind}
-use Rattle.asm_model.specs.Says.{on_both, mapped}
 use Rattle.asm_model.specs.declared.exprs.Expr.{Expr}
-use Rattle.said_model.specs.Said.{AllRead}
+use Rattle.asm_model.specs.Readings.{mapped, on_both}
+use Rattle.asm_model.specs.Said.{AllRead}
 use Rattle.source_model.specs.Units.{Emitted}
 use Rattle.asm_units.specs.Emitting.{with_next}
-use Rattle.asm_model.proofs.FaultLemmas.{earlier_assoc}
+use Rattle.asm_model.proofs.KindLemmas.{earlier_assoc}
 use Rattle.base_lemmas.proofs.BaseLemmas.{rest_of as first_and_rest}
 
 -- units with others behind them
@@ -26,7 +26,8 @@ joined_next f (Err i) (Err j) (Ok rest) = refl
 joined_next f (Err i) (Err j) (Err k) = ap (λ (z : LineKind). Err z) (sym (earlier_assoc i j k))
 
 -- a unit more of those that are left
-unit_next : {A : Type 0} (f : A → Emitted) (us more : Result (List Emitted) LineKind) (u : Result Emitted LineKind) (a : Result A LineKind) (rest all : Result (List Emitted) LineKind)
+unit_next : {A : Type 0} (f : A → Emitted) (us more : Result (List Emitted) LineKind) (u : Result Emitted LineKind) (a : Result A LineKind)
+    (rest all : Result (List Emitted) LineKind)
     → more ≡ with_next us u → u ≡ mapped f a → joined us (on_both (λ x vs. f x ∷ vs) a rest) ≡ all → joined more rest ≡ all
 unit_next f us more u a rest all m e h = rw (m, e) (joined_next f us a rest ∙ h)
 

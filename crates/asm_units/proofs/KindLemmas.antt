@@ -14,9 +14,9 @@ use Rattle.asm_model.specs.declared.statements.What.TheVariants as what
 use Rattle.asm_model.specs.declared.values.Value.{Value}
 use Rattle.asm_model.specs.declared.values.Value.TheVariants.{Number, Truth, Words, Place}
 use Rattle.asm_model.specs.Kinds.{told_kind}
-use Rattle.asm_model.specs.Meaning.{named_in, stands_at, entry_value, value_of, on_both, binary}
-use Rattle.asm_model.specs.Says.{mapped}
+use Rattle.asm_model.specs.Meaning.{named_in, stands_at, entry_value, value_of, binary}
 use Rattle.asm_model.specs.LayoutKinds.{fault_kinds}
+use Rattle.asm_model.specs.Readings.{mapped, then_both}
 use Rattle.asm_model.specs.Symbols.{literal_value}
 use Rattle.source_model.specs.Contexts.{Context, sees}
 use Rattle.source_model.specs.ValueKinds.{lies_within, kinds_unless, exported_kinds, export_kinds, assert_kinds, directive_kinds, statement_kinds}
@@ -33,7 +33,7 @@ fault_mapped f (Err k) = refl
 
 -- ---- literals
 
-value_moved : (names : Names) (r : Result Value LineKind) (n : ℕ) → on_both r (Ok (Number n)) (binary names Add) ≡ moved r n
+value_moved : (names : Names) (r : Result Value LineKind) (n : ℕ) → then_both r (Ok (Number n)) (binary names Add) ≡ moved r n
 value_moved names (Ok (Number m)) n = refl
 value_moved names (Ok (Truth t)) n = refl
 value_moved names (Ok (Words w)) n = refl
@@ -52,7 +52,8 @@ literal_alike s t same (Words w) = refl
 
 -- ---- EXPORT and KEEP
 
-module _ (x : LineTables) (c : Context) (data_names : List (List ℕ)) (sizes : ℕ → ℕ) (s : Names) (word : Option ℕ) (w : What) (h : ShowsTables x c data_names sizes s word w) where
+module _ (x : LineTables) (c : Context) (data_names : List (List ℕ)) (sizes : ℕ → ℕ) (s : Names) (word : Option ℕ) (w : What)
+    (h : ShowsTables x c data_names sizes s word w) where
   lies_shown : (p : Option (ℕ × ℕ)) (n : ℕ) → ((area o : ℕ) → p ≡ Some (area, o) → area < length x.sizes.now)
       → lies_within (sizes_of x) p n ≡ lies_within sizes p n
   lies_shown None n within = refl
@@ -72,7 +73,8 @@ module _ (x : LineTables) (c : Context) (data_names : List (List ℕ)) (sizes : 
   entry_shown None = refl
   entry_shown (Some n) = value_shown (entry_value n)
 
-  export_shown : (name : List ℕ) → export_kinds (context_of x.lookup) (sizes_of x) (named_in name x.lookup.names.now) ≡ export_kinds c sizes (named_in name c.names)
+  export_shown : (name : List ℕ) → export_kinds (context_of x.lookup) (sizes_of x) (named_in name x.lookup.names.now) ≡ export_kinds c sizes
+      (named_in name c.names)
   export_shown name =
       entry_shown (named_in name x.lookup.names.now) ∙ ap (λ names. export_kinds c sizes (named_in name names)) (sym h.lookup.names)
 

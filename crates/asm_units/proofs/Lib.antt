@@ -1,3 +1,4 @@
+mod ByteLemmas
 pub mod JoinLemmas
 pub mod KindLemmas
 pub mod ShowLemmas

@@ -1,23 +1,22 @@
 -- What lines need is found by the entries of their names.
-use Rattle.std.proofs.Common.{◌≡◌, ℕ, List, [], ◌∷◌, ◌++◌, Option, refl, sym, ap, ◌∙◌}
+use Rattle.std.proofs.Common.{◌≡◌, ℕ, List, [], ◌∷◌, ◌++◌, Option, Some, None, refl, sym, ap, ◌∙◌}
 use Rattle.std.specs.Prelude.{Result, Ok, Err, OnOk}
 use Rattle.sdt_fault.specs.declared.kinds.LineKind.{LineKind}
-use Rattle.asm_model.specs.declared.arm_lines.ArmLine.{ArmLine}
-use Rattle.asm_model.specs.declared.arm_lines.ArmLine.TheVariants as arm
 use Rattle.asm_model.specs.declared.directives.DirectiveLine.{DirectiveLine}
 use Rattle.asm_model.specs.declared.directives.DirectiveLine.TheVariants as line
+use Rattle.asm_model.specs.declared.directives.Held.{Held}
+use Rattle.asm_model.specs.declared.directives.Held.TheVariants as held
 use Rattle.asm_model.specs.declared.exprs.Expr.{Expr}
 use Rattle.asm_model.specs.declared.statements.What.{What}
 use Rattle.asm_model.specs.declared.statements.What.TheVariants as what
-use Rattle.asm_model.specs.declared.thumb_lines.ThumbLine.{ThumbLine}
-use Rattle.asm_model.specs.declared.thumb_lines.ThumbLine.TheVariants as thumb
 use Rattle.asm_model.specs.declared.values.Value.{Value}
 use Rattle.asm_model.specs.declared.values.Value.TheVariants.{Number, Truth, Words, Place}
 use Rattle.asm_model.specs.AtLine.{SourceLine}
+use Rattle.asm_model.specs.DataItems.{held_by}
 use Rattle.asm_model.specs.Extents.{Extent, Block, Padding, Loading, Pool}
-use Rattle.asm_model.specs.Symbols.{unless_placed, word_symbols, words_symbols, branch_symbols, arm_symbols, thumb_symbols, literal_value, literal_symbols, directive_symbols, symbols_in, listed_behind}
+use Rattle.asm_model.specs.Symbols.{unless_placed, word_symbols, words_symbols, branch_symbols, target_symbols, arm_target, thumb_target, arm_symbols, thumb_symbols, held_symbols, literal_value, literal_symbols, directive_symbols, symbols_in, listed_behind}
 use Rattle.source_model.specs.Contexts.{Context, sees, value_of}
-use Rattle.asm_names.specs.Lines.{line_of, Sees}
+use Rattle.asm_names.specs.PlacedLines.{line_of, Sees}
 use Rattle.asm_instructions.specs.declared.lookups.Lookup.{Lookup}
 use Rattle.asm_instructions.specs.Lookups.{context_of}
 use Rattle.asm_instructions.proofs.AlikeLemmas.{stands_alike}
@@ -49,20 +48,17 @@ module _ (a b : Context) (s : Alike a b) where
   branch_alike (Ok (Words w)) = refl
   branch_alike (Err k) = refl
 
-  target_alike : (e : Expr) → branch_symbols (sees a) (value_of a e) ≡ branch_symbols (sees b) (value_of b e)
-  target_alike e = ap (branch_symbols (sees a)) (s.value e) ∙ branch_alike (value_of b e)
+  target_alike : (o : Option Expr) → target_symbols a.names a.line o ≡ target_symbols b.names b.line o
+  target_alike None = refl
+  target_alike (Some e) = ap (branch_symbols (sees a)) (s.value e) ∙ branch_alike (value_of b e)
 
-  arm_alike : (l : ArmLine) → arm_symbols a.names a.line l ≡ arm_symbols b.names b.line l
-  arm_alike (arm.Branch condition link e) = target_alike e
-  arm_alike _ = refl
-
-  thumb_alike : (l : ThumbLine) → thumb_symbols a.names a.line l ≡ thumb_symbols b.names b.line l
-  thumb_alike (thumb.BranchLink e) = target_alike e
-  thumb_alike _ = refl
+  held_alike : (h : Held) (es : List Expr) → held_symbols a.names a.line h es ≡ held_symbols b.names b.line h es
+  held_alike held.Relocatable es = words_alike es
+  held_alike (held.Fixed width) es = refl
+  held_alike held.Strings es = refl
 
   directive_alike : (l : DirectiveLine) → directive_symbols a.names a.line l ≡ directive_symbols b.names b.line l
-  directive_alike (line.Dcd es) = words_alike es
-  directive_alike (line.Dcdu es) = words_alike es
+  directive_alike (line.Constants item es) = held_alike (held_by item) es
   directive_alike _ = refl
 
   literal_there : (e : Extent) → loaded_symbols (sees a) (literal_in e) ≡ literal_symbols b.names b.line e
@@ -73,8 +69,8 @@ module _ (a b : Context) (s : Alike a b) where
 
   statement_there : (e : Extent) (w : What) → statement_symbols a.names a.line (literal_in e) w ≡ symbols_in b.names b.line e w
   statement_there e what.Nothing = refl
-  statement_there e (what.Arm l) = arm_alike l
-  statement_there e (what.Thumb l) = thumb_alike l
+  statement_there e (what.Arm l) = target_alike (arm_target l)
+  statement_there e (what.Thumb l) = target_alike (thumb_target l)
   statement_there e (what.Pseudo p) = literal_there e
   statement_there e (what.Directive l) = directive_alike l
 

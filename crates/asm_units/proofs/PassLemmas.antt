@@ -34,7 +34,8 @@ loaded_kinds c data_names (Padding m n) v e = absurd (cc)
 loaded_kinds c data_names Pool v e = absurd (cc)
 
 -- the tables of a line show a context's names
-pub names_shown : (x : LineTables) (c : Context) (data_names : List (List ℕ)) (sizes : ℕ → ℕ) (s : Names) (word : Option ℕ) (w : What) → ShowsTables x c data_names sizes s word w
+pub names_shown : (x : LineTables) (c : Context) (data_names : List (List ℕ)) (sizes : ℕ → ℕ) (s : Names) (word : Option ℕ) (w : What)
+    → ShowsTables x c data_names sizes s word w
     → ShowsNames x.lookup.names.now x.data.now x.lookup.line.now.place.area c data_names
 names_shown x c data_names sizes s word w h = record { names = h.lookup.names; area = sym h.lookup.line.area; labels = h.labels }
 
@@ -54,7 +55,8 @@ module _ (c : Context) (data_names : List (List ℕ)) (sizes : ℕ → ℕ) (s :
       ∙ ap told_kind (sym (append_assoc own literals statements))
 
   pub passed : (r : Result LineUnits LineKind) → AreJoined us both number r → both ≡ first_told loads said → all_emitted us ≡ units c data_names s word w
-      → loads ≡ told_kind (literal_kinds c data_names e) → said ≡ told_kind (statement_kinds c sizes w) → IsNumber c w number → IsPassTwo c data_names sizes s e word w r
+      → loads ≡ told_kind (literal_kinds c data_names e) → said ≡ told_kind (statement_kinds c sizes w) → IsNumber c w number
+      → IsPassTwo c data_names sizes s e word w r
   passed (Ok u) h joins puts literal tells is = record {
     faultless = sym (told_all joins puts literal tells) ∙ rw (h.0, h.1) refl;
     all = sym puts ∙ ap all_emitted h.0;

@@ -6,27 +6,30 @@ use Rattle.std.specs.Global.{Vec}
 use Rattle.sdt_fault.specs.declared.kinds.LineKind.{LineKind}
 use Rattle.asm_model.specs.declared.exprs.Expr.{Expr}
 use Rattle.asm_model.specs.declared.directives.DirectiveLine.{DirectiveLine}
-use Rattle.asm_model.specs.declared.directives.DirectiveLine.TheVariants as line
+use Rattle.asm_model.specs.declared.directives.Held.{Held}
+use Rattle.asm_model.specs.declared.directives.Held.TheVariants as held
 use Rattle.asm_model.specs.declared.statements.What.TheVariants as what
 use Rattle.asm_model.specs.declared.values.Value.{Value}
 use Rattle.asm_model.specs.declared.values.Value.TheVariants.{Number, Truth, Words, Place}
 use Rattle.asm_model.specs.declared.names.Names.{Names}
 use Rattle.asm_model.specs.Forms.{same}
 use Rattle.asm_model.specs.Meaning.{named_in, stands_at}
-use Rattle.asm_model.specs.Says.{on_both}
 use Rattle.asm_model.specs.Entries.{thumb_of}
 use Rattle.asm_model.specs.Extents.{value_there}
+use Rattle.asm_model.specs.DataItems.{held_by}
 use Rattle.asm_model.specs.Marks.{counts_one}
+use Rattle.asm_model.specs.Occupied.{Occupied, Unplaced, Opening, Marking, Entering, Items, Zeroes, UpTo, Literals, occupied}
+use Rattle.asm_model.specs.Readings.{on_both}
 use Rattle.source_model.specs.Contexts.{Context, sees, value_of}
-use Rattle.source_model.specs.Units.{Emitted, Bytes, Stored, placed, stored, word_units, half_units, byte_operand, byte_units, directive_units}
+use Rattle.source_model.specs.Units.{Emitted, Bytes, Stored, placed, stored, word_units, number_units, byte_operand, byte_units, held_units, occupied_units, directive_units}
 use Rattle.asm_instructions.specs.Lookups.{context_of}
 use Rattle.asm_instructions.proofs.AlikeLemmas.{number_alike, stands_alike}
 use Rattle.asm_instructions.proofs.ContextLemmas.{Alike, shown_alike}
-use Rattle.asm_laying.specs.Reading.{is_words, marks, string_marks}
+use Rattle.asm_laying.specs.Reading.{is_words, marks, held_marks, occupied_marks, string_marks}
 use Rattle.asm_units.specs.declared.tables.LineTables.{LineTables}
 use Rattle.asm_units.specs.declared.emitted.Emitted.{Emitted as Code}
 use Rattle.asm_units.specs.Emitting.{all_emitted}
-use Rattle.asm_units.specs.Marked.{marked_operand, marked_units, marked_directive}
+use Rattle.asm_units.specs.Marked.{marked_operand, marked_units, marked_held, marked_occupied, marked_directive}
 use Rattle.asm_units.specs.Showing.{ShowsTables}
 
 -- ---- contexts that find the same
@@ -54,21 +57,23 @@ module _ (a b : Context) (s : Alike a b) where
     words_alike [] = refl
     words_alike (e ∷ rest) = rw (s.value e, stored_alike (value_of b e), words_alike rest) refl
 
-    halves_alike : (es' : List Expr) → half_units a es' ≡ half_units b es'
-    halves_alike [] = refl
-    halves_alike (e ∷ rest) = rw (number_alike a b s e, halves_alike rest) refl
+    numbers_alike : (width : ℕ) (es' : List Expr) → number_units a width es' ≡ number_units b width es'
+    numbers_alike width [] = refl
+    numbers_alike width (e ∷ rest) = rw (number_alike a b s e, numbers_alike width rest) refl
 
     marked_alike : (ms : List Bool) (es' : List Expr) → marked_units a ms es' ≡ marked_units b ms es'
     marked_alike ms [] = refl
     marked_alike [] (e ∷ rest) = rw (s.value e, marked_alike [] rest) refl
     marked_alike (m ∷ ms) (e ∷ rest) = rw (s.value e, marked_alike ms rest) refl
 
-    pub directive_alike : (ms : List Bool) (l : DirectiveLine) → marked_directive a ds ms l ≡ marked_directive b es ms l
-    directive_alike ms (line.Dcd vs) = words_alike vs
-    directive_alike ms (line.Dcdu vs) = words_alike vs
-    directive_alike ms (line.Dcw vs) = halves_alike vs
-    directive_alike ms (line.Dcb vs) = marked_alike ms vs
-    directive_alike ms _ = refl
+    held_alike : (ms : List Bool) (h : Held) (vs : List Expr) → marked_held a ds ms h vs ≡ marked_held b es ms h vs
+    held_alike ms held.Relocatable vs = words_alike vs
+    held_alike ms (held.Fixed width) vs = numbers_alike width vs
+    held_alike ms held.Strings vs = marked_alike ms vs
+
+    pub occupied_alike : (ms : List Bool) (o : Occupied) → marked_occupied a ds ms o ≡ marked_occupied b es ms o
+    occupied_alike ms (Items item vs) = held_alike ms (held_by item) vs
+    occupied_alike ms _ = refl
 
 -- ---- strings that are known where their line is laid
 
@@ -111,18 +116,25 @@ module _ (c : Context) (s : Names) (known : (e : Expr) (v : Value) → value_the
       ap (λ t. on_both (λ b us. Bytes b ∷ us) t (marked_units c (marks s es) es)) (operand_marked e (value_there s e) refl)
       ∙ ap (on_both (λ b us. Bytes b ∷ us) (byte_operand (value_there s e) (value_of c e))) (bytes_marked es)
 
-  directive_marked : (data_names : List (List ℕ)) (ms : List Bool) (l : DirectiveLine) → ms ≡ string_marks s (what.Directive l)
-      → marked_directive c data_names ms l ≡ directive_units c data_names s l
-  directive_marked ds ms (line.Dcb es) e = rw e (bytes_marked es)
-  directive_marked ds ms _ e = refl
+  held_marked : (data_names : List (List ℕ)) (ms : List Bool) (h : Held) (es : List Expr) → ms ≡ held_marks s h es
+      → marked_held c data_names ms h es ≡ held_units c data_names s h es
+  held_marked ds ms held.Relocatable es e = refl
+  held_marked ds ms (held.Fixed width) es e = refl
+  held_marked ds ms held.Strings es e = rw e (bytes_marked es)
 
-directive_shown : (x : LineTables) (l : DirectiveLine) (us : Result (List Emitted) LineKind) (c : Context) (data_names : List (List ℕ)) (sizes : ℕ → ℕ) (s : Names) (word : Option ℕ)
+  occupied_marked : (data_names : List (List ℕ)) (ms : List Bool) (o : Occupied) → ms ≡ occupied_marks s o
+      → marked_occupied c data_names ms o ≡ occupied_units c data_names s o
+  occupied_marked ds ms (Items item es) e = held_marked ds ms (held_by item) es e
+  occupied_marked ds ms _ e = refl
+
+directive_shown : (x : LineTables) (l : DirectiveLine) (us : Result (List Emitted) LineKind) (c : Context) (data_names : List (List ℕ)) (sizes : ℕ → ℕ)
+    (s : Names) (word : Option ℕ)
     → us ≡ marked_directive (context_of x.lookup) x.data.now x.strings.now l
     → ShowsTables x c data_names sizes s word (what.Directive l) → us ≡ directive_units c data_names s l
 directive_shown x l us c data_names sizes s word e h =
     e
-    ∙ directive_alike (context_of x.lookup) c (shown_alike x.lookup c h.lookup) x.data.now data_names h.labels x.strings.now l
-    ∙ directive_marked c s h.known data_names x.strings.now l h.strings
+    ∙ occupied_alike (context_of x.lookup) c (shown_alike x.lookup c h.lookup) x.data.now data_names h.labels x.strings.now (occupied l)
+    ∙ occupied_marked c s h.known data_names x.strings.now (occupied l) h.strings
 
 pub directive_answered : {E : Type 0} (x : LineTables) (l : DirectiveLine) (r : Result (Result (Vec Code) LineKind) E)
     → IfOk r (λ us. all_emitted us ≡ marked_directive (context_of x.lookup) x.data.now x.strings.now l)

@@ -2,15 +2,15 @@
 use Rattle.std.specs.Prelude.{List, [], ◌∷◌, ◌++◌, map, Result}
 use Rattle.std.specs.Global.{Vec}
 use Rattle.sdt_fault.specs.declared.kinds.LineKind.{LineKind}
-use Rattle.asm_model.specs.Says.{on_both, mapped}
-use Rattle.source_model.specs.Units.{Target, Nothing, ByArea, BySymbol, Stored, Emitted, Bytes, Word, Instruction, Half, LinkPair}
-use Rattle.asm_units.specs.declared.emitted.Target.{Target as TargetCode}
-use Rattle.asm_units.specs.declared.emitted.Target.TheVariants as target
+use Rattle.asm_model.specs.Readings.{mapped, on_both}
+use Rattle.source_model.specs.Units.{RelocationTarget, Nothing, ByArea, BySymbol, Stored, Emitted, Bytes, Word, Instruction, Half, LinkPair}
+use Rattle.asm_units.specs.declared.emitted.RelocationTarget.{RelocationTarget as TargetCode}
+use Rattle.asm_units.specs.declared.emitted.RelocationTarget.TheVariants as target
 use Rattle.asm_units.specs.declared.emitted.Stored.{Stored as StoredCode}
 use Rattle.asm_units.specs.declared.emitted.Emitted.{Emitted as Code}
 use Rattle.asm_units.specs.declared.emitted.Emitted.TheVariants as code
 
-abbrev pub target_of : TargetCode → Target
+abbrev pub target_of : TargetCode → RelocationTarget
 target_of target.Nothing = Nothing
 target_of (target.Area n) = ByArea n
 target_of (target.Symbol s) = BySymbol s

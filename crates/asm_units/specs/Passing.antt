@@ -25,7 +25,8 @@ IsNumber c (what.Directive (line.Rn (rn.Number e))) x = x ≡ number_in c e
 IsNumber c _ x = Unit {0}
 
 -- a line whose values have no fault puts this
-pub record PutsUnits (c : Context) (data_names : List (List ℕ)) (sizes : ℕ → ℕ) (s : Names) (e : Extent) (word : Option ℕ) (w : What) (u : LineUnits) : Type 0 where
+pub record PutsUnits (c : Context) (data_names : List (List ℕ)) (sizes : ℕ → ℕ) (s : Names) (e : Extent) (word : Option ℕ) (w : What)
+    (u : LineUnits) : Type 0 where
   pub faultless : told_kind (value_kinds c data_names sizes s e word w) ≡ None
   pub all : units c data_names s word w ≡ Ok (map emitted_of u.units.items)
   pub number : IsNumber c w u.number

@@ -15,14 +15,16 @@ use Rattle.asm_laying.specs.Reading.{string_marks}
 use Rattle.asm_units.specs.declared.tables.LineTables.{LineTables}
 
 -- a context has these names, and its line is of this area; these labels of a source are data
-pub record ShowsNames (all : List LaidName) (marked : List (List ℕ)) (own : Option ℕ) (c : Context) (data_names : List (List ℕ)) : Type 0 where
+pub record ShowsNames (all : List LaidName) (marked : List (List ℕ)) (own : Option ℕ) (c : Context) (data_names : List (List ℕ)) : Type
+    0 where
   pub names : c.names ≡ all
   pub area : c.line.area ≡ own
   pub labels : HaveSame marked data_names
 
 -- the tables of a line show what a context says, with these labels that are data, these sizes of areas, what
 -- the line sees, and the offset of its literal's word
-pub record ShowsTables (x : LineTables) (c : Context) (data_names : List (List ℕ)) (sizes : ℕ → ℕ) (s : Names) (word : Option ℕ) (w : What) : Type 0 where
+pub record ShowsTables (x : LineTables) (c : Context) (data_names : List (List ℕ)) (sizes : ℕ → ℕ) (s : Names) (word : Option ℕ)
+    (w : What) : Type 0 where
   pub lookup : Shows x.lookup c
   pub labels : HaveSame x.data.now data_names
   pub measured : (area n : ℕ) → slice_get x.sizes.now area ≡ Some n → n ≡ sizes area

@@ -1,11 +1,11 @@
-//! Half-words and bytes.
+//! Numbers of some bytes, and strings.
 
-ghost use Rattle.std.specs.Prelude.{◌≡◌, ◌%◌, ◌^◌, Ok, Err, IfOk, if◌then◌else◌};
+ghost use Rattle.std.specs.Prelude.{◌≡◌, ◌-◌, ◌*◌, ◌%◌, ◌^◌, ◌||◌, nat_le, nat_lt, Ok, Err, IfOk, if◌then◌else◌};
 ghost use Rattle.sdt_word.specs.Bytes.{bytes_of};
-ghost use Rattle.asm_model.specs.Says.{mapped};
 ghost use Rattle.sdt_fault.specs.declared.kinds.LineKind.TheVariants.{Forward};
-ghost use Rattle.said_model.specs.Said.{AllRead, IsRead};
-ghost use Rattle.source_model.specs.Contexts.{and_then, number_in, value_of};
+ghost use Rattle.asm_model.specs.Readings.{and_then, mapped};
+ghost use Rattle.asm_model.specs.Said.{AllRead, IsRead};
+ghost use Rattle.source_model.specs.Contexts.{number_in, value_of};
 ghost use Rattle.source_model.specs.Units as units;
 ghost use Rattle.asm_instructions.specs.Lookups.{context_of};
 ghost use Rattle.asm_units.specs.Emitting.{all_emitted, emitted_of};
@@ -18,93 +18,85 @@ use asm_instructions::values::{number_there, value_there};
 use asm_model::{Expr, Value};
 use sdt_fault::kinds::LineKind;
 use sdt_fault::{Bytes, NoMemory};
-use sdt_word::push_half;
 use std::alloc::Global;
 
-/// A number as one byte.
-fn one_byte(alloc: Global, number: u32) -> Result<Result<Bytes, LineKind>, NoMemory>
-    ensures { IfOk result (λ b. b ≡ units.narrow 1 number) }
+/// Whether a number fits so many bytes, signed or unsigned.
+fn fits(width: u8, number: u32) -> bool
+    ensures { result ≡ (nat_lt number (2 ^ (8 * width))
+        || nat_le (2 ^ 32 - 2 ^ (8 * width - 1)) number) }
 {
-    if number < 0x100 {
-        let bytes = low_byte(alloc, number)?;
-        return Ok(Ok(bytes));
+    match width {
+        0 => number == 0 || number == 0xFFFF_FFFF,
+        1 => number < 0x100 || number >= 0xFFFF_FF80,
+        2 => number < 0x1_0000 || number >= 0xFFFF_8000,
+        3 => number < 0x100_0000 || number >= 0xFF80_0000,
+        _ => true,
     }
-    if number >= 0xFFFF_FF80 {
-        let bytes = low_byte(alloc, number)?;
-        return Ok(Ok(bytes));
-    }
-    Ok(Err(LineKind::OutOfRange))
 }
 
-/// The lowest byte of a number.
-fn low_byte(alloc: Global, number: u32) -> Result<Bytes, NoMemory>
-    ensures { IfOk result (λ b. b ≡ bytes_of (number % 2 ^ 8) 1) }
+/// The lowest bytes of a number, so many.
+fn low_bytes(alloc: Global, width: u8, number: u32) -> Result<Bytes, NoMemory>
+    ensures { IfOk result (λ b. b ≡ bytes_of (number % 2 ^ (8 * width)) width) }
 {
     let mut bytes = Vec::new(alloc);
-    bytes.push((number % 0x100) as u8)?;
+    let mut left = number;
+    for _at in 0..width {
+        bytes.push((left % 0x100) as u8)?;
+        left /= 0x100;
+    }
     Ok(Bytes::from_vec(bytes))
 }
 
-/// The lowest half-word of a number.
-fn low_half(alloc: Global, number: u32) -> Result<Bytes, NoMemory>
-    ensures { IfOk result (λ b. b ≡ bytes_of (number % 2 ^ 16) 2) }
+/// A number in so many bytes.
+fn narrow(alloc: Global, width: u8, number: u32) -> Result<Result<Bytes, LineKind>, NoMemory>
+    ensures { IfOk result (λ b. b ≡ units.narrow width number) }
 {
-    let mut bytes = Vec::new(alloc);
-    push_half(&mut bytes, (number % 0x1_0000) as u16)?;
-    Ok(Bytes::from_vec(bytes))
+    if !fits(width, number) {
+        return Ok(Err(LineKind::OutOfRange));
+    }
+    let bytes = low_bytes(alloc, width, number)?;
+    Ok(Ok(bytes))
 }
 
-/// A number as one half-word.
-fn one_half(alloc: Global, number: u32) -> Result<Result<Bytes, LineKind>, NoMemory>
-    ensures { IfOk result (λ b. b ≡ units.narrow 2 number) }
-{
-    if number < 0x1_0000 {
-        let bytes = low_half(alloc, number)?;
-        return Ok(Ok(bytes));
-    }
-    if number >= 0xFFFF_8000 {
-        let bytes = low_half(alloc, number)?;
-        return Ok(Ok(bytes));
-    }
-    Ok(Err(LineKind::OutOfRange))
-}
-
-fn half_of(
+fn number_of(
     alloc: Global,
+    width: u8,
     number: Result<u32, LineKind>,
 ) -> Result<Result<Bytes, LineKind>, NoMemory>
-    ensures { IfOk result (λ b. b ≡ and_then number (units.narrow 2)) }
+    ensures { IfOk result (λ b. b ≡ and_then number (units.narrow width)) }
 {
     match number {
-        Ok(number) => one_half(alloc, number),
+        Ok(number) => narrow(alloc, width, number),
         Err(kind) => Ok(Err(kind)),
     }
 }
 
-fn half(
+fn number(
     alloc: Global,
     tables: &LineTables<'_>,
+    width: u8,
     operand: &Expr,
 ) -> Result<Result<Emitted, LineKind>, NoMemory>
     requires { IsRead operand.now }
-    ensures { IfOk result (λ half. mapped emitted_of half
+    ensures { IfOk result (λ number. mapped emitted_of number
         ≡ mapped (λ b. units.Bytes b)
-        (and_then (number_in (context_of tables.now.lookup) operand.now) (units.narrow 2))) }
+        (and_then (number_in (context_of tables.now.lookup) operand.now) (units.narrow width))) }
 {
     let number = number_there(alloc, &tables.lookup, operand)?;
-    let bytes = half_of(alloc, number)?;
+    let bytes = number_of(alloc, width, number)?;
     Ok(bytes_unit(bytes))
 }
 
-/// The half-words of DCW.
-pub fn halves(
+/// Numbers of so many bytes each.
+pub fn numbers(
     alloc: Global,
     tables: &LineTables<'_>,
+    width: u8,
     operands: &[Expr],
 ) -> Result<Result<Vec<Emitted>, LineKind>, NoMemory>
     requires { AllRead operands.now }
     ensures { IfOk result (λ us. all_emitted us
-        ≡ units.half_units (context_of tables.now.lookup) operands.now) }
+        ≡ units.number_units (context_of tables.now.lookup) width operands.now) }
 {
     let mut so_far = Ok(Vec::new(alloc));
     let mut left = operands;
@@ -112,7 +104,7 @@ pub fn halves(
         match left {
             [] => return Ok(so_far),
             [operand, behind @ ..] => {
-                let next = half(alloc, tables, operand)?;
+                let next = number(alloc, tables, width, operand)?;
                 so_far = push_next(so_far, next)?;
                 left = behind;
             }
@@ -139,7 +131,7 @@ fn operand_of(
 {
     match value {
         Ok(Value::Words(words)) => Ok(string_of(mark, words)),
-        Ok(Value::Number(number)) => one_byte(alloc, number),
+        Ok(Value::Number(number)) => narrow(alloc, 1, number),
         Ok(_) => Ok(Err(LineKind::WrongType)),
         Err(kind) => Ok(Err(kind)),
     }

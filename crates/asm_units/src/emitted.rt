@@ -7,7 +7,7 @@ use thumb_isa::ThumbInstr;
 
 /// What a word is relocated by.
 #[derive(Debug, Drop)]
-pub enum Target {
+pub enum RelocationTarget {
     Nothing,
     /// An area of the source, counted from 0.
     Area(u32),
@@ -18,7 +18,7 @@ pub enum Target {
 #[derive(Debug, Drop)]
 pub struct Stored {
     pub number: u32,
-    pub target: Target,
+    pub target: RelocationTarget,
 }
 
 /// What a statement puts into its area, one behind the other; all else is zero.
@@ -27,7 +27,7 @@ pub enum Emitted {
     Bytes(Bytes),
     Word {
         number: u32,
-        target: Target,
+        target: RelocationTarget,
     },
     Instruction {
         instruction: ArmInstr,

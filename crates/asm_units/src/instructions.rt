@@ -1,8 +1,8 @@
 //! Instructions.
 
 ghost use Rattle.std.specs.Prelude.{◌≡◌, [], ◌∷◌, map, IfOk};
-ghost use Rattle.asm_model.specs.Says.{mapped};
-ghost use Rattle.said_model.specs.Said.{ArmSaid, PseudoSaid, ThumbSaid};
+ghost use Rattle.asm_model.specs.Readings.{mapped};
+ghost use Rattle.asm_model.specs.Said.{ArmSaid, PseudoSaid, ThumbSaid};
 ghost use Rattle.source_model.specs.ArmForms as forms;
 ghost use Rattle.source_model.specs.Contexts.{Context};
 ghost use Rattle.source_model.specs.PseudoForms as pseudo;

@@ -1,7 +1,7 @@
 //! Units one behind the other.
 
 ghost use Rattle.std.specs.Prelude.{◌≡◌, IfOk};
-ghost use Rattle.asm_model.specs.Says.{mapped};
+ghost use Rattle.asm_model.specs.Readings.{mapped};
 ghost use Rattle.source_model.specs.Units as units;
 ghost use Rattle.asm_units.specs.Emitting.{all_emitted, emitted_of, stored_of, with_next};
 

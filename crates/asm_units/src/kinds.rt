@@ -6,7 +6,7 @@ ghost use Rattle.asm_model.specs.Kinds.{told_kind};
 ghost use Rattle.asm_model.specs.Meaning.{named_in};
 ghost use Rattle.asm_model.specs.declared.statements.What.{What};
 ghost use Rattle.asm_model.specs.LayoutKinds.{fault_kinds};
-ghost use Rattle.said_model.specs.Said.{DirectiveSaid, WhatSaid};
+ghost use Rattle.asm_model.specs.Said.{DirectiveSaid, WhatSaid};
 ghost use Rattle.source_model.specs.Contexts.{Context};
 ghost use Rattle.source_model.specs.ValueKinds as model;
 ghost use Rattle.asm_instructions.specs.Lookups.{context_of};
@@ -127,7 +127,26 @@ fn directive_there(
             let value = value_there(alloc, &tables.lookup, condition)?;
             Ok(assert_kind(value))
         }
-        _ => Ok(None),
+        DirectiveLine::Area { .. }
+        | DirectiveLine::Entry
+        | DirectiveLine::End
+        | DirectiveLine::Import { .. }
+        | DirectiveLine::Extern { .. }
+        | DirectiveLine::Rn { .. }
+        | DirectiveLine::Rout
+        | DirectiveLine::Nofp
+        | DirectiveLine::Opt { .. }
+        | DirectiveLine::Ttl
+        | DirectiveLine::Subt
+        | DirectiveLine::Constants { .. }
+        | DirectiveLine::Space { .. }
+        | DirectiveLine::Align { .. }
+        | DirectiveLine::Ltorg
+        | DirectiveLine::Data
+        | DirectiveLine::Map { .. }
+        | DirectiveLine::Field { .. }
+        | DirectiveLine::Code16
+        | DirectiveLine::Code32 => Ok(None),
     }
 }
 
@@ -143,7 +162,7 @@ fn statement_there(
 {
     match what {
         What::Directive(line) => directive_there(alloc, tables, line),
-        _ => Ok(None),
+        What::Nothing | What::Arm(_) | What::Thumb(_) | What::Pseudo(_) => Ok(None),
     }
 }
 

@@ -2,8 +2,8 @@
 
 ghost use Rattle.std.specs.Prelude.{◌≡◌, ℕ, List, IfOk};
 ghost use Rattle.asm_model.specs.declared.names.Names.{Names};
-ghost use Rattle.asm_model.specs.Says.{mapped};
 ghost use Rattle.asm_model.specs.declared.values.Value.TheVariants.{Place};
+ghost use Rattle.asm_model.specs.Readings.{mapped};
 ghost use Rattle.asm_model.specs.Symbols as symbols;
 ghost use Rattle.source_model.specs.Contexts.{Context, sees};
 ghost use Rattle.source_model.specs.Units as units;
@@ -13,7 +13,7 @@ ghost use Rattle.asm_units.specs.Showing.{ShowsNames};
 
 use crate::emitted::Stored;
 use crate::named::value_named;
-use crate::words::stored;
+use crate::stored_words::stored;
 use asm_model::Value;
 use asm_names::KnownNames;
 use asm_sets::NameRefs;

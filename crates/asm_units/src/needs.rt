@@ -5,9 +5,9 @@ ghost use Rattle.std.specs.Option.{option_copied};
 ghost use Rattle.asm_model.specs.declared.values.Value.TheVariants as values;
 ghost use Rattle.asm_model.specs.Before.{with_name};
 ghost use Rattle.asm_model.specs.Symbols as model;
-ghost use Rattle.said_model.specs.Said.{AllRead, IsRead};
+ghost use Rattle.asm_model.specs.Said.{AllRead, IsRead};
 ghost use Rattle.source_model.specs.Contexts.{sees, value_of};
-ghost use Rattle.asm_names.specs.Lines.{line_of};
+ghost use Rattle.asm_names.specs.PlacedLines.{line_of};
 ghost use Rattle.asm_instructions.specs.Lookups.{context_of};
 ghost use Rattle.asm_units.specs.Listing.{loaded_symbols, one_symbol};
 

@@ -8,7 +8,7 @@ ghost use Rattle.asm_model.specs.Kinds.{told_kind};
 ghost use Rattle.asm_model.specs.Extents.{Extent};
 ghost use Rattle.asm_model.specs.LayoutKinds.{fault_kinds};
 ghost use Rattle.asm_model.specs.declared.statements.What.{What as Said};
-ghost use Rattle.said_model.specs.Said.{WhatSaid};
+ghost use Rattle.asm_model.specs.Said.{WhatSaid};
 ghost use Rattle.source_model.specs.Contexts.{Context};
 ghost use Rattle.source_model.specs.ValueKinds as model;
 ghost use Rattle.asm_instructions.specs.Lookups.{Shows};

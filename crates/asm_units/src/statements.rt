@@ -3,23 +3,66 @@
 ghost use Rattle.std.specs.Prelude.{◌≡◌, ℕ, List, Option, IfOk};
 ghost use Rattle.asm_model.specs.declared.names.Names.{Names};
 ghost use Rattle.asm_model.specs.declared.statements.What.TheVariants as kinds;
-ghost use Rattle.said_model.specs.Said.{DirectiveSaid, WhatSaid};
+ghost use Rattle.asm_model.specs.OccupiedCode.{occupied_of_code};
+ghost use Rattle.asm_model.specs.Said.{AllRead, DirectiveSaid, WhatSaid};
+ghost use Rattle.asm_model.specs.SaidParts.{OccupiedSaid};
 ghost use Rattle.source_model.specs.Contexts.{Context};
 ghost use Rattle.source_model.specs.Units as model;
 ghost use Rattle.asm_instructions.specs.Lookups.{context_of};
 ghost use Rattle.asm_units.specs.Emitting.{all_emitted};
-ghost use Rattle.asm_units.specs.Marked.{marked_directive};
+ghost use Rattle.asm_units.specs.Marked as marked;
 ghost use Rattle.asm_units.specs.Showing.{ShowsTables};
 
-use crate::bytes::{bytes, halves};
+use crate::bytes::{bytes, numbers};
 use crate::emitted::Emitted;
 use crate::instructions::{arm, pseudo, thumb};
+use crate::stored_words::words;
 use crate::tables::LineTables;
-use crate::words::words;
-use asm_model::{DirectiveLine, What};
+use asm_model::{DirectiveLine, Expr, Held, Occupied, What, held_by, occupied_by};
 use sdt_fault::NoMemory;
 use sdt_fault::kinds::LineKind;
 use std::alloc::Global;
+
+/// Values that are held so.
+fn held_units(
+    alloc: Global,
+    tables: &LineTables<'_>,
+    held: Held,
+    values: &[Expr],
+) -> Result<Result<Vec<Emitted>, LineKind>, NoMemory>
+    requires { AllRead values.now }
+    ensures { IfOk result (λ us. all_emitted us
+        ≡ marked.marked_held (context_of tables.now.lookup) tables.now.data.now
+        tables.now.strings.now held values.now) }
+{
+    match held {
+        Held::Relocatable => words(alloc, tables, values),
+        Held::Fixed(width) => numbers(alloc, tables, width, values),
+        Held::Strings => bytes(alloc, tables, values),
+    }
+}
+
+fn occupied_units(
+    alloc: Global,
+    tables: &LineTables<'_>,
+    occupied: Occupied<'_>,
+) -> Result<Result<Vec<Emitted>, LineKind>, NoMemory>
+    requires { OccupiedSaid (occupied_of_code occupied) }
+    ensures { IfOk result (λ us. all_emitted us
+        ≡ marked.marked_occupied (context_of tables.now.lookup) tables.now.data.now
+        tables.now.strings.now (occupied_of_code occupied.entry)) }
+{
+    match occupied {
+        Occupied::Items(item, values) => held_units(alloc, tables, held_by(item), values),
+        Occupied::Unplaced
+        | Occupied::Opening(_)
+        | Occupied::Marking
+        | Occupied::Entering
+        | Occupied::Zeroes(_)
+        | Occupied::UpTo(_)
+        | Occupied::Literals => Ok(Ok(Vec::new(alloc))),
+    }
+}
 
 fn directive_there(
     alloc: Global,
@@ -28,16 +71,10 @@ fn directive_there(
 ) -> Result<Result<Vec<Emitted>, LineKind>, NoMemory>
     requires { DirectiveSaid line.now }
     ensures { IfOk result (λ us. all_emitted us
-        ≡ marked_directive (context_of tables.now.lookup) tables.now.data.now tables.now.strings.now
-        line.now) }
+        ≡ marked.marked_directive (context_of tables.now.lookup) tables.now.data.now
+        tables.now.strings.now line.now) }
 {
-    match line {
-        DirectiveLine::Dcd { values } => words(alloc, tables, values.as_slice()),
-        DirectiveLine::Dcdu { values } => words(alloc, tables, values.as_slice()),
-        DirectiveLine::Dcw { values } => halves(alloc, tables, values.as_slice()),
-        DirectiveLine::Dcb { values } => bytes(alloc, tables, values.as_slice()),
-        _ => Ok(Ok(Vec::new(alloc))),
-    }
+    occupied_units(alloc, tables, occupied_by(line))
 }
 
 fn directive(

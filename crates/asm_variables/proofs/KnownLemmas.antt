@@ -40,7 +40,8 @@ named_values q (row ∷ rows) = by (same row.0 q) refl (named_values q rows)
     by true e h = ap (λ (x : List ℕ). Some (valued_entry x row.1 false)) (same_true row.0 q e)
     by false e h = h
 
-named_numbers : (q : List ℕ) (rows : Table ℕ) → named_in q (map (λ row. valued_entry row.0 (Number row.1) false) rows) ≡ entry_for q (number_value (found q rows))
+named_numbers : (q : List ℕ) (rows : Table ℕ) → named_in q (map (λ row. valued_entry row.0 (Number row.1) false) rows) ≡ entry_for q
+    (number_value (found q rows))
 named_numbers q [] = refl
 named_numbers q (row ∷ rows) = by (same row.0 q) refl (named_numbers q rows)
   where
@@ -77,7 +78,8 @@ some_entry q (Some v) = refl
 pub known_some : (v : Visible) (q : List ℕ) (s : State) → is_some (named_in q (entries_in v s)) ≡ is_some (value_in v s q)
 known_some v q s = ap (λ (o : Option LaidName). is_some o) (named_known v q s) ∙ some_entry q (value_in v s q)
 
-pub entry_some : (v : Visible) (q : List ℕ) (s : State) (value : Value) → Some value ≡ value_in v s q → Some (valued_entry q value false) ≡ named_in q (all_entries v s)
+pub entry_some : (v : Visible) (q : List ℕ) (s : State) (value : Value) → Some value ≡ value_in v s q
+    → Some (valued_entry q value false) ≡ named_in q (all_entries v s)
 entry_some v q s value h =
     sym
     (named_append q (entries_in v s) (label_entries s)
@@ -94,13 +96,15 @@ label_of : (q : List ℕ) (names : List (List ℕ)) → named_in q (map (λ name
 label_of q [] = refl
 label_of q (n ∷ ns) = by (same n q) refl (label_of q ns)
   where
-    by : (b : Bool) → same n q ≡ b → named_in q (map (λ name. valued_entry name (Number 0) false) ns) ≡ cond (list_any (λ m. same m q) ns) (Some (valued_entry q (Number 0) false)) None
+    by : (b : Bool) → same n q ≡ b → named_in q (map (λ name. valued_entry name (Number 0) false) ns) ≡ cond (list_any (λ m. same m q) ns)
+        (Some (valued_entry q (Number 0) false)) None
         → cond b (Some (valued_entry n (Number 0) false)) (named_in q (map (λ name. valued_entry name (Number 0) false) ns))
         ≡ cond (b || list_any (λ m. same m q) ns) (Some (valued_entry q (Number 0) false)) None
     by true e h = ap (λ (x : List ℕ). Some (valued_entry x (Number 0) false)) (same_true n q e)
     by false e h = h
 
-pub named_label : (q : List ℕ) (s : State) → named_in q (label_entries s) ≡ cond (list_any (λ n. same n q) s.labels) (Some (valued_entry q (Number 0) false)) None
+pub named_label : (q : List ℕ) (s : State) → named_in q (label_entries s) ≡ cond (list_any (λ n. same n q) s.labels) (Some (valued_entry q (Number 0) false))
+    None
 named_label q s = label_of q s.labels
 
 -- ---- no name stands in an area

@@ -12,7 +12,8 @@ use Rattle.asm_model.specs.declared.names.LaidName.{LaidName}
 use Rattle.asm_model.specs.declared.names.Names.{Names}
 use Rattle.asm_model.specs.Forms.{same}
 use Rattle.asm_model.specs.Grammar.{Tree, Leaf, Before, Between, postfix}
-use Rattle.asm_model.specs.Meaning.{named_in, entry_stands_at, stands_at, distance, between_places, as_number, binary, Known, Unread, known, on_both, applied, operand_of_item, operand_of_tree, meaning}
+use Rattle.asm_model.specs.Meaning.{named_in, entry_stands_at, stands_at, distance, between_places, as_number, binary, Known, Unread, known, applied, operand_of_item, operand_of_tree, meaning}
+use Rattle.asm_model.specs.Readings.{then_both}
 use Rattle.asm_expr.specs.Places.{one_entry}
 use Rattle.asm_variables.specs.Entries.{items_entries}
 use Rattle.asm_model.proofs.WordLemmas.{same_refl, same_true}
@@ -91,7 +92,7 @@ same_binary n m h op (Place s p) (Truth b) = refl
 same_binary n m h op (Place s p) (Words x) = refl
 
 same_both : (n m : Names) → ((q : List ℕ) → stands_at n q ≡ stands_at m q) → (op : BinaryOp) (x y : Result Value LineKind)
-    → on_both x y (binary n op) ≡ on_both x y (binary m op)
+    → then_both x y (binary n op) ≡ then_both x y (binary m op)
 same_both n m h op (Ok v) (Ok w) = same_binary n m h op v w
 same_both n m h op (Ok v) (Err j) = refl
 same_both n m h op (Err i) (Ok w) = refl
@@ -127,8 +128,8 @@ module _ (thumb : Bool) (xs ys : List LaidName) (none_in_xs : NoAreas xs) (none_
       let both = agree_split xs ys (postfix t) (postfix u) parts.0 in
       ap Known
       (same_both n m same_nowhere op (known (operand_of_tree n t)) (known (operand_of_tree n u))
-      ∙ ap (λ x. on_both (known x) (known (operand_of_tree n u)) (binary m op)) (same_tree t both.0)
-      ∙ ap (λ x. on_both (known (operand_of_tree m t)) (known x) (binary m op)) (same_tree u both.1))
+      ∙ ap (λ x. then_both (known x) (known (operand_of_tree n u)) (binary m op)) (same_tree t both.0)
+      ∙ ap (λ x. then_both (known (operand_of_tree m t)) (known x) (binary m op)) (same_tree u both.1))
 
   pub same_meaning : (t : Tree) → Agree xs ys (postfix t) → meaning n t ≡ meaning m t
   same_meaning t h = ap known (same_tree t h)

@@ -15,8 +15,10 @@ use Rattle.asm_variables.proofs.SubstitutionLemmas.{behind_one, inside_one}
 -- without n at the end
 pub front_part : (n : ℕ) (s : List ℕ) → take (length s - n) s ≡ reverse (drop n (reverse s))
 front_part n s =
-    let split : reverse (drop n (reverse s)) ++ reverse (take n (reverse s)) ≡ s = sym (reverse-append (take n (reverse s)) (drop n (reverse s))) ∙ ap (λ (xs : List ℕ). reverse xs) (take-append-drop n (reverse s)) ∙ reverse-reverse s in
-    let len : length (reverse (drop n (reverse s))) ≡ length s - n = length-reverse (drop n (reverse s)) ∙ length-drop n (reverse s) ∙ ap (λ (k : ℕ). k - n) (length-reverse s) in
+    let split : reverse (drop n (reverse s)) ++ reverse (take n (reverse s)) ≡ s = sym (reverse-append (take n (reverse s)) (drop n (reverse s)))
+    ∙ ap (λ (xs : List ℕ). reverse xs) (take-append-drop n (reverse s)) ∙ reverse-reverse s in
+    let len : length (reverse (drop n (reverse s))) ≡ length s - n =
+    length-reverse (drop n (reverse s)) ∙ length-drop n (reverse s) ∙ ap (λ (k : ℕ). k - n) (length-reverse s) in
     ap (λ (k : ℕ). take k s) (sym len)
     ∙ ap (λ (xs : List ℕ). take (length (reverse (drop n (reverse s)))) xs) (sym split)
     ∙ take-append_seam (reverse (drop n (reverse s))) (reverse (take n (reverse s)))
@@ -136,7 +138,8 @@ kept_byte : (c : ℕ) (t : Standing) (bs : List Byte) → is_in_comment t ≡ fa
 kept_byte c t bs h = rw h refl
 
 module _ (text : List ℕ) (done : List (List ℕ)) (piece : List ℕ) (s : Standing) (left at : ℕ) (is : IsCutting text done piece s left at) where
-  module _ (c : ℕ) (cs : List ℕ) (here : drop at text ≡ c ∷ cs) (t : Standing) (n : ℕ) (stands : standing_from s left (c ∷ cs) ≡ (c, t) ∷ standing_from t n cs) where
+  module _ (c : ℕ) (cs : List ℕ) (here : drop at text ≡ c ∷ cs) (t : Standing) (n : ℕ)
+      (stands : standing_from s left (c ∷ cs) ≡ (c, t) ∷ standing_from t n cs) where
     all_here : with_pieces done piece (pieces (uncommented (standing_from s left (c ∷ cs)))) ≡ map trimmed (pieces (before_comment text))
     all_here = ap (λ (xs : List ℕ). with_pieces done piece (pieces (uncommented (standing_from s left xs)))) (sym here) ∙ is.same
 

@@ -49,17 +49,21 @@ module _ (opening : Opening) (visits : ℕ) (lines : List Line) (innermost : Ope
     too_many e = sym s.same ∙ rw here (refuses innermost (reverse outer) (visits - at) l (drop (at + 1) lines) (omega (arith, e)))
 
     module _ (room : at < visits) where
-      passed : skipped opening [] visits lines ≡ skipped_line (behind_line innermost (reverse outer) (raw_operation l)) l (visits - (at + 1)) (drop (at + 1) lines) (λ p ps. skipped p ps (visits - (at + 1)) (drop (at + 1) lines))
+      passed : skipped opening [] visits lines ≡ skipped_line (behind_line innermost (reverse outer) (raw_operation l)) l (visits - (at + 1))
+          (drop (at + 1) lines) (λ p ps. skipped p ps (visits - (at + 1)) (drop (at + 1) lines))
       passed = sym s.same ∙ rw here (goes innermost (reverse outer) (visits - at) (visits - (at + 1)) l (drop (at + 1) lines) (omega (arith, room)))
 
-      pub turns : behind_line innermost (reverse outer) (raw_operation l) ≡ Turns → skipped opening [] visits lines ≡ Turned (visits - (at + 1)) (drop (at + 1) lines)
+      pub turns : behind_line innermost (reverse outer) (raw_operation l) ≡ Turns
+          → skipped opening [] visits lines ≡ Turned (visits - (at + 1)) (drop (at + 1) lines)
       turns e = passed ∙ rw e refl
 
-      pub closes : behind_line innermost (reverse outer) (raw_operation l) ≡ Closes → skipped opening [] visits lines ≡ Closed (visits - (at + 1)) (drop (at + 1) lines)
+      pub closes : behind_line innermost (reverse outer) (raw_operation l) ≡ Closes
+          → skipped opening [] visits lines ≡ Closed (visits - (at + 1)) (drop (at + 1) lines)
       closes e = passed ∙ rw e refl
 
       pub unpaired : behind_line innermost (reverse outer) (raw_operation l) ≡ Unpaired → skipped opening [] visits lines ≡ Faulty l Nesting
       unpaired e = passed ∙ rw e refl
 
-      pub stays : (p : Opening) (os : List Opening) → behind_line innermost (reverse outer) (raw_operation l) ≡ Stays p (reverse os) → IsSkipping opening visits lines p os (at + 1)
+      pub stays : (p : Opening) (os : List Opening) → behind_line innermost (reverse outer) (raw_operation l) ≡ Stays p (reverse os)
+          → IsSkipping opening visits lines p os (at + 1)
       stays p os e = record { within = omega (arith, inside); left = omega (arith, room); same = sym (passed ∙ rw e refl) }

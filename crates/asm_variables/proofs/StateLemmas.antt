@@ -44,7 +44,8 @@ local_declared c m name v called h s r =
     record {
       visits = r.visits;
       globals = r.globals;
-      locals = λ q. h q ∙ ap (λ (o : Option Value). cond (same name q) (Some v) o) (r.locals q) ∙ ap (λ (rows : Table Value). found q rows) (sym (locals_in add s.scope some));
+      locals = λ q. h q ∙ ap (λ (o : Option Value). cond (same name q) (Some v) o) (r.locals q)
+          ∙ ap (λ (rows : Table Value). found q rows) (sym (locals_in add s.scope some));
       arguments = λ q. r.arguments q ∙ ap (λ (rows : Table (List ℕ)). found q rows) (sym (arguments_in add s.scope));
       called = r.called ∙ sym (called_in add s.scope);
       macros = r.macros;
@@ -70,7 +71,8 @@ local_set c m name v known h s r =
     (record {
       visits = r.visits;
       globals = r.globals;
-      locals = λ q. replaced m name v c.tables.locals (locals_of s.scope) h r.locals q ∙ ap (λ (rows : Table Value). found q rows) (sym (locals_with name v s.scope));
+      locals = λ q. replaced m name v c.tables.locals (locals_of s.scope) h r.locals q
+          ∙ ap (λ (rows : Table Value). found q rows) (sym (locals_with name v s.scope));
       arguments = λ q. r.arguments q ∙ ap (λ (rows : Table (List ℕ)). found q rows) (sym (arguments_in (with_row name v) s.scope));
       called = r.called ∙ sym (called_in (with_row name v) s.scope);
       macros = r.macros;

@@ -5,7 +5,7 @@ use Rattle.std.proofs.lemmas.List.{drop-drop}
 use Rattle.std.specs.Prelude.{Result, Ok, Err}
 use Rattle.sdt_fault.specs.declared.kinds.LineKind.{LineKind}
 use Rattle.sdt_fault.specs.declared.kinds.LineKind.TheVariants.{UnknownWord}
-use Rattle.asm_model.specs.Says.{mapped}
+use Rattle.asm_model.specs.Readings.{mapped}
 use Rattle.expand_model.specs.declared.standing.Standing.{Standing}
 use Rattle.expand_model.specs.declared.standing.Standing.TheVariants.{Open}
 use Rattle.expand_model.specs.Standing.{Byte, standing, standing_from, begun_at}
@@ -60,20 +60,25 @@ inside_one text at c cs e =
     let m : length (drop at text) ≡ length (c ∷ cs) = ap length e in
     omega (arith, l, m)
 
-module _ (texts : List ℕ → Option (List ℕ)) (text out : List ℕ) (s : Standing) (left dropped at : ℕ) (is : IsSubstituting texts text out s left dropped at) where
+module _ (texts : List ℕ → Option (List ℕ)) (text out : List ℕ) (s : Standing) (left dropped at : ℕ)
+    (is : IsSubstituting texts text out s left dropped at) where
   pub ended : drop at text ≡ [] → substituted_from texts 0 (standing_from Open 0 text) ≡ Ok out
   ended e = sym is.same ∙ rw e (ap (λ (x : List ℕ). Ok x) (append-nil out))
 
   module _ (c : ℕ) (cs : List ℕ) (here : drop at text ≡ c ∷ cs) (t : Standing) (n : ℕ)
       (stands : standing_from s left (c ∷ cs) ≡ (c, t) ∷ standing_from t n cs) where
-    pub failed : (new : List ℕ) → IsPut (substituted_from texts dropped ((c, t) ∷ standing_from t n cs)) (λ k. substituted_from texts k (standing_from t n cs)) None out new
+    pub failed : (new : List ℕ) → IsPut (substituted_from texts dropped ((c, t) ∷ standing_from t n cs)) (λ k. substituted_from texts k (standing_from t n cs))
+        None out new
         → substituted_from texts 0 (standing_from Open 0 text) ≡ Err UnknownWord
     failed new h = sym is.same ∙ rw (here, stands, h) refl
 
-    pub passed : (k : ℕ) (new : List ℕ) → IsPut (substituted_from texts dropped ((c, t) ∷ standing_from t n cs)) (λ m. substituted_from texts m (standing_from t n cs)) (Some k) out new
+    pub passed : (k : ℕ) (new : List ℕ) → IsPut (substituted_from texts dropped ((c, t) ∷ standing_from t n cs))
+        (λ m. substituted_from texts m (standing_from t n cs)) (Some k) out new
         → drop (at + 1) text ≡ cs → IsSubstituting texts text new t n k (at + 1)
     passed k new h next = record {
-      same = rw (next, h.1) (sym (fronted_twice out h.0 (substituted_from texts k (standing_from t n cs))) ∙ ap (fronted out) (sym h.2) ∙ sym (ap (λ r. fronted out (substituted_from texts dropped r)) stands) ∙ sym (ap (λ (r : List ℕ). fronted out (substituted_from texts dropped (standing_from s left r))) here) ∙ is.same);
+      same = rw (next, h.1) (sym (fronted_twice out h.0 (substituted_from texts k (standing_from t n cs))) ∙ ap (fronted out) (sym h.2)
+          ∙ sym (ap (λ r. fronted out (substituted_from texts dropped r)) stands)
+          ∙ sym (ap (λ (r : List ℕ). fronted out (substituted_from texts dropped (standing_from s left r))) here) ∙ is.same);
     }
 
 -- the same of a line
@@ -85,13 +90,15 @@ module _ (s : State) (text out : List ℕ) (st : Standing) (left dropped at : �
   module _ (c : ℕ) (cs : List ℕ) (here : drop at text ≡ c ∷ cs) (t : Standing) (n : ℕ)
       (stands : standing_from st left (c ∷ cs) ≡ (c, t) ∷ standing_from t n cs) where
     pub failed_line : (taken : Option ℕ) (new : List ℕ) → taken ≡ None
-        → IsPut (substituted_from (text_named s) dropped ((c, t) ∷ standing_from t n cs)) (λ k. substituted_from (text_named s) k (standing_from t n cs)) taken out new
+        → IsPut (substituted_from (text_named s) dropped ((c, t) ∷ standing_from t n cs)) (λ k. substituted_from (text_named s) k (standing_from t n cs)) taken
+        out new
         → substituted s text ≡ Err UnknownWord
     unfolding substituted standing
     failed_line taken new e h = failed (text_named s) text out st left dropped at is c cs here t n stands new (rw e at h)
 
     pub passed_line : (taken : Option ℕ) (k : ℕ) (new : List ℕ) → taken ≡ Some k
-        → IsPut (substituted_from (text_named s) dropped ((c, t) ∷ standing_from t n cs)) (λ m. substituted_from (text_named s) m (standing_from t n cs)) taken out new
+        → IsPut (substituted_from (text_named s) dropped ((c, t) ∷ standing_from t n cs)) (λ m. substituted_from (text_named s) m (standing_from t n cs)) taken
+        out new
         → IsSubstituting (text_named s) text new t n k (at + 1)
     passed_line taken k new e h =
         passed (text_named s) text out st left dropped at is c cs here t n stands k new (rw e at h) (behind_one text at c cs here)
@@ -102,7 +109,8 @@ put_one : (c : ℕ) (cs : List ℕ) (r : Result (List ℕ) LineKind) → r ≡ O
 put_one c cs r e = rw e refl
 
 -- bytes without dollars become themselves
-without_dollar : (texts : List ℕ → Option (List ℕ)) (st : Standing) (n : ℕ) (cs : List ℕ) → list_any (λ c. c == 36) cs ≡ false → substituted_from texts 0 (standing_from st n cs) ≡ Ok cs
+without_dollar : (texts : List ℕ → Option (List ℕ)) (st : Standing) (n : ℕ) (cs : List ℕ) → list_any (λ c. c == 36) cs ≡ false
+    → substituted_from texts 0 (standing_from st n cs) ≡ Ok cs
 without_dollar texts st n [] e = refl
 without_dollar texts st zero (c ∷ cs) e =
     let parts = no_first (c == 36) (list_any (λ d. d == 36) cs) e in

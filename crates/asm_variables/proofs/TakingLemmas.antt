@@ -95,5 +95,6 @@ module _ (visits : ℕ) (lines : List Line) (at : ℕ) (s : IsTaking visits line
         stays e = record {
           within = omega (arith, inside);
           left = omega (arith, room);
-          same = rw next (fronted_behind (take at lines) l (taken (visits - (at + 1)) (drop (at + 1) lines)) ∙ sym (passed (with_line l (taken (visits - (at + 1)) (drop (at + 1) lines))) (rw e at is)));
+          same = rw next (fronted_behind (take at lines) l (taken (visits - (at + 1)) (drop (at + 1) lines))
+              ∙ sym (passed (with_line l (taken (visits - (at + 1)) (drop (at + 1) lines))) (rw e at is)));
         }

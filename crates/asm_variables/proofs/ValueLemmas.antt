@@ -137,16 +137,19 @@ module _ (values : List LaidName) where
       → first_told new (told_kind (items_kinds values is)) ≡ first_told told (told_kind (items_kinds values left))
   told_more told now new asked left is i s a e f =
       rw (f, e, a) (sym (first_assoc told (told_kind (kinds_of values (is_asked is) i)) (told_kind (items_kinds values is))))
-      ∙ ap (first_told told) (sym (told_by_parts (kinds_of values (is_asked is) i) (items_kinds values is)) ∙ ap (λ (x : List ExprItem). told_kind (items_kinds values x)) (sym s))
+      ∙ ap (first_told told) (sym (told_by_parts (kinds_of values (is_asked is) i) (items_kinds values is))
+      ∙ ap (λ (x : List ExprItem). told_kind (items_kinds values x)) (sym s))
 
 -- ---- values
 
-pub value_of_items : (v : Visible) (s : State) (e : Expr) (x : IsExpression e.items) (told : Option LineKind) → told ≡ told_kind (items_kinds (entries_in v s) e.items)
+pub value_of_items : (v : Visible) (s : State) (e : Expr) (x : IsExpression e.items) (told : Option LineKind)
+    → told ≡ told_kind (items_kinds (entries_in v s) e.items)
     → value_with s (entries_in v s) (Ok e) ≡ unless_told told (meaning (names_with s (all_entries v s)) x.tree)
 value_of_items v s e x told h =
     ap (λ (o : Option Tree). maybe_value s (entries_in v s) o) (trees_read_back x.parts x.tree e x.spelled x.are)
     ∙ ap (λ (o : Option LineKind). unless_told o (meaning (names_with s (all_entries v s)) x.tree))
-    (ap told_kind (kinds_of_items (entries_in v s) x.parts x.tree x.spelled) ∙ ap (λ (is : List ExprItem). told_kind (items_kinds (entries_in v s) is)) (sym x.are) ∙ sym h)
+    (ap told_kind (kinds_of_items (entries_in v s) x.parts x.tree x.spelled)
+    ∙ ap (λ (is : List ExprItem). told_kind (items_kinds (entries_in v s) is)) (sym x.are) ∙ sym h)
 
 -- a value that is the model's of each state
 pub given_each : (v : Visible) (c : Expansion) (x : Operand) (told : Result (Result Value LineKind) NoMemory)

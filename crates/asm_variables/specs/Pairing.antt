@@ -5,8 +5,8 @@ use Rattle.asm_model.specs.declared.lines.Line.{Line}
 use Rattle.expand_model.specs.declared.operations.Opening.{Opening}
 use Rattle.expand_model.specs.declared.operations.Operation.{Operation}
 use Rattle.expand_model.specs.Pairing as model
-use Rattle.asm_variables.specs.declared.pairing.Behind.{Behind}
-use Rattle.asm_variables.specs.declared.pairing.Behind.TheVariants as behind
+use Rattle.asm_variables.specs.declared.pairing.OpeningAfter.{OpeningAfter}
+use Rattle.asm_variables.specs.declared.pairing.OpeningAfter.TheVariants as behind
 use Rattle.asm_variables.specs.declared.pairing.Effect.{Effect}
 use Rattle.asm_variables.specs.declared.pairing.Effect.TheVariants as effect
 use Rattle.asm_variables.specs.declared.pairing.BodyPart.{BodyPart}
@@ -17,7 +17,7 @@ use Rattle.asm_variables.specs.declared.pairing.Taking.{Taking}
 use Rattle.asm_variables.specs.declared.pairing.Taking.TheVariants as taking
 
 -- what is open behind a word with this effect
-abbrev pub applied : Effect → Opening → List Opening → model.Behind
+abbrev pub applied : Effect → Opening → List Opening → model.OpeningAfter
 applied effect.Nothing o os = model.Stays o os
 applied (effect.Opens p) o os = model.Stays p (o ∷ os)
 applied effect.Turns o os = model.turned os
@@ -29,7 +29,7 @@ abbrev pub HasEffect : Effect → Opening → Operation → Type 0
 HasEffect e o w = (os : List Opening) → model.behind_word o os w ≡ applied e o os
 
 -- what a step gives, and what it leaves open
-abbrev pub behind_shown : Behind → Opening → List Opening → model.Behind
+abbrev pub behind_shown : OpeningAfter → Opening → List Opening → model.OpeningAfter
 behind_shown behind.Stays o os = model.Stays o os
 behind_shown behind.Turns o os = model.Turns
 behind_shown behind.Closes o os = model.Closes
@@ -59,11 +59,11 @@ inside_shown inside.Ends l n ls rest = model.Whole [] n ls
 inside_shown inside.Nested l n ls rest = model.Bad l Nesting
 
 -- an effect leaves this open, where openings are listed with the innermost last
-abbrev pub Puts : Effect → Opening → List Opening → Opening → List Opening → Behind → Type 0
+abbrev pub Puts : Effect → Opening → List Opening → Opening → List Opening → OpeningAfter → Type 0
 Puts e o os p ps b = applied e o (reverse os) ≡ behind_shown b p (reverse ps)
 
 -- a line leaves this open
-abbrev pub Passes : Line → Opening → List Opening → Opening → List Opening → Behind → Type 0
+abbrev pub Passes : Line → Opening → List Opening → Opening → List Opening → OpeningAfter → Type 0
 Passes l o os p ps b = model.behind_line o (reverse os) (model.raw_operation l) ≡ behind_shown b p (reverse ps)
 
 -- what a line is inside a definition

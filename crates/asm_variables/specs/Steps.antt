@@ -1,9 +1,9 @@
 -- Steps of the code. This project's.
 use Rattle.std.specs.Prelude.{ℕ, Bool}
 use Rattle.expand_model.specs.Words as model
-use Rattle.asm_variables.specs.declared.words.Field.{Field}
-use Rattle.asm_variables.specs.declared.words.Field.TheVariants as field
-use Rattle.asm_variables.specs.declared.words.Words.{Words}
+use Rattle.asm_variables.specs.declared.line_fields.Field.{Field}
+use Rattle.asm_variables.specs.declared.line_fields.Field.TheVariants as field
+use Rattle.asm_variables.specs.declared.line_fields.Words.{Words}
 
 -- the bytes of a word in a field
 abbrev pub passes : Field → ℕ → Bool

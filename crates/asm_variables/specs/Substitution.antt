@@ -2,7 +2,7 @@
 use Rattle.std.specs.Prelude.{◌≡◌, ℕ, List, ◌∷◌, ◌++◌, take, Option, Some, None, Result, Ok, Err}
 use Rattle.sdt_fault.specs.declared.kinds.LineKind.{LineKind}
 use Rattle.sdt_fault.specs.declared.kinds.LineKind.TheVariants.{UnknownWord}
-use Rattle.asm_model.specs.Says.{mapped}
+use Rattle.asm_model.specs.Readings.{mapped}
 use Rattle.expand_model.specs.Standing.{Byte}
 use Rattle.expand_model.specs.States.{State, text_named}
 use Rattle.expand_model.specs.Substitution as model

@@ -8,8 +8,8 @@ ghost use Rattle.expand_model.specs.Substitution.{plain};
 ghost use Rattle.expand_model.specs.Words as model;
 ghost use Rattle.asm_variables.specs.Operands.{Takes, trimmed_pieces};
 
+use crate::line_fields::without_blanks;
 use crate::substitution::{first_of, standing_at};
-use crate::words::without_blanks;
 use asm_lines::bytes::{Class, is_of};
 use expand_model::Standing;
 use sdt_fault::{NoMemory, Text};

@@ -7,8 +7,8 @@ ghost use Rattle.expand_model.specs.declared.operations.Operation.TheVariants as
 ghost use Rattle.expand_model.specs.Pairing as model;
 ghost use Rattle.asm_variables.specs.Pairing.{applied, behind_shown, HasEffect, IsBodyPart, Passes, Puts, Shows, ShowsTaken};
 
+use crate::line_fields::raw_words_of;
 use crate::operations::operation_of;
-use crate::words::raw_words_of;
 use asm_model::Line;
 use expand_model::{Opening, Operation};
 use sdt_fault::NoMemory;
@@ -44,7 +44,7 @@ pub enum Effect {
 
 /// What a line leaves.
 #[derive(Clone, Copy, Debug)]
-pub enum Behind {
+pub enum OpeningAfter {
     Stays,
     Turns,
     Closes,
@@ -142,29 +142,29 @@ fn effect_of(innermost: Opening, operation: Option<Operation>) -> Effect
 }
 
 /// Takes the next opening to be the innermost, where there is one.
-fn close(innermost: &mut Opening, outer: &mut Vec<Opening>) -> Behind
+fn close(innermost: &mut Opening, outer: &mut Vec<Opening>) -> OpeningAfter
     ensures { model.closed (reverse outer.old.items)
         ≡ behind_shown result innermost.new (reverse outer.new.items) }
 {
     match outer.pop() {
-        None => Behind::Closes,
+        None => OpeningAfter::Closes,
         Some(next) => {
             *innermost = next;
-            Behind::Stays
+            OpeningAfter::Stays
         }
     }
 }
 
 /// Notes the ELSE of the innermost opening, or tells that it is the outermost's.
-fn turn(innermost: &mut Opening, outer: &[Opening]) -> Behind
+fn turn(innermost: &mut Opening, outer: &[Opening]) -> OpeningAfter
     ensures { model.turned (reverse outer.now)
         ≡ behind_shown result innermost.new (reverse outer.now) }
 {
     if outer.is_empty() {
-        return Behind::Turns;
+        return OpeningAfter::Turns;
     }
     *innermost = Opening::Alternative;
-    Behind::Stays
+    OpeningAfter::Stays
 }
 
 /// Puts a line's effect on what is open.
@@ -172,25 +172,29 @@ fn put(
     effect: Effect,
     innermost: &mut Opening,
     outer: &mut Vec<Opening>,
-) -> Result<Behind, NoMemory>
+) -> Result<OpeningAfter, NoMemory>
     ensures { IfOk result
         (Puts effect innermost.old outer.old.items innermost.new outer.new.items) }
 {
     match effect {
-        Effect::Nothing => Ok(Behind::Stays),
+        Effect::Nothing => Ok(OpeningAfter::Stays),
         Effect::Opens(next) => {
             outer.push(*innermost)?;
             *innermost = next;
-            Ok(Behind::Stays)
+            Ok(OpeningAfter::Stays)
         }
         Effect::Turns => Ok(turn(innermost, outer.as_slice())),
         Effect::Closes => Ok(close(innermost, outer)),
-        Effect::Unpaired => Ok(Behind::Unpaired),
+        Effect::Unpaired => Ok(OpeningAfter::Unpaired),
     }
 }
 
 /// The effect of the line on what is open.
-fn pass(line: &Line, innermost: &mut Opening, outer: &mut Vec<Opening>) -> Result<Behind, NoMemory>
+fn pass(
+    line: &Line,
+    innermost: &mut Opening,
+    outer: &mut Vec<Opening>,
+) -> Result<OpeningAfter, NoMemory>
     ensures { IfOk result
         (Passes line.now innermost.old outer.old.items innermost.new outer.new.items) }
 {
@@ -217,10 +221,10 @@ pub fn skip(
             return Ok(Skipping::Faulty(at, LineKind::TooMany));
         }
         match pass(line, &mut innermost, &mut outer)? {
-            Behind::Stays => {}
-            Behind::Turns => return Ok(Skipping::Turned(at + 1)),
-            Behind::Closes => return Ok(Skipping::Closed(at + 1)),
-            Behind::Unpaired => return Ok(Skipping::Faulty(at, LineKind::Nesting)),
+            OpeningAfter::Stays => {}
+            OpeningAfter::Turns => return Ok(Skipping::Turned(at + 1)),
+            OpeningAfter::Closes => return Ok(Skipping::Closed(at + 1)),
+            OpeningAfter::Unpaired => return Ok(Skipping::Faulty(at, LineKind::Nesting)),
         }
         at += 1;
     }

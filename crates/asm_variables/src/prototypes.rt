@@ -8,8 +8,8 @@ ghost use Rattle.expand_model.specs.Prototypes as model;
 ghost use Rattle.expand_model.specs.Words.{as_name};
 ghost use Rattle.asm_variables.specs.Steps.{words_shown};
 
+use crate::line_fields::{Words, without_blanks};
 use crate::operands::arguments;
-use crate::words::{Words, without_blanks};
 use asm_lines::bytes::{Class, is_between_bars, is_letter, is_of};
 use expand_model::{Parameter, Prototype};
 use sdt_fault::{List, NoMemory, Text};

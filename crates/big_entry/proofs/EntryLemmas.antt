@@ -38,7 +38,8 @@ word-held view m p w held h =
     (λ k lt. held (p + k) (get_or (bytes_of w 4) k 0) (h.each k lt) ∙ ap (λ (j : ℕ). get_or (bytes_of w 4) j 0) (omega arith)))
     ∙ number_of-bytes_of w 4 h.is_word
 
-word-there : (view : ByteMap) (board : Board) (p w : ℕ) → ((x b : ℕ) → view x ≡ Some b → board.memory x ≡ true) → HoldsWord view p w → in_memory board p 4 ≡ true
+word-there : (view : ByteMap) (board : Board) (p w : ℕ) → ((x b : ℕ) → view x ≡ Some b → board.memory x ≡ true) → HoldsWord view p w
+    → in_memory board p 4 ≡ true
 word-there view board p w there h = in_memory-mapped board p 4 (λ k lt. there (p + k) (slice_index (bytes_of w 4) k) (h.each k lt))
 
 words-held : (view : ByteMap) (board : Board) (m : Bytes) (p : ℕ) (ws : List ℕ) → ((x b : ℕ) → view x ≡ Some b → board.memory x ≡ true)

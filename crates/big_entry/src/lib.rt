@@ -1,4 +1,5 @@
-//! How the startup code enters a generated source's program. There is no engine.
+//! Law: how the startup code enters the program of the source that `make-big` makes. This project's, over `boot_code`
+//! and `arm7_model`; there is no engine. `sdt_toolkit` calls `program_is_entered`.
 #![tactic(auto)]
 
 ghost use Rattle.big_entry.specs.Entries.{ProgramIsEntered};

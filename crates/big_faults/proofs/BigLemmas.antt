@@ -6,6 +6,7 @@ use Rattle.std.specs.List.{list_any}
 use Rattle.std.proofs.lemmas.Bool.{le-ltb, lt-ltb, false_from_ne_true}
 use Rattle.std.proofs.lemmas.Fmt.{decimal_injective}
 use Rattle.asm_model.specs.declared.directives.AreaAttributes.{AreaAttributes}
+use Rattle.asm_model.specs.declared.directives.Contents.{Contents}
 use Rattle.asm_model.specs.declared.directives.Contents.TheVariants as contents
 use Rattle.asm_model.specs.declared.directives.DirectiveLine.TheVariants as line
 use Rattle.asm_model.specs.declared.names.LaidName.{LaidName}
@@ -21,7 +22,7 @@ use Rattle.asm_model.specs.Before.{area_behind, thumb_behind}
 use Rattle.asm_model.specs.Forms.{same}
 use Rattle.asm_model.specs.Labels.{declared_names}
 use Rattle.asm_model.specs.Laid.{LaidLine, laid, laid_of, laid_behind, pieces_of, statements_of, taken, aligned_end}
-use Rattle.asm_model.specs.LayoutKinds.{area_bytes, is_thumb_area, is_entry, names_behind, is_named_otherwise, settled, equals_in, layout_kinds, contents_behind}
+use Rattle.asm_model.specs.LayoutKinds.{area_bytes, is_thumb_area, is_entry, names_behind, is_named_otherwise, settled, equals_in, layout_kinds, contents_behind, contents_kinds}
 use Rattle.asm_model.specs.Offsets.{Piece, raised, end_behind, waiting, area_size, size_behind}
 use Rattle.asm_model.proofs.OffsetLemmas.{end_rises}
 use Rattle.asm_model.proofs.WordLemmas.{same_true}
@@ -86,9 +87,11 @@ many_data source at (suc k) = omega (arith, many_data source at k)
 
 other_label : (j k : ℕ) → j < k → k < 2 ^ 64 → same (label_of k) (label_of j) ≡ false
 other_label j k h small =
-    false_from_ne_true _ (λ e. let q = same_true (decimal k) (decimal j) e in let z = decimal_injective k j (omega arith) (omega arith) q in absurd (omega arith))
+    false_from_ne_true _ (λ e. let q = same_true (decimal k) (decimal j) e in let z = decimal_injective k j (omega arith) (omega arith) q in
+    absurd (omega arith))
 
-new_label : (source : List ℕ) (at m k : ℕ) → m ≤ k → k < 2 ^ 64 → list_any (same (label_of k)) (names_behind (step_statements source at m ++ begun source)) ≡ false
+new_label : (source : List ℕ) (at m k : ℕ) → m ≤ k → k < 2 ^ 64 → list_any (same (label_of k))
+    (names_behind (step_statements source at m ++ begun source)) ≡ false
 new_label source at zero k h small = refl
 new_label source at (suc m) k h small = rw (other_label m k (omega arith) (omega arith), new_label source at m k (omega arith) small) refl
 
@@ -109,19 +112,23 @@ or_parts : (a b : Bool) → (a || b) ≡ false → (a ≡ false) × (b ≡ false
 or_parts true b h = absurd (cc)
 or_parts false b h = (refl, h)
 
-pub entered : (d : List LaidName) (source : List ℕ) (registers names_settled : List (List ℕ)) (all : List Statement) → is_thumb_area 0 all ≡ false
-    → AreLaid d registers names_settled all (codes "big" ∷ []) 0 contents.Code (λ b. 0)
-    (stated source 2 None (what.Directive line.Entry) ∷ stated source 1 None (area_what (codes "big") contents.Code true) ∷ [])
-entered d source registers names_settled all arm = record {
+-- a first area of read-only code, and ENTRY in it
+abbrev pub opened : List ℕ → List ℕ → List Statement
+opened source area = stated source 2 None (what.Directive line.Entry) ∷ stated source 1 None (area_what area contents.Code true) ∷ []
+
+pub entered : (d : List LaidName) (source own : List ℕ) (registers names_settled : List (List ℕ)) (all : List Statement) → same own own ≡ true
+    → is_thumb_area 0 all ≡ false
+    → AreLaid d registers names_settled all (own ∷ []) 0 contents.Code (λ b. 0) (opened source own)
+entered d source own registers names_settled all self arm = record {
   stand = record {
-    area = refl;
+    area = rw self refl;
     areas = refl;
     contents = refl;
     thumb = refl;
-    ends = λ b. by_test (0 == b);
-    unlike = λ name h s x. rw (or_parts (same name (codes "big")) false h).0 refl;
+    ends = λ b. rw self (by_test (0 == b));
+    unlike = λ name h s x. rw (or_parts (same name own) false h).0 refl;
   };
-  faultless = rw arm refl;
+  faultless = rw (self, arm) refl;
 }
   where
     by_test : (t : Bool) → cond t (raised (cond t (raised 0 1 + 0) 0) 4 + 0) (cond t (raised 0 1 + 0) 0) ≡ 0
@@ -131,13 +138,14 @@ entered d source registers names_settled all arm = record {
 abbrev pub code_ends : ℕ → ℕ → ℕ
 code_ends n = more 0 2 (more 0 n (more 0 1 (λ b. 0)))
 
-pub code_laid : (d : List LaidName) (source : List ℕ) (registers names_settled : List (List ℕ)) (all : List Statement) (n : ℕ) → is_thumb_area 0 all ≡ false → n ≤ 50000
+pub code_laid : (d : List LaidName) (source : List ℕ) (registers names_settled : List (List ℕ)) (all : List Statement) (n : ℕ) → is_thumb_area 0 all ≡ false
+    → n ≤ 50000
     → AreLaid d registers names_settled all (codes "big" ∷ []) 0 contents.Code (code_ends n) (code_part source n)
 code_laid d source registers names_settled all n arm few =
     let many = many_steps source 4 n in
     let one =
     words_have_no_fault d registers names_settled all (codes "big" ∷ []) 0 contents.Code (λ b. 0) (stated source 3 None clear ∷ []) _ tt
-    (entered d source registers names_settled all arm) (clear_takes, refl, tt) (refl, tt) (omega arith) in
+    (entered d source (codes "big") registers names_settled all refl arm) (clear_takes, refl, tt) (refl, tt) (omega arith) in
     let two =
     words_have_no_fault d registers names_settled all (codes "big" ∷ []) 0 contents.Code (more 0 1 (λ b. 0)) (step_statements source 4 n) (begun source) tt
     one (steps_are_words source 4 n) (steps_fresh source 4 n (omega arith)) (omega arith) in
@@ -162,9 +170,11 @@ zero_fits : (o : Option ℕ) (a : ℕ) (ps : List Piece) (thumb : Bool) (w : Wha
 zero_fits o a ps thumb w n e al h few = rw (e, al thumb (waiting a ps), h) (le-ltb area_bytes (raised (4 * n) 1 + 0) (omega arith))
 
 -- the second area
-pub second_laid : (d : List LaidName) (source : List ℕ) (at : ℕ) (registers names_settled : List (List ℕ)) (all : List Statement) (E : ℕ → ℕ) (ss : List Statement) → E 1 ≡ 0
+pub second_laid : (d : List LaidName) (source : List ℕ) (at : ℕ) (registers names_settled : List (List ℕ)) (all : List Statement) (E : ℕ → ℕ)
+    (ss : List Statement) → E 1 ≡ 0
     → AreLaid d registers names_settled all (codes "big" ∷ []) 0 contents.Code E ss
-    → AreLaid d registers names_settled all (codes "big" ∷ codes "bigrw" ∷ []) 1 contents.Data E (stated source at None (area_what (codes "bigrw") contents.Data false) ∷ ss)
+    → AreLaid d registers names_settled all (codes "big" ∷ codes "bigrw" ∷ []) 1 contents.Data E
+    (stated source at None (area_what (codes "bigrw") contents.Data false) ∷ ss)
 second_laid d source at registers names_settled all E ss none h =
     record {
       stand = record {
@@ -191,30 +201,46 @@ second_laid d source at registers names_settled all E ss none h =
         let q = or_parts (same name (codes "bigrw")) false p.1 in
         rw (q.0) (h.stand.unlike name (rw (p.0) refl) s x)
 
-    fits : nat_lt area_bytes ((laid_behind d (stated source at None (area_what (codes "bigrw") contents.Data false)) (laid_of d ss)).offset + (laid_behind d (stated source at None (area_what (codes "bigrw") contents.Data false)) (laid_of d ss)).size) ≡ false
-    fits = zero_fits (area_behind (stated source at None (area_what (codes "bigrw") contents.Data false) ∷ statements_of (laid_of d ss))) 1 (pieces_of (laid_of d ss)) (thumb_behind (statements_of (laid_of d ss))) (area_what (codes "bigrw") contents.Data false) (E 1) there (λ t l. refl) (h.stand.ends 1) (omega (arith, none))
+    fits : nat_lt area_bytes ((laid_behind d (stated source at None (area_what (codes "bigrw") contents.Data false)) (laid_of d ss)).offset
+        + (laid_behind d (stated source at None (area_what (codes "bigrw") contents.Data false)) (laid_of d ss)).size) ≡ false
+    fits = zero_fits (area_behind (stated source at None (area_what (codes "bigrw") contents.Data false) ∷ statements_of (laid_of d ss))) 1
+        (pieces_of (laid_of d ss)) (thumb_behind (statements_of (laid_of d ss))) (area_what (codes "bigrw") contents.Data false) (E 1) there (λ t l. refl)
+        (h.stand.ends 1) (omega (arith, none))
 
-    kinds : layout_kinds names_settled all (laid_behind d (stated source at None (area_what (codes "bigrw") contents.Data false)) (laid_of d ss)) (laid_of d ss) ≡ []
+    kinds : layout_kinds names_settled all (laid_behind d (stated source at None (area_what (codes "bigrw") contents.Data false)) (laid_of d ss))
+        (laid_of d ss) ≡ []
     kinds =
-        rw (fits, h.stand.unlike (codes "bigrw") refl (laid_behind d (stated source at None (area_what (codes "bigrw") contents.Data false)) (laid_of d ss)).seen (attributes contents.Data false)) refl
+        rw (
+          fits,
+          h.stand.unlike (codes "bigrw") refl (laid_behind d (stated source at None (area_what (codes "bigrw") contents.Data false))
+              (laid_of d ss)).seen (attributes contents.Data false),
+        ) refl
 
--- the last line
-end_laid : (d : List LaidName) (source : List ℕ) (at : ℕ) (registers names_settled : List (List ℕ)) (all : List Statement) (names : List (List ℕ)) (E : ℕ → ℕ) (ss : List Statement)
-    → 4 * E 1 ≤ 2 ^ 24 → AreLaid d registers names_settled all names 1 contents.Data E ss
+-- the last line, in an area of any contents
+end_contents : (c : Contents) (thumb : Bool) → contents_kinds (Some c) thumb (what.Directive line.End) ≡ []
+end_contents contents.Code thumb = refl
+end_contents contents.Data thumb = refl
+end_contents contents.Zeroes thumb = refl
+
+pub end_laid : (d : List LaidName) (source : List ℕ) (at : ℕ) (registers names_settled : List (List ℕ)) (all : List Statement) (names : List (List ℕ)) (a : ℕ)
+    (c : Contents) (E : ℕ → ℕ)
+    (ss : List Statement) → 4 * E a ≤ 2 ^ 24 → AreLaid d registers names_settled all names a c E ss
     → first_laid registers names_settled all (laid_of d (stated source at None (what.Directive line.End) ∷ ss)) ≡ None
-end_laid d source at registers names_settled all names E ss few h = rw (h.faultless, kinds) refl
+end_laid d source at registers names_settled all names a c E ss few h = rw (h.faultless, kinds) refl
   where
-    there : area_behind (statements_of (laid_of d ss)) ≡ Some 1
+    there : area_behind (statements_of (laid_of d ss)) ≡ Some a
     there = rw (same_statements d ss) h.stand.area
 
-    holds : contents_behind (statements_of (laid_of d ss)) ≡ Some contents.Data
+    holds : contents_behind (statements_of (laid_of d ss)) ≡ Some c
     holds = rw (same_statements d ss) h.stand.contents
 
-    fits : nat_lt area_bytes ((laid_behind d (stated source at None (what.Directive line.End)) (laid_of d ss)).offset + (laid_behind d (stated source at None (what.Directive line.End)) (laid_of d ss)).size) ≡ false
-    fits = zero_fits (area_behind (statements_of (laid_of d ss))) 1 (pieces_of (laid_of d ss)) (thumb_behind (statements_of (laid_of d ss))) (what.Directive line.End) (E 1) there (λ t l. refl) (h.stand.ends 1) few
+    fits : nat_lt area_bytes ((laid_behind d (stated source at None (what.Directive line.End)) (laid_of d ss)).offset
+        + (laid_behind d (stated source at None (what.Directive line.End)) (laid_of d ss)).size) ≡ false
+    fits = zero_fits (area_behind (statements_of (laid_of d ss))) a (pieces_of (laid_of d ss)) (thumb_behind (statements_of (laid_of d ss)))
+        (what.Directive line.End) (E a) there (λ t l. refl) (h.stand.ends a) few
 
     kinds : layout_kinds names_settled all (laid_behind d (stated source at None (what.Directive line.End)) (laid_of d ss)) (laid_of d ss) ≡ []
-    kinds = rw (fits, there, holds) refl
+    kinds = rw (fits, there, holds, end_contents c (thumb_behind (statements_of (laid_of d ss)))) refl
 
 -- ---- where ENTRY stands
 
@@ -230,32 +256,38 @@ pub data_enter : (source : List ℕ) (at n : ℕ) → NoEntries (data_statements
 data_enter source at zero = tt
 data_enter source at (suc k) = (refl, data_enter source at k)
 
-enter_on : (all : List LaidLine) (d : List LaidName) (ss rest : List Statement) → NoEntries ss → AllEnter all (laid_of d rest) → AllEnter all (laid_of d (ss ++ rest))
+pub enter_on : (all : List LaidLine) (d : List LaidName) (ss rest : List Statement) → NoEntries ss → AllEnter all (laid_of d rest)
+    → AllEnter all (laid_of d (ss ++ rest))
 enter_on all d [] rest h k = k
-enter_on all d (s ∷ ss) rest h k = (no_entry all (laid_behind d s (laid_of d (ss ++ rest))).area (laid_behind d s (laid_of d (ss ++ rest))) h.0, enter_on all d ss rest h.1 k)
+enter_on all d (s ∷ ss) rest h k =
+    (no_entry all (laid_behind d s (laid_of d (ss ++ rest))).area (laid_behind d s (laid_of d (ss ++ rest))) h.0, enter_on all d ss rest h.1 k)
 
-some_size : (ps : List Piece) (n : ℕ) → end_behind 0 ps ≡ 4 * n → 0 < n → 0 < area_size 0 ps
+pub some_size : (ps : List Piece) (n : ℕ) → end_behind 0 ps ≡ 4 * n → 0 < n → 0 < area_size 0 ps
 some_size ps n e h = let up = end_rises (end_behind 0 ps) (waiting 0 ps) Pool in omega arith
+
+pub opened_enter : (all : List LaidLine) (d : List LaidName) (source own : List ℕ) → same own own ≡ true → 0 < area_size 0 (pieces_of all)
+    → AllEnter all (laid_of d (opened source own))
+opened_enter all d source own self h = (rw self (if_none _ _ (ap not (lt-ltb 0 (area_size 0 (pieces_of all)) h))), (refl, tt))
 
 begun_enter : (all : List LaidLine) (d : List LaidName) (source : List ℕ) → 0 < area_size 0 (pieces_of all) → AllEnter all (laid_of d (begun source))
 begun_enter all d source h = (
-  no_entry all (laid_behind d (stated source 3 None clear) (laid_of d (drop 1 (begun source)))).area (laid_behind d (stated source 3 None clear) (laid_of d (drop 1 (begun source)))) refl,
-  (
-    if_none _ _ (ap not (lt-ltb 0 (area_size 0 (pieces_of all)) h)),
-    (refl, tt),
-  ),
+  no_entry all (laid_behind d (stated source 3 None clear) (laid_of d (drop 1 (begun source)))).area
+      (laid_behind d (stated source 3 None clear) (laid_of d (drop 1 (begun source)))) refl,
+  opened_enter all d source (codes "big") refl h,
 )
 
 -- ---- all
 
-pub data_laid : (d : List LaidName) (source : List ℕ) (registers names_settled : List (List ℕ)) (all : List Statement) (n : ℕ) → is_thumb_area 0 all ≡ false → n ≤ 50000
+pub data_laid : (d : List LaidName) (source : List ℕ) (registers names_settled : List (List ℕ)) (all : List Statement) (n : ℕ) → is_thumb_area 0 all ≡ false
+    → n ≤ 50000
     → AreLaid d registers names_settled all (codes "big" ∷ codes "bigrw" ∷ []) 1 contents.Data (more 1 n (code_ends n)) (data_part source n)
 data_laid d source registers names_settled all n arm few =
     let many = many_data source (n + 7) n in
     let code = code_laid d source registers names_settled all n arm few in
     let second = second_laid d source (n + 6) registers names_settled all (code_ends n) (code_part source n) refl code in
     let words =
-    words_have_no_fault d registers names_settled all (codes "big" ∷ codes "bigrw" ∷ []) 1 contents.Data (code_ends n) (data_statements source (n + 7) n) _ tt second
+    words_have_no_fault d registers names_settled all (codes "big" ∷ codes "bigrw" ∷ []) 1 contents.Data (code_ends n) (data_statements source (n + 7) n) _ tt
+    second
     (data_are_words source (n + 7) n) (data_fresh source (n + 7) n _) (omega arith) in
     rw many at words
 
@@ -272,7 +304,8 @@ big_has_no_fault source n few =
     let words =
     words_have_no_fault d registers known all (codes "big" ∷ codes "bigrw" ∷ []) 1 contents.Data (code_ends n) (data_statements source (n + 7) n) _ tt second
     (data_are_words source (n + 7) n) (data_fresh source (n + 7) n _) (omega arith) in
-    let first = end_laid d source (n + n + 7) registers known all (codes "big" ∷ codes "bigrw" ∷ []) _ (data_part source n) (omega arith) words in
+    let first =
+    end_laid d source (n + n + 7) registers known all (codes "big" ∷ codes "bigrw" ∷ []) 1 contents.Data _ (data_part source n) (omega arith) words in
     let last : area_behind (statements_of (laid_of d (data_part source n))) ≡ Some 1 = rw (same_statements d (data_part source n)) words.stand.area in
     let size : 0 < area_size 0 (pieces_of (laid all)) =
     some_size (pieces_of (laid all)) (more 1 (length (data_statements source (n + 7) n)) (code_ends n) 0)
@@ -280,6 +313,7 @@ big_has_no_fault source n few =
     let enter =
     enter_on (laid all) d (stated source (n + n + 7) None (what.Directive line.End) ∷ data_statements source (n + 7) n) _ (refl, data_enter source (n + 7) n)
     (enter_on (laid all) d
-    (stated source (n + 6) None (area_what (codes "bigrw") contents.Data false) ∷ stated source (n + 5) None leave ∷ stated source (n + 4) None give ∷ step_statements source 4 n)
+    (stated source (n + 6) None (area_what (codes "bigrw") contents.Data false) ∷ stated source (n + 5) None leave ∷ stated source (n + 4) None give
+    ∷ step_statements source 4 n)
     (begun source) (refl, (refl, (refl, steps_enter source 4 n))) (begun_enter (laid all) d source size)) in
     (rw (first, calm_late all calm enter) refl, calm_have_no_fault all calm)

@@ -61,7 +61,8 @@ words_are [] bytes at e h = none_left (drop at bytes) (omega (arith, length-drop
 words_are (w ∷ ws) bytes at e h =
     let more = words_are ws bytes (at + 4) (omega arith) h.1 in
     let two : drop (at + 4) bytes ≡ drop 4 (drop at bytes) = search (drop-drop) in
-    sym (take-append-drop 4 (drop at bytes)) ∙ ap (λ (xs : List ℕ). xs ++ drop 4 (drop at bytes)) h.0 ∙ ap (λ (xs : List ℕ). bytes_of w 4 ++ xs) (sym two ∙ more)
+    sym (take-append-drop 4 (drop at bytes)) ∙ ap (λ (xs : List ℕ). xs ++ drop 4 (drop at bytes)) h.0
+    ∙ ap (λ (xs : List ℕ). bytes_of w 4 ++ xs) (sym two ∙ more)
 
 -- ---- what stands in an area
 
@@ -85,20 +86,23 @@ below_more : (s : Source) (area : ℕ) (d : List LaidName) (ts ss : List Stateme
 below_more s area d [] ss p h = h
 below_more s area d (t ∷ ts) ss p h = λ rest. among_left p _ _ (below_more s area d ts ss p h (laid_behind d t (laid_of d (ts ++ ss)) ∷ rest))
 
-units_there : (l : LaidLine) (r : Result (List Emitted) LineKind) (u : Emitted) (at : ℕ) → r ≡ Ok (u ∷ []) → l.offset ≡ at → IsAmong (at, u) (units_from l.offset (or_none r))
+units_there : (l : LaidLine) (r : Result (List Emitted) LineKind) (u : Emitted) (at : ℕ) → r ≡ Ok (u ∷ []) → l.offset ≡ at
+    → IsAmong (at, u) (units_from l.offset (or_none r))
 units_there l r u at e eo = rw (e, eo) (inl refl)
 
 chosen : (t : Bool) (p : Piece) (ps : List Piece) → t ≡ true → IsAmong p ps → IsAmong p (cond t ps [])
 chosen true p ps e h = h
 chosen false p ps e h = absurd (cc)
 
-thing_here : (s : Source) (area at : ℕ) (l : LaidLine) (before rest : List LaidLine) (u : Emitted) → l.area ≡ Some area → l.offset ≡ at → Puts l.statement.what u
+thing_here : (s : Source) (area at : ℕ) (l : LaidLine) (before rest : List LaidLine) (u : Emitted) → l.area ≡ Some area → l.offset ≡ at
+    → Puts l.statement.what u
     → IsAmong (at, u) (things_of s area l before rest)
 thing_here s area at l before rest u ea eo puts =
     let here : is_of area l.area ≡ true = rw ea (eq-eqb area area refl) in
     chosen (is_of area l.area) (at, u) _ here (units_there l _ u at (puts _ _ _ _) eo)
 
-below_here : (s : Source) (d : List LaidName) (names : List (List ℕ)) (area at : ℕ) (c : Contents) (E : ℕ → ℕ) (t : Statement) (ss : List Statement) (u : Emitted)
+below_here : (s : Source) (d : List LaidName) (names : List (List ℕ)) (area at : ℕ) (c : Contents) (E : ℕ → ℕ) (t : Statement) (ss : List Statement)
+    (u : Emitted)
     → TakesWord t.what → Stand d names area c E ss → 4 * E area ≡ at → Puts t.what u → Below s area d (t ∷ ss) (at, u)
 below_here s d names area at c E t ss u w h e puts =
     let here : area_behind (t ∷ statements_of (laid_of d ss)) ≡ Some area = rw (same_statements d ss, w.no_area) h.area in
@@ -149,18 +153,21 @@ module _ (s : Source) (d : List LaidName) (source : List ℕ) (names : List (Lis
 
   steps_stand : (m : ℕ) → Stand d names 0 contents.Code (grown 0 (λ b. 0) (suc m)) (step_statements source 4 m ++ begun source)
   steps_stand zero = begun_stand
-  steps_stand (suc m) = stand_on d names 0 contents.Code (grown 0 (λ b. 0) (suc m)) (stated source (4 + m) (Some (label_of m)) (step_what (m % 256))) _ (step_takes (m % 256)) (steps_stand m)
+  steps_stand (suc m) = stand_on d names 0 contents.Code (grown 0 (λ b. 0) (suc m)) (stated source (4 + m) (Some (label_of m)) (step_what (m % 256))) _
+      (step_takes (m % 256)) (steps_stand m)
 
   step_below : (n k : ℕ) → k < n → Below s 0 d (step_statements source 4 n ++ begun source) (4 * (k + 1), Instruction (add_of (k % 256)) None)
   step_below zero k lt = absurd (omega arith)
   step_below (suc m) k lt = elim (cases_lt k m) [
-    | inl less ↦ below_more s 0 d (stated source (4 + m) (Some (label_of m)) (step_what (m % 256)) ∷ []) (step_statements source 4 m ++ begun source) _ (step_below m k less)
+    | inl less ↦ below_more s 0 d (stated source (4 + m) (Some (label_of m)) (step_what (m % 256)) ∷ []) (step_statements source 4 m ++ begun source) _
+        (step_below m k less)
     | inr above ↦ (
         let same : m ≡ k = omega arith in
         let at : 4 * grown 0 (λ b. 0) (suc m) 0 ≡ 4 * (m + 1) = omega (arith, grown_is 0 (λ b. 0) (suc m)) in
         let P : ℕ → Type 0 = λ x. Below s 0 d (step_statements source 4 (suc m) ++ begun source) (4 * (x + 1), Instruction (add_of (x % 256)) None) in
         subst P same
-        (below_here s d names 0 (4 * (m + 1)) contents.Code (grown 0 (λ b. 0) (suc m)) (stated source (4 + m) (Some (label_of m)) (step_what (m % 256))) _ _ (step_takes (m % 256)) (steps_stand m) at
+        (below_here s d names 0 (4 * (m + 1)) contents.Code (grown 0 (λ b. 0) (suc m)) (stated source (4 + m) (Some (label_of m)) (step_what (m % 256))) _ _
+        (step_takes (m % 256)) (steps_stand m) at
         (step_puts (m % 256) (omega arith))))
   ]
 
@@ -176,20 +183,27 @@ module _ (s : Source) (d : List LaidName) (source : List ℕ) (names : List (Lis
       below_more s 0 d (stated source (n + 5) None leave ∷ stated source (n + 4) None give ∷ []) (step_statements source 4 n ++ begun source)
       (4 * (k + 1), Instruction (add_of (k % 256)) None) (step_below n k lt)
 
-  give_below : (n : ℕ) → Below s 0 d (code_part source n) (4 * (n + 1), Instruction (instr.DataShifted condition.Al operation.Mov false 0 0 0 shift_kind.Lsl 4) None)
+  give_below : (n : ℕ) → Below s 0 d (code_part source n) (
+    4 * (n + 1),
+    Instruction (instr.DataShifted condition.Al operation.Mov false 0 0 0 shift_kind.Lsl 4)
+        None,
+  )
   give_below n =
       let at : 4 * grown 0 (λ b. 0) (suc n) 0 ≡ 4 * (n + 1) = omega (arith, grown_is 0 (λ b. 0) (suc n)) in
       below_more s 0 d (stated source (n + 5) None leave ∷ []) (stated source (n + 4) None give ∷ (step_statements source 4 n ++ begun source))
       (4 * (n + 1), Instruction (instr.DataShifted condition.Al operation.Mov false 0 0 0 shift_kind.Lsl 4) None)
-      (below_here s d names 0 (4 * (n + 1)) contents.Code (grown 0 (λ b. 0) (suc n)) (stated source (n + 4) None give) _ _ give_takes (steps_stand n) at give_puts)
+      (below_here s d names 0 (4 * (n + 1)) contents.Code (grown 0 (λ b. 0) (suc n)) (stated source (n + 4) None give) _ _ give_takes (steps_stand n) at
+      give_puts)
 
   leave_below : (n : ℕ) → Below s 0 d (code_part source n) (4 * (n + 2), Instruction (instr.SoftwareInterrupt condition.Al 17) None)
   leave_below n =
       let at : 4 * grown 0 (λ b. 0) (suc (suc n)) 0 ≡ 4 * (n + 2) = omega (arith, grown_is 0 (λ b. 0) (suc (suc n))) in
       let before = stand_on d names 0 contents.Code (grown 0 (λ b. 0) (suc n)) (stated source (n + 4) None give) _ give_takes (steps_stand n) in
-      below_here s d names 0 (4 * (n + 2)) contents.Code (grown 0 (λ b. 0) (suc (suc n))) (stated source (n + 5) None leave) _ _ leave_takes before at leave_puts
+      below_here s d names 0 (4 * (n + 2)) contents.Code (grown 0 (λ b. 0) (suc (suc n))) (stated source (n + 5) None leave) _ _ leave_takes before at
+      leave_puts
 
-module _ (s : Source) (d : List LaidName) (source : List ℕ) (at : ℕ) (names : List (List ℕ)) (E : ℕ → ℕ) (none : E 1 ≡ 0) (ss : List Statement) (start : Stand d names 1 contents.Data E ss) where
+module _ (s : Source) (d : List LaidName) (source : List ℕ) (at : ℕ) (names : List (List ℕ)) (E : ℕ → ℕ) (none : E 1 ≡ 0) (ss : List Statement)
+    (start : Stand d names 1 contents.Data E ss) where
   data_stand : (m : ℕ) → Stand d names 1 contents.Data (grown 1 E m) (data_statements source at m ++ ss)
   data_stand zero = start
   data_stand (suc m) = stand_on d names 1 contents.Data (grown 1 E m) (stated source (at + m) None (datum_what m)) _ (datum_takes m) (data_stand m)
@@ -203,7 +217,8 @@ module _ (s : Source) (d : List LaidName) (source : List ℕ) (at : ℕ) (names 
         let there : 4 * grown 1 E m 1 ≡ 4 * m = omega (arith, none, grown_is 1 E m) in
         let P : ℕ → Type 0 = λ x. Below s 1 d (data_statements source at (suc m) ++ ss) (4 * x, Word (record { number = x; target = Nothing })) in
         subst P same
-        (below_here s d names 1 (4 * m) contents.Data (grown 1 E m) (stated source (at + m) None (datum_what m)) _ _ (datum_takes m) (data_stand m) there (datum_puts m)))
+        (below_here s d names 1 (4 * m) contents.Data (grown 1 E m) (stated source (at + m) None (datum_what m)) _ _ (datum_takes m) (data_stand m) there
+        (datum_puts m)))
   ]
 
 -- ---- the bytes
@@ -230,12 +245,14 @@ module _ (source : List ℕ) (n : ℕ) where
       stands_in (big_statements source n) 1 p
       (below_more whole 1 declared (stated source (n + n + 7) None (what.Directive line.End) ∷ []) (data_part source n) p h)
 
-  pub code_bytes : (names : List (List ℕ)) (bytes : List ℕ) → Stand declared names 0 contents.Code (λ b. 0) (first_lines source) → HoldsBytes whole 0 bytes → length bytes ≡ 4 * (n + 3)
+  pub code_bytes : (names : List (List ℕ)) (bytes : List ℕ) → Stand declared names 0 contents.Code (λ b. 0) (first_lines source) → HoldsBytes whole 0 bytes
+      → length bytes ≡ 4 * (n + 3)
       → bytes ≡ words_bytes (code_words n)
   code_bytes names bytes start holds size =
       let begin : take 4 (drop 0 bytes) ≡ bytes_of 0xE3A04000 4 = holds.standing _ (code_in _ (clear_below whole declared source names start n)) in
       let give_at : take 4 (drop (4 * (n + 1)) bytes) ≡ bytes_of 0xE1A00004 4 = holds.standing _ (code_in _ (give_below whole declared source names start n)) in
-      let leave_at : take 4 (drop (4 * (n + 2)) bytes) ≡ bytes_of 0xEF000011 4 = holds.standing _ (code_in _ (leave_below whole declared source names start n)) in
+      let leave_at : take 4 (drop (4 * (n + 2)) bytes) ≡ bytes_of 0xEF000011 4 =
+      holds.standing _ (code_in _ (leave_below whole declared source names start n)) in
       let many : length (map step_word (range_with_len 0 n)) ≡ n = length-map-range_with_len step_word 0 n in
       let there : 4 + 4 * length (map step_word (range_with_len 0 n)) ≡ 4 * (n + 1) = omega arith in
       let next : 4 * (n + 1) + 4 ≡ 4 * (n + 2) = omega arith in
@@ -243,7 +260,11 @@ module _ (source : List ℕ) (n : ℕ) where
       let Last : ℕ → Type 0 = λ x. take 4 (drop x bytes) ≡ bytes_of 0xEF000011 4 in
       let ends : WordsAt bytes (4 * (n + 1)) (0xE1A00004 ∷ 0xEF000011 ∷ []) = (give_at, (subst Last (sym next) leave_at, tt)) in
       let all : length bytes ≡ 0 + 4 * length (code_words n) = rw length-append (omega arith) in
-      words_are (code_words n) bytes 0 all (begin, words_joined bytes 4 (map step_word (range_with_len 0 n)) _ (steps n 0 (omega arith)) (subst Ends (sym there) ends))
+      words_are (code_words n) bytes 0 all (
+        begin,
+        words_joined bytes 4 (map step_word (range_with_len 0 n)) _ (steps n 0 (omega arith))
+            (subst Ends (sym there) ends),
+      )
     where
       steps : (j k : ℕ) → k + j ≡ n → WordsAt bytes (4 * (k + 1)) (map step_word (range_with_len k j))
       steps zero k e = tt

@@ -1,4 +1,4 @@
-mod BigLemmas
+pub mod BigLemmas
 mod BytesLemmas
 mod ShapeLemmas
-mod StatementLemmas
+pub mod StatementLemmas

@@ -61,10 +61,22 @@ kept_if true c h = h
 kept_if false c h = refl
 
 step_mute : (v : ℕ) → v < 256 → IsMute (step_what v)
-step_mute v h = record { block = λ s. (4, 4, refl); no_symbols = λ names l a n. refl; bare = λ c d s word. rw (data_small _ _ false 4 4 v h) ((λ s at. refl), tt); kept = λ area l. refl }
+step_mute v h = record {
+  block = λ s. (4, 4, refl);
+  no_symbols = λ names l a n. refl;
+  bare =
+      λ c d s word. rw (data_small _ _ false 4 4 v h) ((λ s at. refl), tt);
+  kept = λ area l. refl;
+}
 
 clear_mute : IsMute clear
-clear_mute = record { block = λ s. (4, 4, refl); no_symbols = λ names l a n. refl; bare = λ c d s word. rw (data_small _ _ false 0 4 0 (omega arith)) ((λ s at. refl), tt); kept = λ area l. refl }
+clear_mute = record {
+  block = λ s. (4, 4, refl);
+  no_symbols = λ names l a n. refl;
+  bare =
+      λ c d s word. rw (data_small _ _ false 0 4 0 (omega arith)) ((λ s at. refl), tt);
+  kept = λ area l. refl;
+}
 
 give_mute : IsMute give
 give_mute = record { block = λ s. (4, 4, refl); no_symbols = λ names l a n. refl; bare = λ c d s word. ((λ s at. refl), tt); kept = λ area l. refl }
@@ -79,10 +91,22 @@ end_mute : IsMute (what.Directive line.End)
 end_mute = record { block = λ s. (1, 0, refl); no_symbols = λ names l a n. refl; bare = λ c d s word. tt; kept = λ area l. refl }
 
 rw_mute : IsMute (area_what (codes "bigrw") contents.Data false)
-rw_mute = record { block = λ s. (1, 0, refl); no_symbols = λ names l a n. refl; bare = λ c d s word. tt; kept = λ area l. kept_if (is_of area l.area) contents.Data refl }
+rw_mute = record {
+  block = λ s. (1, 0, refl);
+  no_symbols = λ names l a n. refl;
+  bare = λ c d s word. tt;
+  kept =
+      λ area l. kept_if (is_of area l.area) contents.Data refl;
+}
 
 code_mute : IsMute (area_what (codes "big") contents.Code true)
-code_mute = record { block = λ s. (1, 0, refl); no_symbols = λ names l a n. refl; bare = λ c d s word. tt; kept = λ area l. kept_if (is_of area l.area) contents.Code refl }
+code_mute = record {
+  block = λ s. (1, 0, refl);
+  no_symbols = λ names l a n. refl;
+  bare = λ c d s word. tt;
+  kept =
+      λ area l. kept_if (is_of area l.area) contents.Code refl;
+}
 
 abbrev entry_extent : Bool → Result Extent LineKind
 entry_extent t = Ok (cond t (Block 2 0) (Block 4 0))
@@ -113,8 +137,17 @@ data_mute source at (suc k) = (datum_mute k, data_mute source at k)
 all_mute : (source : List ℕ) (n : ℕ) → AllMute (big_statements source n)
 all_mute source n = (
   end_mute,
-  joined_mute (data_statements source (n + 7) n) _ (data_mute source (n + 7) n)
-      (rw_mute, (leave_mute, (give_mute, joined_mute (step_statements source 4 n) (begun source) (steps_mute source 4 n) (clear_mute, (entry_mute, (code_mute, tt)))))),
+  joined_mute (data_statements source (n + 7) n) _ (data_mute source (n + 7) n) (
+    rw_mute,
+    (
+      leave_mute,
+      (
+        give_mute,
+        joined_mute (step_statements source 4 n) (begun source) (steps_mute source 4 n)
+            (clear_mute, (entry_mute, (code_mute, tt))),
+      ),
+    ),
+  ),
 )
 
 -- ---- contents
@@ -156,7 +189,8 @@ none_pooled area d (s ∷ ss) h =
     let b = h.0.block (names_behind d s (laid_of d ss)) in
     not_pooled area _ _ b.0 b.1 (pieces_of (laid_of d ss)) b.2 (none_pooled area d ss h.1)
 
-quiet_in : (names : List LaidName) (l : SourceLine) (w : What) (r : Result Extent LineKind) (a n : ℕ) → r ≡ Ok (Block a n) → IsMute w → symbols_in names l (taken r) w ≡ []
+quiet_in : (names : List LaidName) (l : SourceLine) (w : What) (r : Result Extent LineKind) (a n : ℕ) → r ≡ Ok (Block a n) → IsMute w
+    → symbols_in names l (taken r) w ≡ []
 quiet_in names l w r a n e h = rw e (h.no_symbols names l a n)
 
 no_symbols : (names d : List LaidName) (ss : List Statement) → AllMute ss → symbols_of names (laid_of d ss) ≡ []
@@ -178,7 +212,8 @@ among_joined : (p : objects.Piece) (ps qs : List objects.Piece) → IsAmong p (p
 among_joined p [] qs h = inr h
 among_joined p (x ∷ ps) qs h = elim h [ inl e ↦ inl (inl e) | inr more ↦ (elim (among_joined p ps qs more) [ inl a ↦ inl (inr a) | inr b ↦ inr b ]) ]
 
-of_bare : (t : Bool) (s : Source) (at : ℕ) (us : List Emitted) → AreBare us → (p : objects.Piece) → IsAmong p (cond t (units_from at us) []) → relocs_of s p ≡ []
+of_bare : (t : Bool) (s : Source) (at : ℕ) (us : List Emitted) → AreBare us → (p : objects.Piece) → IsAmong p (cond t (units_from at us) [])
+    → relocs_of s p ≡ []
 of_bare true s at us h p k = from_bare s at us h p k
 of_bare false s at us h p k = absurd k
 
@@ -186,7 +221,8 @@ behind_bare : (s : Source) (area : ℕ) (d : List LaidName) (ss : List Statement
     → IsAmong p (things_behind s area (laid_of d ss) rest) → relocs_of s p ≡ []
 behind_bare s area d [] rest h p k = absurd k
 behind_bare s area d (x ∷ ss) rest h p k =
-    elim (among_joined p (things_behind s area (laid_of d ss) (laid_behind d x (laid_of d ss) ∷ rest)) (things_of s area (laid_behind d x (laid_of d ss)) (laid_of d ss) rest) k) [
+    elim (among_joined p (things_behind s area (laid_of d ss) (laid_behind d x (laid_of d ss) ∷ rest))
+    (things_of s area (laid_behind d x (laid_of d ss)) (laid_of d ss) rest) k) [
       | inl a ↦ behind_bare s area d ss (laid_behind d x (laid_of d ss) ∷ rest) h.1 p a
       | inr b ↦ of_bare (is_of area (laid_behind d x (laid_of d ss)).area) s _ _ (h.0.bare _ _ _ _) p b
     ]
@@ -224,8 +260,10 @@ no_area_relocs : (source : List ℕ) (n : ℕ) → AllMute (big_statements sourc
 no_area_relocs source n mute area p k =
     let s = source_of (big_statements source n) in
     let d = declared_names (big_statements source n) in
-    let none = no_pool area (pieces_of (laid (big_statements source n))) (none_pooled area d (big_statements source n) mute) (none_wait area d (big_statements source n) mute) in
-    elim (among_joined p (things_behind s area (laid (big_statements source n)) []) (words_of s area (all_pooled area (pieces_of (laid (big_statements source n))))) k) [
+    let none = no_pool area (pieces_of (laid (big_statements source n))) (none_pooled area d (big_statements source n) mute)
+    (none_wait area d (big_statements source n) mute) in
+    elim (among_joined p (things_behind s area (laid (big_statements source n)) [])
+    (words_of s area (all_pooled area (pieces_of (laid (big_statements source n))))) k) [
       | inl a ↦ behind_bare s area d (big_statements source n) [] mute p a
       | inr b ↦ absurd (let x = rw none at b in x)
     ]
@@ -234,7 +272,8 @@ entry_is : (d : List LaidName) (source : List ℕ) (n : ℕ) → entry_of (laid_
 entry_is d source n =
     entry_on d (stated source (n + n + 7) None (what.Directive line.End) ∷ data_statements source (n + 7) n) _ (refl, data_enter source (n + 7) n)
     ∙ entry_on d
-    (stated source (n + 6) None (area_what (codes "bigrw") contents.Data false) ∷ stated source (n + 5) None leave ∷ stated source (n + 4) None give ∷ step_statements source 4 n)
+    (stated source (n + 6) None (area_what (codes "bigrw") contents.Data false) ∷ stated source (n + 5) None leave ∷ stated source (n + 4) None give
+    ∷ step_statements source 4 n)
     (begun source) (refl, (refl, (refl, steps_enter source 4 n)))
 
 -- ---- attributes
@@ -264,7 +303,8 @@ code_attributes : (d : List LaidName) (source : List ℕ) (n : ℕ) → attribut
 code_attributes d source n =
     kept_attributes 0 false d 8706 (stated source (n + n + 7) None (what.Directive line.End) ∷ data_statements source (n + 7) n) _
     (kept_attributes 0 false d 8706
-    (stated source (n + 6) None (area_what (codes "bigrw") contents.Data false) ∷ stated source (n + 5) None leave ∷ stated source (n + 4) None give ∷ step_statements source 4 n)
+    (stated source (n + 6) None (area_what (codes "bigrw") contents.Data false) ∷ stated source (n + 5) None leave ∷ stated source (n + 4) None give
+    ∷ step_statements source 4 n)
     (begun source) refl)
 
 before_second : (d : List LaidName) (source : List ℕ) (n : ℕ) → attributes_of 1 false (laid_of d (code_part source n)) ≡ None
@@ -275,7 +315,8 @@ before_second d source n =
 says_second : (l : LaidLine) → l.area ≡ Some 1 → says_area 1 l (area_what (codes "bigrw") contents.Data false) false ≡ Some 2
 says_second l e = rw e refl
 
-data_attributes : (d : List LaidName) (source : List ℕ) (n : ℕ) → area_behind (stated source (n + 6) None (area_what (codes "bigrw") contents.Data false) ∷ statements_of (laid_of d (code_part source n))) ≡ Some 1
+data_attributes : (d : List LaidName) (source : List ℕ) (n : ℕ) → area_behind
+    (stated source (n + 6) None (area_what (codes "bigrw") contents.Data false) ∷ statements_of (laid_of d (code_part source n))) ≡ Some 1
     → attributes_of 1 false (laid_of d (big_statements source n)) ≡ Some 2
 data_attributes d source n there =
     kept_attributes 1 false d 2 (stated source (n + n + 7) None (what.Directive line.End) ∷ data_statements source (n + 7) n) _
@@ -292,11 +333,13 @@ holds_kept s area false bytes e h = absurd (cc)
 
 -- ---- the object
 
-same_area : (a : Area) (name : List ℕ) (attributes size : ℕ) (bytes : List ℕ) (relocs : List Reloc) → a.name ≡ name → a.attributes ≡ attributes → a.size ≡ size → a.bytes ≡ bytes → a.relocs ≡ relocs
+same_area : (a : Area) (name : List ℕ) (attributes size : ℕ) (bytes : List ℕ) (relocs : List Reloc) → a.name ≡ name → a.attributes ≡ attributes → a.size ≡ size
+    → a.bytes ≡ bytes → a.relocs ≡ relocs
     → a ≡ record { name = name; attributes = attributes; size = size; bytes = bytes; relocs = relocs }
 same_area a name attributes size bytes relocs en ea es eb er = rw (← en, ← ea, ← es, ← eb, ← er) refl
 
-two_areas : (both : List Area) (a b : Area) → length both ≡ 2 → ((x : Area) → slice_get both 0 ≡ Some x → x ≡ a) → ((x : Area) → slice_get both 1 ≡ Some x → x ≡ b) → both ≡ a ∷ b ∷ []
+two_areas : (both : List Area) (a b : Area) → length both ≡ 2 → ((x : Area) → slice_get both 0 ≡ Some x → x ≡ a)
+    → ((x : Area) → slice_get both 1 ≡ Some x → x ≡ b) → both ≡ a ∷ b ∷ []
 two_areas [] a b e f g = absurd (omega arith)
 two_areas (x ∷ []) a b e f g = absurd (omega arith)
 two_areas (x ∷ y ∷ []) a b e f g = let p = f x refl in let q = g y refl in rw (p, q) refl
@@ -306,14 +349,15 @@ same_object : (o : Object) (areas : List Area) (symbols : List Symbol) (entry : 
     → o ≡ record { areas = areas; symbols = symbols; entry = entry }
 same_object o areas symbols entry ea es ee = rw (← ea, ← es, ← ee) refl
 
-code_is : (source : List ℕ) (n : ℕ) (o : Object) → n ≤ 50000 → IsObject (big_statements source n) o → (a : Area) → slice_get o.areas 0 ≡ Some a → a ≡ code_area n
+code_is : (source : List ℕ) (n : ℕ) (o : Object) → n ≤ 50000 → IsObject (big_statements source n) o → (a : Area) → slice_get o.areas 0 ≡ Some a
+    → a ≡ code_area n
 code_is source n o few h a e =
     let all = big_statements source n in
     let d = declared_names all in
     let mute = all_mute source n in
     let arm = calm_area 0 all (all_calm source n) in
     let laid_out = data_laid d source (register_names all) (settled (equals_in all)) all n arm few in
-    let start = entered d source (register_names all) (settled (equals_in all)) all arm in
+    let start = entered d source (codes "big") (register_names all) (settled (equals_in all)) all refl arm in
     let last : area_behind (statements_of (laid_of d (data_part source n))) ≡ Some 1 = rw (same_statements d (data_part source n)) laid_out.stand.area in
     let end = ends_zero 0 1 _ _ (pieces_of (laid_of d (data_part source n))) _ last refl (laid_out.stand.ends 0) in
     let size = size_is 0 (pieces_of (laid all)) (n + 3) (none_wait 0 d all mute) (end ∙ ap (λ (m : ℕ). 4 * m) (first_words n)) in
@@ -325,7 +369,8 @@ code_is source n o few h a e =
     (x.size ∙ size) (code_bytes source n (codes "big" ∷ []) a.bytes start.stand holds (holds.size ∙ size))
     (no_relocs (source_of all) 0 a.relocs (no_area_relocs source n mute 0) x.relocs)
 
-data_is : (source : List ℕ) (n : ℕ) (o : Object) → n ≤ 50000 → IsObject (big_statements source n) o → (a : Area) → slice_get o.areas 1 ≡ Some a → a ≡ data_area n
+data_is : (source : List ℕ) (n : ℕ) (o : Object) → n ≤ 50000 → IsObject (big_statements source n) o → (a : Area) → slice_get o.areas 1 ≡ Some a
+    → a ≡ data_area n
 data_is source n o few h a e =
     let all = big_statements source n in
     let d = declared_names all in
@@ -334,7 +379,8 @@ data_is source n o few h a e =
     let laid_out = data_laid d source (register_names all) (settled (equals_in all)) all n arm few in
     let code_stand = code_laid d source (register_names all) (settled (equals_in all)) all n arm few in
     let second = second_laid d source (n + 6) (register_names all) (settled (equals_in all)) all (code_ends n) (code_part source n) refl code_stand in
-    let there : area_behind (stated source (n + 6) None (area_what (codes "bigrw") contents.Data false) ∷ statements_of (laid_of d (code_part source n))) ≡ Some 1 =
+    let there : area_behind (stated source (n + 6) None (area_what (codes "bigrw") contents.Data false) ∷ statements_of (laid_of d (code_part source n))) ≡ Some
+    1 =
     second_at d source (n + 6) (code_part source n) code_stand.stand.areas in
     let last : area_behind (statements_of (laid_of d (data_part source n))) ≡ Some 1 = rw (same_statements d (data_part source n)) laid_out.stand.area in
     let end = ends_zero 1 1 _ _ (pieces_of (laid_of d (data_part source n))) _ last refl (laid_out.stand.ends 1) in
@@ -343,7 +389,8 @@ data_is source n o few h a e =
     let holds = holds_kept (source_of all) 1 (is_kept (contents_of 1 (laid all))) a.bytes (all_kept 1 d all mute) x.bytes in
     same_area a (codes "bigrw") 2 (4 * n) (words_bytes (data_words n)) []
     (same_Some _ _ (sym x.name ∙ ap (λ (ns : List (List ℕ)). slice_get ns 1) laid_out.stand.areas))
-    (same_Some _ _ (sym x.attributes ∙ ap (λ (t : Bool). attributes_of 1 t (laid all)) (calm_area 1 all (all_calm source n)) ∙ data_attributes d source n there))
+    (same_Some _ _ (sym x.attributes ∙ ap (λ (t : Bool). attributes_of 1 t (laid all)) (calm_area 1 all (all_calm source n))
+    ∙ data_attributes d source n there))
     (x.size ∙ size) (data_bytes source n (codes "big" ∷ codes "bigrw" ∷ []) (code_ends n) a.bytes refl second.stand holds (holds.size ∙ size))
     (no_relocs (source_of all) 1 a.relocs (no_area_relocs source n mute 1) x.relocs)
 

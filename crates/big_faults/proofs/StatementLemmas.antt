@@ -18,7 +18,8 @@ use Rattle.word_source.specs.Words.{IsCalm, TakesWord}
 
 -- ---- small numbers
 
-pub data_small : (c : Condition) (o : Operation) (f : Bool) (rn rd v : ℕ) → v < 256 → data_immediate c o f rn rd v ≡ Ok (instr.DataImmediate c o f rn rd 0 (rotated v 0))
+pub data_small : (c : Condition) (o : Operation) (f : Bool) (rn rd v : ℕ) → v < 256
+    → data_immediate c o f rn rd v ≡ Ok (instr.DataImmediate c o f rn rd 0 (rotated v 0))
 unfolding data_immediate immediate
 data_small c o f rn rd v h =
     let e : nat_lt (rotated v 0) 256 ≡ true = rw (rotated-none v) (lt-ltb v 256 h) in
@@ -68,16 +69,106 @@ entry_calm = record { block = λ s. entry_block s.thumb; no_kinds = λ c data_na
 -- ---- words
 
 pub step_takes : (v : ℕ) → TakesWord (step_what v)
-step_takes v = record { extent = λ s. refl; aligns = λ t l. refl; state = λ t. refl; no_area = refl; again = λ n s a t r. refl; contents = λ o. refl; labelled = λ n. refl; imports = refl; no_map = λ s. refl; names_none = λ s b. refl; registers = λ n s k. refl; operands = λ k. refl; no_entry = refl; no_thumb = refl; good = refl; small = refl }
+step_takes v = record {
+  extent = λ s. refl;
+  aligns = λ t l. refl;
+  state = λ t. refl;
+  no_area = refl;
+  again = λ n s a t r. refl;
+  contents = λ o. refl;
+  labelled = λ n. refl;
+  imports = refl;
+  no_map = λ s. refl;
+  names_none = λ s b. refl;
+  registers = λ n s k. refl;
+  operands = λ k. refl;
+  no_entry =
+      refl;
+  no_thumb = refl;
+  good = refl;
+  small = refl;
+}
 
 pub clear_takes : TakesWord clear
-clear_takes = record { extent = λ s. refl; aligns = λ t l. refl; state = λ t. refl; no_area = refl; again = λ n s a t r. refl; contents = λ o. refl; labelled = λ n. refl; imports = refl; no_map = λ s. refl; names_none = λ s b. refl; registers = λ n s k. refl; operands = λ k. refl; no_entry = refl; no_thumb = refl; good = refl; small = refl }
+clear_takes = record {
+  extent = λ s. refl;
+  aligns = λ t l. refl;
+  state = λ t. refl;
+  no_area = refl;
+  again = λ n s a t r. refl;
+  contents = λ o. refl;
+  labelled = λ n. refl;
+  imports = refl;
+  no_map = λ s. refl;
+  names_none = λ s b. refl;
+  registers = λ n s k. refl;
+  operands = λ k. refl;
+  no_entry =
+      refl;
+  no_thumb = refl;
+  good = refl;
+  small = refl;
+}
 
 pub give_takes : TakesWord give
-give_takes = record { extent = λ s. refl; aligns = λ t l. refl; state = λ t. refl; no_area = refl; again = λ n s a t r. refl; contents = λ o. refl; labelled = λ n. refl; imports = refl; no_map = λ s. refl; names_none = λ s b. refl; registers = λ n s k. refl; operands = λ k. refl; no_entry = refl; no_thumb = refl; good = refl; small = refl }
+give_takes = record {
+  extent = λ s. refl;
+  aligns = λ t l. refl;
+  state = λ t. refl;
+  no_area = refl;
+  again = λ n s a t r. refl;
+  contents = λ o. refl;
+  labelled = λ n. refl;
+  imports = refl;
+  no_map = λ s. refl;
+  names_none = λ s b. refl;
+  registers = λ n s k. refl;
+  operands = λ k. refl;
+  no_entry =
+      refl;
+  no_thumb = refl;
+  good = refl;
+  small = refl;
+}
 
 pub leave_takes : TakesWord leave
-leave_takes = record { extent = λ s. refl; aligns = λ t l. refl; state = λ t. refl; no_area = refl; again = λ n s a t r. refl; contents = λ o. refl; labelled = λ n. refl; imports = refl; no_map = λ s. refl; names_none = λ s b. refl; registers = λ n s k. refl; operands = λ k. refl; no_entry = refl; no_thumb = refl; good = refl; small = refl }
+leave_takes = record {
+  extent = λ s. refl;
+  aligns = λ t l. refl;
+  state = λ t. refl;
+  no_area = refl;
+  again = λ n s a t r. refl;
+  contents = λ o. refl;
+  labelled = λ n. refl;
+  imports = refl;
+  no_map = λ s. refl;
+  names_none = λ s b. refl;
+  registers = λ n s k. refl;
+  operands = λ k. refl;
+  no_entry =
+      refl;
+  no_thumb = refl;
+  good = refl;
+  small = refl;
+}
 
 pub datum_takes : (k : ℕ) → TakesWord (datum_what k)
-datum_takes k = record { extent = λ s. refl; aligns = λ t l. refl; state = λ t. refl; no_area = refl; again = λ n s a t r. refl; contents = λ o. refl; labelled = λ n. refl; imports = refl; no_map = λ s. refl; names_none = λ s b. refl; registers = λ n s k. refl; operands = λ k. refl; no_entry = refl; no_thumb = refl; good = refl; small = refl }
+datum_takes k = record {
+  extent = λ s. refl;
+  aligns = λ t l. refl;
+  state = λ t. refl;
+  no_area = refl;
+  again = λ n s a t r. refl;
+  contents = λ o. refl;
+  labelled = λ n. refl;
+  imports = refl;
+  no_map = λ s. refl;
+  names_none = λ s b. refl;
+  registers = λ n s k. refl;
+  operands = λ k. refl;
+  no_entry =
+      refl;
+  no_thumb = refl;
+  good = refl;
+  small = refl;
+}

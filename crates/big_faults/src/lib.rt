@@ -1,4 +1,6 @@
-//! What layout and values find in the statements of a generated source. There is no engine.
+//! Laws: the statements of the source that `make-big` makes have no fault of layout and none of values, and their
+//! object is that of the program's words. This project's; there is no engine. `sdt_toolkit` calls them so that
+//! `make-big` is done for each count.
 #![tactic(auto)]
 
 ghost use Rattle.big_faults.specs.Big.{BigHasNoFault, BigHasObject};

@@ -29,10 +29,13 @@ parts_joined n =
     let second = spelled_joined words (codes " END" ∷ []) in
     let begin : List ℕ = codes " AREA big, CODE, READONLY\n ENTRY\n MOV r4,#0\n" in
     let middle : List ℕ = codes " MOV r0,r4\n SWI 0x11\n AREA bigrw, DATA, READWRITE\n" in
-    let right : (((begin ++ spelled steps) ++ middle) ++ spelled words) ++ codes " END\n" ≡ begin ++ (spelled steps ++ (middle ++ (spelled words ++ codes " END\n"))) = simp append_assoc in
+    let right : (((begin ++ spelled steps) ++ middle) ++ spelled words) ++ codes " END\n" ≡ begin
+    ++ (spelled steps ++ (middle ++ (spelled words ++ codes " END\n"))) = simp append_assoc in
     right ∙ ap (λ (t : List ℕ). begin ++ (spelled steps ++ (middle ++ t))) (sym second) ∙ ap (λ (t : List ℕ). begin ++ t) (sym first)
 
 -- the same, by what a buffer holds behind each part
-pub in_parts : (n : ℕ) (a b c d e f r : List ℕ) → a ≡ [] → b ≡ a ++ codes " AREA big, CODE, READONLY\n ENTRY\n MOV r4,#0\n" → c ≡ b ++ spelled (map step_line (range_with_len 0 n))
-    → d ≡ c ++ codes " MOV r0,r4\n SWI 0x11\n AREA bigrw, DATA, READWRITE\n" → e ≡ d ++ spelled (map data_line (range_with_len 0 n)) → f ≡ e ++ codes " END\n" → r ≡ f → r ≡ big_text n
+pub in_parts : (n : ℕ) (a b c d e f r : List ℕ) → a ≡ [] → b ≡ a ++ codes " AREA big, CODE, READONLY\n ENTRY\n MOV r4,#0\n" → c ≡ b
+    ++ spelled (map step_line (range_with_len 0 n))
+    → d ≡ c ++ codes " MOV r0,r4\n SWI 0x11\n AREA bigrw, DATA, READWRITE\n" → e ≡ d ++ spelled (map data_line (range_with_len 0 n)) → f ≡ e ++ codes " END\n"
+    → r ≡ f → r ≡ big_text n
 in_parts n a b c d e f r ha hb hc hd he hf hr = rw (hr, hf, he, hd, hc, hb, ha) (parts_joined n)

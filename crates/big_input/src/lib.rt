@@ -1,4 +1,6 @@
-//! The source that `make-big` makes, as a text, the store that it is assembled over, and the sink of its run.
+//! The text of the source that `make-big` makes, the store that it is assembled over, which has no files, and the sink
+//! of its run, which takes each text. This project's. `sdt_toolkit` calls `big_source`, and hands `NoFiles` and
+//! `NoText` on.
 #![tactic(auto)]
 
 ghost use Rattle.std.specs.Prelude.{◌≡◌, ◌++◌, codes, map, OnOk, IfOk};

@@ -3,6 +3,7 @@ use Rattle.std.proofs.Common.{◌≡◌, ℕ, suc, ◌+◌, ◌-◌, ◌^◌, �
 use Rattle.std.specs.Prelude.{◌||◌, Ok}
 use Rattle.std.specs.Fmt.{decimal}
 use Rattle.std.proofs.lemmas.List.{take_all, drop_all}
+use Rattle.asm_model.specs.declared.directives.DataItem.TheVariants.{Word}
 use Rattle.asm_model.specs.declared.directives.Directive.TheVariants as directive
 use Rattle.asm_model.specs.declared.directives.DirectiveLine.TheVariants as line
 use Rattle.asm_model.specs.declared.exprs.ExprItem.TheVariants as item
@@ -34,13 +35,19 @@ last_number ds place h =
     (length ds, omega arith, refl, number_longest ds h, rw (drop_all (length ds) ds (omega arith)) (search rules))
 
 data_tokens : (ds : List ℕ) → AreDigits ds
-    → Tokens (32 ∷ 68 ∷ 67 ∷ 68 ∷ 32 ∷ ds) (record { kind = kind.Name; start = 1; end = 4 } ∷ record { kind = kind.Number; start = 5; end = 5 + length ds } ∷ [])
-data_tokens ds h =
-    (3, refl, refl, longest_is kind.Name 3 (68 ∷ 67 ∷ 68 ∷ 32 ∷ ds) (letter_best_of _ 68 (67 ∷ 68 ∷ 32 ∷ ds) 3 refl refl refl) (omega arith), last_number ds 4 h)
+    → Tokens (32 ∷ 68 ∷ 67 ∷ 68 ∷ 32 ∷ ds) (record { kind = kind.Name; start = 1; end = 4 } ∷ record { kind = kind.Number; start = 5; end = 5 + length ds }
+    ∷ [])
+data_tokens ds h = (
+  3,
+  refl,
+  refl,
+  longest_is kind.Name 3 (68 ∷ 67 ∷ 68 ∷ 32 ∷ ds) (letter_best_of _ 68 (67 ∷ 68 ∷ 32 ∷ ds) 3 refl refl refl) (omega arith),
+  last_number ds 4 h,
+)
 
 -- ---- the line
 
-word_named : directive_named (68 ∷ 67 ∷ 68 ∷ []) ≡ Some directive.Dcd
+word_named : directive_named (68 ∷ 67 ∷ 68 ∷ []) ≡ Some (directive.Constants Word)
 unfolding directive_named named_data
 word_named = refl
 
@@ -53,9 +60,9 @@ behind n = record { kind = kind.Number; start = 5; end = 5 + n }
 data_says : (name : List ℕ) (number k : ℕ) (ds : List ℕ) → k < 2 ^ 32 → IsDecimal k ds
     → SaysBy false (flat name number (32 ∷ 68 ∷ 67 ∷ 68 ∷ 32 ∷ ds)) (Ok (Some (stated name number None (datum_what k))))
 data_says name number k ds small d =
-    by_directive name number (32 ∷ 68 ∷ 67 ∷ 68 ∷ 32 ∷ ds) (dcd ∷ behind (length ds) ∷ []) (datum_what k) (data_tokens ds d.are)
+    by_directive name number (32 ∷ 68 ∷ 67 ∷ 68 ∷ 32 ∷ ds) (dcd ∷ behind (length ds) ∷ []) None (datum_what k) (data_tokens ds d.are)
     (rw word_named (
-      Ok (line.Dcd (constant k ∷ [])),
+      Ok (line.Constants Word (constant k ∷ [])),
       (Ok (constant k ∷ []), rw alone (Ok (constant k), Ok [], one_number (32 ∷ 68 ∷ 67 ∷ 68 ∷ 32 ∷ ds) (behind (length ds)) k part, refl, refl), refl),
       refl,
     ))
@@ -83,7 +90,8 @@ data_is_line name number k h =
       state = refl;
       not_local = refl;
       names_none = λ t. refl;
-      plain = by_operation_word false (data_line k) (dcd ∷ behind (length (decimal k)) ∷ []) (68 ∷ 67 ∷ 68 ∷ []) (data_tokens (decimal k) d.are) refl no_word refl refl
+      plain = by_operation_word false (data_line k) (dcd ∷ behind (length (decimal k)) ∷ []) (68 ∷ 67 ∷ 68 ∷ []) (data_tokens (decimal k) d.are) refl no_word
+          refl refl
           (any_alone (λ c. c == 36) no_dollar (decimal k) d.are.all) (omega arith);
       clean = any_alone (λ c. c == 10 || c == 13) no_end (decimal k) d.are.all;
       short = omega arith;

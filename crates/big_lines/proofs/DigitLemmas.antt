@@ -39,14 +39,16 @@ pub decimal_is : (n : ℕ) → n < 2 ^ 64 → IsDecimal n (decimal n)
 decimal_is n h = decimal_by_steps IsDecimal one more n h
   where
     one : (n : ℕ) → n < 10 → IsDecimal n ((48 + n) ∷ [])
-    one n h = record { are = record { all = and_from (is_digit (48 + n)) true (digit_is n h) refl; some = omega arith }; value = omega (arith, digit_means n h) }
+    one n h =
+        record { are = record { all = and_from (is_digit (48 + n)) true (digit_is n h) refl; some = omega arith }; value = omega (arith, digit_means n h) }
 
     more : (n : ℕ) (ds : List ℕ) → 10 ≤ n → IsDecimal (n / 10) ds → IsDecimal n (ds ++ ((48 + n % 10) ∷ []))
     more n ds h d =
         let lt : n % 10 < 10 = omega arith in
         record {
           are = record {
-            all = list_all-append is_digit ds ((48 + n % 10) ∷ []) ∙ and_from _ _ d.are.all (and_from (is_digit (48 + n % 10)) true (digit_is (n % 10) lt) refl);
+            all =
+                list_all-append is_digit ds ((48 + n % 10) ∷ []) ∙ and_from _ _ d.are.all (and_from (is_digit (48 + n % 10)) true (digit_is (n % 10) lt) refl);
             some = rw length-append (omega (arith, d.are.some));
           };
           value = fold_push (λ m c. 10 * m + digit_value c) 0 ds (48 + n % 10) ∙ omega (arith, d.value, digit_means (n % 10) lt);
@@ -117,7 +119,8 @@ digits_no sign more (c ∷ cs) h e =
 
 -- ---- none of them is such a byte
 
-pub any_joined : (p : ℕ → Bool) → ((c : ℕ) → is_digit c ≡ true → p c ≡ false) → (ds rest : List ℕ) → list_all is_digit ds ≡ true → list_any p (ds ++ rest) ≡ list_any p rest
+pub any_joined : (p : ℕ → Bool) → ((c : ℕ) → is_digit c ≡ true → p c ≡ false) → (ds rest : List ℕ) → list_all is_digit ds ≡ true
+    → list_any p (ds ++ rest) ≡ list_any p rest
 any_joined p none [] rest h = refl
 any_joined p none (c ∷ cs) rest h =
     let q = and_parts (is_digit c) (list_all is_digit cs) h in

@@ -15,7 +15,7 @@ use Rattle.asm_model.specs.Operands.{depth_behind}
 use Rattle.asm_model.specs.Registers.{register_named, numbered_register, special_register, call_register}
 use Rattle.asm_model.specs.Tokens.{Tokens}
 use Rattle.asm_arm.specs.declared.operands.Second.TheVariants as second
-use Rattle.asm_arm.specs.Words.{operation_named, data_named, multiply_named, long_named, moving_named, other_named, float_named, data_stem, condition_named, flags_suffix, multiply_stem, long_stem, transfer_named, block_named, swap_named, transfer_stem, block_stem, swap_stem, plain_named, plain_stem}
+use Rattle.asm_arm.specs.Mnemonics.{operation_named, data_named, multiply_named, long_named, moving_named, other_named, float_named, data_stem, condition_named, flags_suffix, multiply_stem, long_stem, transfer_named, block_named, swap_named, transfer_stem, block_stem, swap_stem, plain_named, plain_stem}
 use Rattle.asm_lines.specs.Lengths.{best_of}
 use Rattle.expand_model.specs.Operations.{operation_of, structure_word, variable_word}
 use Rattle.big_model.specs.Statements.{constant, stated, attributes, area_what, clear, give, leave}
@@ -60,10 +60,12 @@ code_are = (
 )
 
 pub code_line : Line false (codes " AREA big, CODE, READONLY") (area_what (codes "big") contents.Code true)
-unfolding directive_named named_data named_symbol named_report named_variable named_structure depth_behind attribute_named is_repeated is_contradicting operation_of structure_word variable_word
+unfolding directive_named named_data named_symbol named_report named_variable named_structure depth_behind attribute_named is_repeated is_contradicting
+    operation_of structure_word variable_word
 code_line name number = record {
-  says = by_directive name number (codes " AREA big, CODE, READONLY") code_tokens (area_what (codes "big") contents.Code true) code_are
-      (Ok (line.Area (codes "big") (attributes contents.Code true)), (Ok [], (Ok None, Ok [], refl, (Ok None, Ok [], refl, refl, refl), refl), refl), refl) refl;
+  says = by_directive name number (codes " AREA big, CODE, READONLY") code_tokens None (area_what (codes "big") contents.Code true) code_are
+      (Ok (line.Area (codes "big") (attributes contents.Code true)), (Ok [], (Ok None, Ok [], refl, (Ok None, Ok [], refl, refl, refl), refl), refl), refl)
+      refl;
   state = refl;
   not_local = refl;
   names_none = λ t. refl;
@@ -106,10 +108,12 @@ data_are = (
 )
 
 pub data_line : Line false (codes " AREA bigrw, DATA, READWRITE") (area_what (codes "bigrw") contents.Data false)
-unfolding directive_named named_data named_symbol named_report named_variable named_structure depth_behind attribute_named is_repeated is_contradicting operation_of structure_word variable_word
+unfolding directive_named named_data named_symbol named_report named_variable named_structure depth_behind attribute_named is_repeated is_contradicting
+    operation_of structure_word variable_word
 data_line name number = record {
-  says = by_directive name number (codes " AREA bigrw, DATA, READWRITE") data_tokens (area_what (codes "bigrw") contents.Data false) data_are
-      (Ok (line.Area (codes "bigrw") (attributes contents.Data false)), (Ok [], (Ok None, Ok [], refl, (Ok None, Ok [], refl, refl, refl), refl), refl), refl) refl;
+  says = by_directive name number (codes " AREA bigrw, DATA, READWRITE") data_tokens None (area_what (codes "bigrw") contents.Data false) data_are
+      (Ok (line.Area (codes "bigrw") (attributes contents.Data false)), (Ok [], (Ok None, Ok [], refl, (Ok None, Ok [], refl, refl, refl), refl), refl), refl)
+      refl;
   state = refl;
   not_local = refl;
   names_none = λ t. refl;
@@ -127,7 +131,7 @@ entry_are = (5, refl, refl, longest_is kind.Name 5 _ refl (omega arith), refl)
 pub entry_line : Line false (codes " ENTRY") (what.Directive line.Entry)
 unfolding directive_named named_data named_symbol named_report named_variable named_structure operation_of structure_word variable_word
 entry_line name number = record {
-  says = by_directive name number (codes " ENTRY") (token kind.Name 1 6 ∷ []) (what.Directive line.Entry) entry_are (Ok line.Entry, refl, refl) refl;
+  says = by_directive name number (codes " ENTRY") (token kind.Name 1 6 ∷ []) None (what.Directive line.Entry) entry_are (Ok line.Entry, refl, refl) refl;
   state = refl;
   not_local = refl;
   names_none = λ t. refl;
@@ -143,7 +147,7 @@ end_are = (3, refl, refl, longest_is kind.Name 3 _ refl (omega arith), refl)
 pub end_line : Line true (codes " END") (what.Directive line.End)
 unfolding directive_named named_data named_symbol named_report named_variable named_structure operation_of structure_word variable_word
 end_line name number = record {
-  says = by_directive name number (codes " END") (token kind.Name 1 4 ∷ []) (what.Directive line.End) end_are (Ok line.End, refl, refl) refl;
+  says = by_directive name number (codes " END") (token kind.Name 1 4 ∷ []) None (what.Directive line.End) end_are (Ok line.End, refl, refl) refl;
   state = refl;
   not_local = refl;
   names_none = λ t. refl;
@@ -186,7 +190,9 @@ clear_are = (
 )
 
 pub clear_line : Line false (codes " MOV r4,#0") clear
-unfolding directive_named named_data named_symbol named_report named_variable named_structure operation_named data_named multiply_named long_named moving_named other_named float_named data_stem condition_named flags_suffix multiply_stem long_stem transfer_named block_named swap_named transfer_stem block_stem swap_stem plain_named plain_stem depth_behind register_named numbered_register special_register call_register operation_of structure_word variable_word
+unfolding directive_named named_data named_symbol named_report named_variable named_structure operation_named data_named multiply_named long_named moving_named
+    other_named float_named data_stem condition_named flags_suffix multiply_stem long_stem transfer_named block_named swap_named transfer_stem block_stem
+    swap_stem plain_named plain_stem depth_behind register_named numbered_register special_register call_register operation_of structure_word variable_word
 clear_line name number = record {
   says = by_operation name number (codes " MOV r4,#0") clear_tokens None clear clear_are refl
       (Ok clear, (Ok (second.Number (constant 0)), (Ok (constant 0), one_number (codes " MOV r4,#0") (token kind.Number 9 10) 0 refl, refl), refl), refl) refl;
@@ -220,7 +226,9 @@ give_are = (
 )
 
 pub give_line : Line false (codes " MOV r0,r4") give
-unfolding directive_named named_data named_symbol named_report named_variable named_structure operation_named data_named multiply_named long_named moving_named other_named float_named data_stem condition_named flags_suffix multiply_stem long_stem transfer_named block_named swap_named transfer_stem block_stem swap_stem plain_named plain_stem depth_behind register_named numbered_register special_register call_register operation_of structure_word variable_word
+unfolding directive_named named_data named_symbol named_report named_variable named_structure operation_named data_named multiply_named long_named moving_named
+    other_named float_named data_stem condition_named flags_suffix multiply_stem long_stem transfer_named block_named swap_named transfer_stem block_stem
+    swap_stem plain_named plain_stem depth_behind register_named numbered_register special_register call_register operation_of structure_word variable_word
 give_line name number = record {
   says = by_operation name number (codes " MOV r0,r4") give_tokens None give give_are refl
       (Ok give, (Ok (second.Shifted (register_is.Number 4) shift.Unshifted), refl, refl), refl) refl;
@@ -242,7 +250,9 @@ unfolding best_of
 leave_are = (3, refl, refl, longest_is kind.Name 3 _ refl (omega arith), (4, refl, refl, longest_is kind.Number 4 _ refl (omega arith), refl))
 
 pub leave_line : Line false (codes " SWI 0x11") leave
-unfolding directive_named named_data named_symbol named_report named_variable named_structure operation_named data_named multiply_named long_named moving_named other_named float_named data_stem condition_named flags_suffix multiply_stem long_stem transfer_named block_named swap_named transfer_stem block_stem swap_stem plain_named plain_stem depth_behind register_named numbered_register special_register call_register operation_of structure_word variable_word
+unfolding directive_named named_data named_symbol named_report named_variable named_structure operation_named data_named multiply_named long_named moving_named
+    other_named float_named data_stem condition_named flags_suffix multiply_stem long_stem transfer_named block_named swap_named transfer_stem block_stem
+    swap_stem plain_named plain_stem depth_behind register_named numbered_register special_register call_register operation_of structure_word variable_word
 leave_line name number = record {
   says = by_operation name number (codes " SWI 0x11") leave_tokens None leave leave_are refl
       (Ok leave, (Ok (constant 17), one_number (codes " SWI 0x11") (token kind.Number 5 9) 17 refl, refl), refl) refl;

@@ -1,7 +1,8 @@
 mod DataLemmas
-mod DigitLemmas
+pub mod DigitLemmas
 mod FixedLemmas
-mod SayLemmas
+pub mod RowLemmas
+pub mod SayLemmas
 mod StepLemmas
-mod TextLemmas
+pub mod TextLemmas
 mod WholeLemmas

@@ -43,7 +43,7 @@ pub record IsLine (ends : Bool) (f : Flat) (s : Statement) : Type 0 where
   pub names_none : (t : Targets) → named_what t s.what ≡ s.what
   pub plain : IsPlain ends f.text
   pub clean : IsClean f.text
-  pub short : length f.text ≤ 40
+  pub short : length f.text ≤ 80
 
 -- ---- an expression of one number
 
@@ -60,11 +60,11 @@ one_operand text t e = cond-false (same (piece text t) (44 ∷ [])) _ _ e
 
 -- ---- a directive, and another operation
 
-pub by_directive : (name : List ℕ) (number : ℕ) (text : List ℕ) (ts : List Token) (w : What) → Tokens text ts
-    → SaysDirective (flat name number text) ts (Ok (Some (stated name number None w))) → list_any is_long ts ≡ false
-    → SaysBy false (flat name number text) (Ok (Some (stated name number None w)))
-by_directive name number text ts w tokens says short =
-    (Some ts, tokens, (Ok (Some (stated name number None w)), (Ok (Some (stated name number None w)), says, refl), rw short refl))
+pub by_directive : (name : List ℕ) (number : ℕ) (text : List ℕ) (ts : List Token) (label : Option (List ℕ)) (w : What) → Tokens text ts
+    → SaysDirective (flat name number text) ts (Ok (Some (stated name number label w))) → list_any is_long ts ≡ false
+    → SaysBy false (flat name number text) (Ok (Some (stated name number label w)))
+by_directive name number text ts label w tokens says short =
+    (Some ts, tokens, (Ok (Some (stated name number label w)), (Ok (Some (stated name number label w)), says, refl), rw short refl))
 
 pub by_operation : (name : List ℕ) (number : ℕ) (text : List ℕ) (ts : List Token) (label : Option (List ℕ)) (w : What) → Tokens text ts
     → SaysDirective (flat name number text) ts (Ok None)
@@ -76,7 +76,7 @@ by_operation name number text ts label w tokens none says short =
 -- ---- a line is itself behind expansion, by its operation
 
 pub by_operation_word : (ends : Bool) (text : List ℕ) (ts : List Token) (word : List ℕ) → Tokens text ts → maybe_piece text (sentence ts).operation ≡ word
-    → operation_of word ≡ None → is_equ word ≡ false → is_called (codes "END") word ≡ ends → has_dollar text ≡ false → length text ≤ 40
+    → operation_of word ≡ None → is_equ word ≡ false → is_called (codes "END") word ≡ ends → has_dollar text ≡ false → length text ≤ 80
     → IsPlain ends text
 by_operation_word ends text ts word tokens e none not_equ end dollar short =
     let w : (words_of text).operation ≡ word = (words_are_tokens text ts tokens).1 ∙ e in

@@ -24,8 +24,8 @@ use Rattle.asm_model.specs.Tokens.{Tokens, TokensFrom, is_long}
 use Rattle.asm_lines.specs.Lengths.{best_of}
 use Rattle.asm_lines.proofs.FirstLemmas.{letter_best_of}
 use Rattle.asm_arm.specs.declared.operands.Second.TheVariants as second
-use Rattle.asm_arm.specs.declared.words.Mnemonic.TheVariants as mnemonic
-use Rattle.asm_arm.specs.Words.{operation_named, data_named, data_stem, condition_named, flags_suffix}
+use Rattle.asm_arm.specs.declared.mnemonics.Mnemonic.TheVariants as mnemonic
+use Rattle.asm_arm.specs.Mnemonics.{operation_named, data_named, data_stem, condition_named, flags_suffix}
 use Rattle.asm_reading.specs.Says.{SaysBy, ReadsArm}
 use Rattle.expand_model.specs.Operations.{operation_of, structure_word, variable_word}
 use Rattle.big_model.specs.Sources.{step_line, label_of}
@@ -35,7 +35,8 @@ use Rattle.big_lines.proofs.SayLemmas.{IsLine, flat, token, one_number, by_opera
 
 -- ---- pieces
 
-pub piece_from : (text tail : List ℕ) (k : TokenKind) (p i j : ℕ) → drop p text ≡ tail → piece text (record { kind = k; start = p + i; end = p + j }) ≡ take (j - i) (drop i tail)
+pub piece_from : (text tail : List ℕ) (k : TokenKind) (p i j : ℕ) → drop p text ≡ tail
+    → piece text (record { kind = k; start = p + i; end = p + j }) ≡ take (j - i) (drop i tail)
 piece_from text tail k p i j e =
     let width : (p + j) - (p + i) ≡ j - i = omega arith in
     let moved : drop (p + i) text ≡ drop i (drop p text) = search (drop-drop) in
@@ -171,7 +172,8 @@ tokens_are ds es h d =
       suc (length ds),
       refl,
       omega arith,
-      longest_is kind.Name (suc (length ds)) (line_text ds es) (letter_best_of (line_text ds es) 102 (ds ++ tail_text es) (suc (length ds)) refl refl run) (omega arith),
+      longest_is kind.Name (suc (length ds)) (line_text ds es) (letter_best_of (line_text ds es) 102 (ds ++ tail_text es) (suc (length ds)) refl refl run)
+          (omega arith),
       rw (tail_at ds es) (sum_tail (suc (length ds)) es d),
     )
 
@@ -226,15 +228,18 @@ step_is_line name number k h =
     let d = decimal_is (k % 256) (omega arith) in
     let few = few_digits k h in
     let few_too = few_digits (k % 256) (omega arith) in
-    let short : length (step_line k) ≤ 40 = rw length-append (omega arith) in
+    let short : length (step_line k) ≤ 80 = rw length-append (omega arith) in
     record {
       says = step_says name number (k % 256) (decimal k) (decimal (k % 256)) ds (omega arith) (omega arith) d;
       state = refl;
       not_local = refl;
       names_none = λ t. refl;
-      plain = by_operation_word false (step_line k) (line_tokens (decimal k) (decimal (k % 256))) (65 ∷ 68 ∷ 68 ∷ []) (tokens_are (decimal k) (decimal (k % 256)) ds d.are)
+      plain = by_operation_word false (step_line k) (line_tokens (decimal k) (decimal (k % 256))) (65 ∷ 68 ∷ 68 ∷ [])
+          (tokens_are (decimal k) (decimal (k % 256)) ds d.are)
           (operation_piece (decimal k) (decimal (k % 256))) no_word refl refl
-          (any_joined (λ c. c == 36) no_dollar (decimal k) (tail_text (decimal (k % 256))) ds.all ∙ any_alone (λ c. c == 36) no_dollar (decimal (k % 256)) d.are.all) short;
-      clean = any_joined (λ c. c == 10 || c == 13) no_end (decimal k) (tail_text (decimal (k % 256))) ds.all ∙ any_alone (λ c. c == 10 || c == 13) no_end (decimal (k % 256)) d.are.all;
+          (any_joined (λ c. c == 36) no_dollar (decimal k) (tail_text (decimal (k % 256))) ds.all
+          ∙ any_alone (λ c. c == 36) no_dollar (decimal (k % 256)) d.are.all) short;
+      clean = any_joined (λ c. c == 10 || c == 13) no_end (decimal k) (tail_text (decimal (k % 256))) ds.all
+          ∙ any_alone (λ c. c == 10 || c == 13) no_end (decimal (k % 256)) d.are.all;
       short = short;
     }

@@ -52,7 +52,8 @@ line_first l rest h =
     let two : drop (length l + 1) (l ++ (10 ∷ rest)) ≡ drop 1 (drop (length l) (l ++ (10 ∷ rest))) = search (drop-drop) in
     let back : drop (length l) (l ++ (10 ∷ rest)) ≡ 10 ∷ rest = drop_at l (10 ∷ rest) (length l) refl in
     let behind : drop (length l + 1) (l ++ (10 ∷ rest)) ≡ rest = two ∙ ap (drop 1) back in
-    lines_first (l ++ (10 ∷ rest)) (length l) (position_is l rest h) ∙ ap (λ (x : List ℕ). strip_carriage_return x ∷ lines (drop (length l + 1) (l ++ (10 ∷ rest)))) front
+    lines_first (l ++ (10 ∷ rest)) (length l) (position_is l rest h) ∙ ap (λ (x : List ℕ). strip_carriage_return x
+    ∷ lines (drop (length l + 1) (l ++ (10 ∷ rest)))) front
     ∙ ap (λ (x : List ℕ). x ∷ lines (drop (length l + 1) (l ++ (10 ∷ rest)))) (stripped l h) ∙ ap (λ (x : List ℕ). l ∷ lines x) behind
 
 pub lines_spelled : (ls : List (List ℕ)) → AreClean ls → lines (spelled ls) ≡ ls
@@ -63,8 +64,8 @@ lines_spelled (l ∷ ls) h = line_first l (spelled ls) h.0 ∙ ap (λ (x : List 
 
 abbrev pub AreShort : List (List ℕ) → Type 0
 AreShort [] = Unit {0}
-AreShort (l ∷ ls) = (length l ≤ 40) × AreShort ls
+AreShort (l ∷ ls) = (length l ≤ 80) × AreShort ls
 
-pub spelled_short : (ls : List (List ℕ)) → AreShort ls → length (spelled ls) ≤ 41 * length ls
+pub spelled_short : (ls : List (List ℕ)) → AreShort ls → length (spelled ls) ≤ 81 * length ls
 spelled_short [] h = omega arith
 spelled_short (l ∷ ls) h = let more = spelled_short ls h.1 in rw length-append (omega (arith, h.0))

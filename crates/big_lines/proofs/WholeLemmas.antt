@@ -1,34 +1,28 @@
 -- All lines of a generated source: one walk over them, the last first, has what is known of each.
-use Rattle.std.proofs.Common.{◌≡◌, ℕ, zero, suc, ◌+◌, ◌*◌, ◌^◌, ◌≤◌, List, [], ◌∷◌, ◌++◌, length, map, Bool, true, false, refl, sym, subst, ◌∙◌, ap, arith, Some, None, nat_lt, append_assoc}
-use Rattle.std.specs.Prelude.{Ok, codes}
+use Rattle.std.proofs.Common.{◌≡◌, ℕ, zero, suc, ◌+◌, ◌*◌, ◌^◌, ◌≤◌, List, [], ◌∷◌, ◌++◌, length, map, true, false, refl, sym, subst, ◌∙◌, ap, arith, None, append_assoc}
+use Rattle.std.specs.Prelude.{codes}
 use Rattle.std.specs.List.{range_with_len}
-use Rattle.std.specs.Str.Lines.{lines}
-use Rattle.std.proofs.lemmas.Bool.{le-ltb}
 use Rattle.std.proofs.lemmas.List.FromFn.{map-range_with_len_more}
-use Rattle.asm_locals.specs.Naming.{named_behind, in_names}
 use Rattle.asm_model.specs.declared.lines.Flat.{Flat}
 use Rattle.asm_model.specs.declared.directives.DirectiveLine.TheVariants as line
 use Rattle.asm_model.specs.declared.statements.Statement.{Statement}
 use Rattle.asm_model.specs.declared.statements.What.TheVariants as what
 use Rattle.asm_model.specs.Laid.{reversed}
-use Rattle.asm_model.specs.Limits.{source_lines, line_bytes}
-use Rattle.asm_model.specs.Lines.{numbered, first_beyond}
-use Rattle.asm_model.specs.Says.{Said}
-use Rattle.asm_reading.specs.declared.reading.Reading.{Reading}
+use Rattle.asm_model.specs.Lines.{numbered}
 use Rattle.asm_reading.specs.Laws.{OneLine}
-use Rattle.asm_reading.specs.Reading.{IsReading, Say, statements_in, first_unread}
-use Rattle.expand_model.specs.Expands.{Outcome, Flats, Expands, ExpansionLaw}
-use Rattle.expand_model.specs.Steps.{Sources, visit_limit}
+use Rattle.asm_reading.specs.FlatLines.{IsReading}
+use Rattle.expand_model.specs.Expands.{ExpansionLaw}
+use Rattle.expand_model.specs.Steps.{visit_limit}
 use Rattle.plain_source.specs.Plain.{ArePlain, flats_of}
-use Rattle.plain_source.proofs.PlainLemmas.{plain_sources_expand}
-use Rattle.big_model.specs.Sources.{step_line, data_line, big_lines, big_text, spelled}
+use Rattle.big_model.specs.Sources.{step_line, data_line, big_lines, big_text}
 use Rattle.big_model.specs.Statements.{stated, step_statements, data_statements, begun, data_part, big_statements}
 use Rattle.big_lines.specs.Lines.{big_flats, BigExpands, BigIsRead, BigIsShort}
 use Rattle.big_lines.proofs.DataLemmas.{data_is_line}
 use Rattle.big_lines.proofs.FixedLemmas.{code_line, data_line as second_line, entry_line, end_line, clear_line, give_line, leave_line}
+use Rattle.big_lines.proofs.RowLemmas.{AreRows, lines_expand, rows_read, reversed_twice, joined_none}
 use Rattle.big_lines.proofs.SayLemmas.{IsLine, flat}
 use Rattle.big_lines.proofs.StepLemmas.{step_is_line}
-use Rattle.big_lines.proofs.TextLemmas.{AreClean, AreShort, lines_spelled, spelled_short}
+use Rattle.big_lines.proofs.TextLemmas.{AreClean, AreShort, spelled_short}
 
 -- ---- the lines, the last first
 
@@ -95,26 +89,33 @@ all_lines name n h =
 
 -- ---- they are the lines of the text
 
-steps_forwards : (name : List ℕ) (n : ℕ) (fs : List Flat) (ts : List (List ℕ)) → reversed (texts (step_flats name n ++ fs)) ts ≡ reversed (texts fs) (map step_line (range_with_len 0 n) ++ ts)
+steps_forwards : (name : List ℕ) (n : ℕ) (fs : List Flat) (ts : List (List ℕ))
+    → reversed (texts (step_flats name n ++ fs)) ts ≡ reversed (texts fs) (map step_line (range_with_len 0 n) ++ ts)
 steps_forwards name zero fs ts = refl
 steps_forwards name (suc k) fs ts =
     let more : map step_line (range_with_len 0 (suc k)) ≡ map step_line (range_with_len 0 k) ++ (step_line k ∷ []) =
-    (let e : k + 1 ≡ suc k = omega arith in ap (λ (i : ℕ). map step_line (range_with_len 0 i)) (sym e) ∙ map-range_with_len_more step_line 0 k k (omega arith)) in
+    (let e : k + 1 ≡ suc k = omega arith in ap (λ (i : ℕ). map step_line (range_with_len 0 i)) (sym e)
+    ∙ map-range_with_len_more step_line 0 k k (omega arith)) in
     steps_forwards name k fs (step_line k ∷ ts)
-    ∙ ap (reversed (texts fs)) (sym (append_assoc (map step_line (range_with_len 0 k)) (step_line k ∷ []) ts) ∙ ap (λ (xs : List (List ℕ)). xs ++ ts) (sym more))
+    ∙ ap (reversed (texts fs)) (sym (append_assoc (map step_line (range_with_len 0 k)) (step_line k ∷ []) ts)
+    ∙ ap (λ (xs : List (List ℕ)). xs ++ ts) (sym more))
 
-data_forwards : (name : List ℕ) (at n : ℕ) (fs : List Flat) (ts : List (List ℕ)) → reversed (texts (data_flats name at n ++ fs)) ts ≡ reversed (texts fs) (map data_line (range_with_len 0 n) ++ ts)
+data_forwards : (name : List ℕ) (at n : ℕ) (fs : List Flat) (ts : List (List ℕ))
+    → reversed (texts (data_flats name at n ++ fs)) ts ≡ reversed (texts fs) (map data_line (range_with_len 0 n) ++ ts)
 data_forwards name at zero fs ts = refl
 data_forwards name at (suc k) fs ts =
     let more : map data_line (range_with_len 0 (suc k)) ≡ map data_line (range_with_len 0 k) ++ (data_line k ∷ []) =
-    (let e : k + 1 ≡ suc k = omega arith in ap (λ (i : ℕ). map data_line (range_with_len 0 i)) (sym e) ∙ map-range_with_len_more data_line 0 k k (omega arith)) in
+    (let e : k + 1 ≡ suc k = omega arith in ap (λ (i : ℕ). map data_line (range_with_len 0 i)) (sym e)
+    ∙ map-range_with_len_more data_line 0 k k (omega arith)) in
     data_forwards name at k fs (data_line k ∷ ts)
-    ∙ ap (reversed (texts fs)) (sym (append_assoc (map data_line (range_with_len 0 k)) (data_line k ∷ []) ts) ∙ ap (λ (xs : List (List ℕ)). xs ++ ts) (sym more))
+    ∙ ap (reversed (texts fs)) (sym (append_assoc (map data_line (range_with_len 0 k)) (data_line k ∷ []) ts)
+    ∙ ap (λ (xs : List (List ℕ)). xs ++ ts) (sym more))
 
 forwards : (name : List ℕ) (n : ℕ) → reversed (texts (last_first name n)) [] ≡ big_lines n
 forwards name n =
     data_forwards name (n + 7) n (code_flats name n) (codes " END" ∷ [])
-    ∙ steps_forwards name n (begun_flats name) (codes " MOV r0,r4" ∷ codes " SWI 0x11" ∷ codes " AREA bigrw, DATA, READWRITE" ∷ (map data_line (range_with_len 0 n) ++ (codes " END" ∷ [])))
+    ∙ steps_forwards name n (begun_flats name) (codes " MOV r0,r4" ∷ codes " SWI 0x11" ∷ codes " AREA bigrw, DATA, READWRITE"
+    ∷ (map data_line (range_with_len 0 n) ++ (codes " END" ∷ [])))
 
 -- ---- their numbers
 
@@ -154,7 +155,8 @@ flats_are name n =
 
 -- ---- expansion
 
-plain_reversed : (fs : List Flat) (ss : List Statement) (u : List ℕ) (us : List (List ℕ)) → AreLines fs ss → ArePlain (u ∷ us) → ArePlain (reversed (texts fs) (u ∷ us))
+plain_reversed : (fs : List Flat) (ss : List Statement) (u : List ℕ) (us : List (List ℕ)) → AreLines fs ss → ArePlain (u ∷ us)
+    → ArePlain (reversed (texts fs) (u ∷ us))
 plain_reversed [] [] u us h k = k
 plain_reversed [] (s ∷ ss) u us h k = absurd h
 plain_reversed (f ∷ fs) [] u us h k = absurd h
@@ -176,29 +178,9 @@ many_reversed : (fs : List Flat) (us : List (List ℕ)) → length (reversed (te
 many_reversed [] us = omega arith
 many_reversed (f ∷ fs) us = many_reversed fs (f.text ∷ us) ∙ omega arith
 
-none_beyond : (n : ℕ) (ts : List (List ℕ)) → ArePlain ts → n + length ts ≤ source_lines + 1 → first_beyond n ts ≡ None
-none_beyond n [] h few = refl
-none_beyond n (t ∷ []) h few =
-    let a : nat_lt source_lines n ≡ false = le-ltb source_lines n (omega arith) in
-    let b : nat_lt line_bytes (length t) ≡ false = le-ltb line_bytes (length t) h.short in
-    rw (a, b) refl
-none_beyond n (t ∷ u ∷ ts) h few =
-    let a : nat_lt source_lines n ≡ false = le-ltb source_lines n (omega arith) in
-    let b : nat_lt line_bytes (length t) ≡ false = le-ltb line_bytes (length t) h.0.short in
-    rw (a, b) (none_beyond (n + 1) (u ∷ ts) h.1 (omega arith))
-
 -- how many lines there are
 many_lines : (n : ℕ) → length (big_lines n) ≡ n + n + 7
 many_lines n = ap length (sym (forwards [] n)) ∙ many_reversed (last_first [] n) [] ∙ omega (arith, many_data [] n n)
-
--- plain lines that are not too many, as a text
-lines_expand : ExpansionLaw → (sources : Sources) (name : List ℕ) (ls : List (List ℕ)) (o : Outcome) → AreClean ls → ArePlain ls → length ls ≤ 200000
-    → Expands sources visit_limit name (spelled ls) o → o ≡ Flats (flats_of (numbered name 1 ls))
-lines_expand law sources name ls o clean plain few h =
-    let read : lines (spelled ls) ≡ ls = lines_spelled ls clean in
-    let fits = none_beyond 1 ls plain (omega arith) in
-    let made = plain_sources_expand sources visit_limit name (spelled ls) (rw read fits) (rw read plain) (rw read (omega arith)) in
-    law sources visit_limit name (spelled ls) o _ h made ∙ ap (λ (ts : List (List ℕ)). Flats (flats_of (numbered name 1 ts))) read
 
 pub big_expands : ExpansionLaw → BigExpands
 big_expands law sources name n o few h =
@@ -209,9 +191,9 @@ big_expands law sources name n o few h =
     let Clean : List (List ℕ) → Type 0 = λ ls. AreClean ls in
     let plain = subst Plain (forwards name n) (plain_reversed (before_end name n) (data_part name n) (codes " END") [] all end.plain) in
     let clean = subst Clean (forwards name n) (clean_reversed (before_end name n) (data_part name n) (codes " END" ∷ []) all (end.clean, tt)) in
-    lines_expand law sources name (big_lines n) o clean plain (omega arith) h
+    law sources visit_limit name (big_text n) o _ h (lines_expand sources name (big_lines n) clean plain (omega arith))
 
-bounded : (a b n : ℕ) → a ≤ 41 * b → b ≡ n + n + 7 → n ≤ 50000 → a ≤ 2 ^ 24
+bounded : (a b n : ℕ) → a ≤ 81 * b → b ≡ n + n + 7 → n ≤ 50000 → a ≤ 2 ^ 24
 bounded a b n h e few = omega arith
 
 pub big_is_short : BigIsShort
@@ -223,49 +205,11 @@ big_is_short n few =
 
 -- ---- what they say
 
--- lines that say statements, forwards, the last of them END
-abbrev AreRows : List Flat → List Statement → Type 0
-AreRows [] [] = Unit {0}
-AreRows [] (s ∷ ss) = ⊥
-AreRows (f ∷ fs) [] = ⊥
-AreRows (f ∷ fs) (s ∷ ss) = (ends : Bool) × IsLine ends f s × AreRows fs ss
-
 rows_reversed : (fs gs : List Flat) (ss ts : List Statement) → AreLines fs ss → AreRows gs ts → AreRows (reversed fs gs) (reversed ss ts)
 rows_reversed [] gs [] ts h k = k
 rows_reversed [] gs (s ∷ ss) ts h k = absurd h
 rows_reversed (f ∷ fs) gs [] ts h k = absurd h
 rows_reversed (f ∷ fs) gs (s ∷ ss) ts h k = rows_reversed fs (f ∷ gs) ss (s ∷ ts) h.1 (false, h.0, k)
-
-same_rows : OneLine → (fs : List Flat) (ss : List Statement) (ps : List (Flat × Said)) → AreRows fs ss → Say false fs ps → (statements_in ps ≡ ss) × (first_unread ps ≡ None)
-same_rows one [] [] [] h k = (refl, refl)
-same_rows one [] [] (p ∷ ps) h k = absurd k
-same_rows one [] (s ∷ ss) ps h k = absurd h
-same_rows one (f ∷ fs) [] ps h k = absurd h
-same_rows one (f ∷ fs) (s ∷ ss) [] h k = absurd k
-same_rows one (f ∷ fs) (s ∷ ss) ((g, x) ∷ ps) h k =
-    let e : x ≡ Ok (Some s) = one false f x (Ok (Some s)) k.1 h.1.says in
-    let k2 = rw (e, h.1.state) at k.2 in
-    let more = same_rows one fs ss ps h.2 k2 in
-    (rw (e, more.0) refl, rw (e, more.1) refl)
-
-rows_named : (before : List Statement) (fs : List Flat) (ss : List Statement) → AreRows fs ss → named_behind before ss ≡ ss
-rows_named before [] [] h = refl
-rows_named before [] (s ∷ ss) h = absurd h
-rows_named before (f ∷ fs) [] h = absurd h
-rows_named before (f ∷ fs) (s ∷ ss) h = rw (h.1.not_local, h.1.names_none _, rows_named (s ∷ before) fs ss h.2) refl
-
-rows_read : OneLine → (fs : List Flat) (ss : List Statement) (r : Reading) → AreRows fs ss → IsReading fs r → (r.statements.items ≡ ss) × (r.unread ≡ None)
-rows_read one fs ss r h k =
-    let same = same_rows one fs ss k.says h k.say in
-    (k.statements ∙ ap in_names same.0 ∙ rows_named [] fs ss h, k.unread ∙ same.1)
-
-reversed_twice : (xs ys zs : List Statement) → reversed (reversed xs ys) zs ≡ reversed ys (xs ++ zs)
-reversed_twice [] ys zs = refl
-reversed_twice (x ∷ xs) ys zs = reversed_twice xs (x ∷ ys) zs
-
-joined_none : (xs : List Statement) → xs ++ [] ≡ xs
-joined_none [] = refl
-joined_none (x ∷ xs) = ap (λ (ys : List Statement). x ∷ ys) (joined_none xs)
 
 pub big_is_read : OneLine → BigIsRead
 big_is_read one name n r few h =

@@ -1,4 +1,6 @@
-//! What the lines of a generated source expand to and say. There is no engine.
+//! Laws: the text of the source that `make-big` makes expands to its lines, these say its statements, and it is no
+//! longer than a source may be. This project's; there is no engine. `sdt_toolkit` calls them so that `make-big` is done
+//! for each count.
 #![tactic(auto)]
 
 ghost use Rattle.big_lines.specs.Lines.{BigExpands, BigIsRead, BigIsShort};

@@ -15,7 +15,8 @@ unfolding digits
 data_999 = refl
 
 text_of_two : big_text 2
-    ≡ codes " AREA big, CODE, READONLY\n ENTRY\n MOV r4,#0\nf0 ADD r4,r4,#0\nf1 ADD r4,r4,#1\n MOV r0,r4\n SWI 0x11\n AREA bigrw, DATA, READWRITE\n DCD 0\n DCD 1\n END\n"
+    ≡ codes
+    " AREA big, CODE, READONLY\n ENTRY\n MOV r4,#0\nf0 ADD r4,r4,#0\nf1 ADD r4,r4,#1\n MOV r0,r4\n SWI 0x11\n AREA bigrw, DATA, READWRITE\n DCD 0\n DCD 1\n END\n"
 unfolding digits
 text_of_two = refl
 

@@ -8,6 +8,7 @@ use Rattle.asm_model.specs.declared.operands.Shift.TheVariants as shift
 use Rattle.asm_model.specs.declared.directives.AreaAttributes.{AreaAttributes}
 use Rattle.asm_model.specs.declared.directives.Contents.{Contents}
 use Rattle.asm_model.specs.declared.directives.Contents.TheVariants as contents
+use Rattle.asm_model.specs.declared.directives.DataItem.TheVariants as datum
 use Rattle.asm_model.specs.declared.directives.DirectiveLine.TheVariants as line
 use Rattle.asm_model.specs.declared.exprs.Expr.{Expr}
 use Rattle.asm_model.specs.declared.exprs.ExprItem.TheVariants as item
@@ -49,13 +50,14 @@ abbrev pub step_what : ℕ → What
 step_what v = what.Arm (arm.DataImmediate condition.Al operation.Add false (register_is.Number 4) (register_is.Number 4) (constant v))
 
 abbrev pub give : What
-give = what.Arm (arm.DataShifted condition.Al operation.Mov false (register_is.Number 0) (register_is.Number 0) (register_is.Number 4) shift.Unshifted)
+give = what.Arm (arm.DataShifted condition.Al operation.Mov false (register_is.Number 0) (register_is.Number 0) (register_is.Number 4)
+    shift.Unshifted)
 
 abbrev pub leave : What
 leave = what.Arm (arm.SoftwareInterrupt condition.Al (constant 17))
 
 abbrev pub datum_what : ℕ → What
-datum_what k = what.Directive (line.Dcd (constant k ∷ []))
+datum_what k = what.Directive (line.Constants datum.Word (constant k ∷ []))
 
 -- the first n steps, and the first n words of data, from a line on
 abbrev pub step_statements : List ℕ → ℕ → ℕ → List Statement
@@ -69,7 +71,8 @@ data_statements source at (suc k) = stated source (at + k) None (datum_what k) �
 -- up to MOV r4,#0, up to SWI 0x11, and up to the last word of data
 abbrev pub begun : List ℕ → List Statement
 begun source =
-    stated source 3 None clear ∷ stated source 2 None (what.Directive line.Entry) ∷ stated source 1 None (area_what (codes "big") contents.Code true) ∷ []
+    stated source 3 None clear ∷ stated source 2 None (what.Directive line.Entry)
+    ∷ stated source 1 None (area_what (codes "big") contents.Code true) ∷ []
 
 abbrev pub code_part : List ℕ → ℕ → List Statement
 code_part source n = stated source (n + 5) None leave ∷ stated source (n + 4) None give ∷ (step_statements source 4 n ++ begun source)

@@ -24,8 +24,20 @@ big_scatter = record {
     base = 0;
     max = None;
     regions =
-        (record { name = codes "CODE"; base = At 0; max = None; selections = (record { line = 1; «module» = None; choice = choice.Ro; edge = edge.Plain }) ∷ [] })
-        ∷ (record { name = codes "RAM"; base = At 8388608; max = None; selections = (record { line = 1; «module» = None; choice = choice.Rw; edge = edge.Plain }) ∷ (record { line = 1; «module» = None; choice = choice.Zi; edge = edge.Plain }) ∷ [] })
+        (record {
+          name = codes "CODE";
+          base = At 0;
+          max = None;
+          selections =
+              (record { line = 1; «module» = None; choice = choice.Ro; edge = edge.Plain }) ∷ [];
+        })
+        ∷ (record {
+          name = codes "RAM";
+          base = At 8388608;
+          max = None;
+          selections = (record { line = 1; «module» = None; choice = choice.Rw; edge = edge.Plain })
+              ∷ (record { line = 1; «module» = None; choice = choice.Zi; edge = edge.Plain }) ∷ [];
+        })
         ∷ [];
   }) ∷ [];
 }

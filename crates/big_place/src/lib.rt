@@ -1,4 +1,6 @@
-//! Where the areas of a generated source are placed. There is no engine.
+//! Laws: the scatter description of the source that `make-big` makes reads as two regions, each of its areas has its
+//! region, and nothing of the plan is refused. This project's; there is no engine. `sdt_toolkit` calls them so that
+//! `make-big` is done for each count.
 #![tactic(auto)]
 
 ghost use Rattle.big_place.specs.Big.{AreasAreAssigned, PlanHasNoFault, TextIsRead};

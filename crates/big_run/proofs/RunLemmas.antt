@@ -69,9 +69,11 @@ module _ (board : Board) (rest : ArmState) (status : ℕ) (q : IsQuiet status) (
 
   -- the word at pc does this
   step : (r0 r4 pc w : ℕ) (i : ArmInstr) (s : State) (e : Event) → pc % 4 ≡ 0 → in_memory board pc 4 ≡ true → word m pc ≡ w → ReadsArm w i
-      → ((answers : List ℕ) → arm_done (record { board = board; before = at r0 r4 pc; word = w }) i (under_way rest (registers r0 r4 pc) status m pc answers) ≡ outcome pc s e)
+      → ((answers : List ℕ) → arm_done (record { board = board; before = at r0 r4 pc; word = w }) i
+      (under_way rest (registers r0 r4 pc) status m pc answers) ≡ outcome pc s e)
       → OneStep board (at r0 r4 pc) (outcome pc s e)
-  step r0 r4 pc w i s e whole there here reads does = arm_step board rest (registers r0 r4 pc) status m pc w i (outcome pc s e) q refl whole there here reads does
+  step r0 r4 pc w i s e whole there here reads does =
+      arm_step board rest (registers r0 r4 pc) status m pc w i (outcome pc s e) q refl whole there here reads does
 
   clear_step : (r0 r4 pc : ℕ) → pc % 4 ≡ 0 → pc + 4 < 2 ^ 32 → in_memory board pc 4 ≡ true → word m pc ≡ 0xE3A04000
       → OneStep board (at r0 r4 pc) (outcome pc (at r0 0 (pc + 4)) event.Ran)
@@ -199,5 +201,6 @@ big_runs n a board s few e =
     let P : List ℕ → Type 0 = λ r. (steps : List Stepped) × (last : Stepped) × IsBigRun n a board (state_of s.core r s.core.cpsr s.memory) steps last in
     let all : s.core.r ≡ tabulated (slice_index s.core.r) 16 = listed_all s.core.r ∙ ap (tabulated (slice_index s.core.r)) e.valid.core.visible.count in
     let pc = e.pc in
-    let here : tabulated (slice_index s.core.r) 16 ≡ registers board s.core s.core.cpsr q s.memory k (k 0) (k 4) a = ap (λ (x : ℕ). registers board s.core s.core.cpsr q s.memory k (k 0) (k 4) x) pc in
+    let here : tabulated (slice_index s.core.r) 16 ≡ registers board s.core s.core.cpsr q s.memory k (k 0) (k 4) a =
+    ap (λ (x : ℕ). registers board s.core s.core.cpsr q s.memory k (k 0) (k 4) x) pc in
     subst P (sym (all ∙ here)) (exit_run board s.core s.core.cpsr q s.memory k n a (k 0) (k 4) few e.whole e.room e.code)

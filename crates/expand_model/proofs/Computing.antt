@@ -75,7 +75,8 @@ scan_by (suc f) due place rest =
 
 -- ---- soundness of tokens
 
-longest_cases : (rest : List ℕ) (b : Bool) (t : TokenKind × ℕ) → nat_lt 0 (best_of rest).1 ≡ b → (if b then Some (best_of rest) else None) ≡ Some t → IsLongest t.0 t.1 rest
+longest_cases : (rest : List ℕ) (b : Bool) (t : TokenKind × ℕ) → nat_lt 0 (best_of rest).1 ≡ b → (if b then Some (best_of rest) else None) ≡ Some t
+    → IsLongest t.0 t.1 rest
 longest_cases rest true t e h =
     let same = same_Some _ _ h in subst (λ u. IsLongest u.0 u.1 rest) same (best_longest rest (ltb-true _ _ e))
 longest_cases rest false t e h = absurd (none-some t h)

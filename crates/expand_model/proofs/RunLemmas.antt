@@ -28,7 +28,8 @@ module _ (one_scan : OneScan) (one_parse : OneParse) where
   one_expression : (text : List ℕ) (a b : Operand) → ReadsExpression text a → ReadsExpression text b → a ≡ b
   one_expression text a b p q = one_from text p.0 a b p.2 (let e = one_scan text q.0 p.0 q.1 p.1 in rw e at q.2)
 
-  one_choice : (test : Bool) (text : List ℕ) (a b : Operand) → MatchBool test (ReadsExpression text a) (a ≡ Err Syntax) → MatchBool test (ReadsExpression text b) (b ≡ Err Syntax) → a ≡ b
+  one_choice : (test : Bool) (text : List ℕ) (a b : Operand) → MatchBool test (ReadsExpression text a) (a ≡ Err Syntax)
+      → MatchBool test (ReadsExpression text b) (b ≡ Err Syntax) → a ≡ b
   one_choice true text a b p q = one_expression text a b p q
   one_choice false text a b p q = p ∙ sym q
 

@@ -25,7 +25,8 @@ longest_zero (suc m) rest w none = rw (none (suc m) w) (longest_zero m rest (ome
 longest_here : (k : TokenKind) (n m : ℕ) (rest : List ℕ) → IsLongest k n rest → n ≡ suc m → longest (suc m) rest ≡ n
 longest_here k n m rest p e = let f = rw e at p.form in rw f (sym e)
 
-longest_before : (k : TokenKind) (n m : ℕ) (rest : List ℕ) → IsLongest k n rest → n < suc m → suc m ≤ length rest → longest m rest ≡ n → longest (suc m) rest ≡ n
+longest_before : (k : TokenKind) (n m : ℕ) (rest : List ℕ) → IsLongest k n rest → n < suc m → suc m ≤ length rest → longest m rest ≡ n
+    → longest (suc m) rest ≡ n
 longest_before k n m rest p lt w h = let f = p.longest (suc m) lt w in rw f h
 
 longest_is : (k : TokenKind) (n m : ℕ) (rest : List ℕ) → IsLongest k n rest → n ≤ m → m ≤ length rest → longest m rest ≡ n

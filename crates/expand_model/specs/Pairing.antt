@@ -18,23 +18,23 @@ raw_operation l = operation_of (raw_words_of l.text).operation
 
 -- what is open behind a line, the innermost first; or that the line closes the outermost, or is its ELSE, or has a word
 -- that is not paired
-pub data Behind : Type 0 where
-  Stays : Opening → List Opening → Behind
-  Closes : Behind
-  Turns : Behind
-  Unpaired : Behind
+pub data OpeningAfter : Type 0 where
+  Stays : Opening → List Opening → OpeningAfter
+  Closes : OpeningAfter
+  Turns : OpeningAfter
+  Unpaired : OpeningAfter
 
 -- the innermost is closed
-abbrev pub closed : List Opening → Behind
+abbrev pub closed : List Opening → OpeningAfter
 closed [] = Closes
 closed (p ∷ os) = Stays p os
 
 -- the innermost, an IF, has its ELSE
-abbrev pub turned : List Opening → Behind
+abbrev pub turned : List Opening → OpeningAfter
 turned [] = Turns
 turned (p ∷ os) = Stays Alternative (p ∷ os)
 
-abbrev pub behind_word : Opening → List Opening → Operation → Behind
+abbrev pub behind_word : Opening → List Opening → Operation → OpeningAfter
 behind_word Definition os Macro = Stays Definition (Definition ∷ os)
 behind_word Definition os MEnd = closed os
 behind_word Definition os _ = Stays Definition os
@@ -51,7 +51,7 @@ behind_word o os WEnd = Unpaired
 behind_word o os MEnd = Unpaired
 behind_word o os _ = Stays o os
 
-abbrev pub behind_line : Opening → List Opening → Option Operation → Behind
+abbrev pub behind_line : Opening → List Opening → Option Operation → OpeningAfter
 behind_line o os None = Stays o os
 behind_line o os (Some w) = behind_word o os w
 
@@ -63,7 +63,7 @@ pub data Skipped : Type 0 where
   Faulty : Line → LineKind → Skipped
   Endless : Skipped
 
-abbrev pub skipped_line : Behind → Line → ℕ → List Line → (Opening → List Opening → Skipped) → Skipped
+abbrev pub skipped_line : OpeningAfter → Line → ℕ → List Line → (Opening → List Opening → Skipped) → Skipped
 skipped_line (Stays o os) l n ls rest = rest o os
 skipped_line Closes l n ls rest = Closed n ls
 skipped_line Turns l n ls rest = Turned n ls

@@ -62,7 +62,8 @@ pub tree_holds : (R : List ℕ → Tree → Type 0) (names : List LaidName) (are
 tree_holds R names area name None f = tt
 tree_holds R names area name (Some t) f = f t refl
 
-pub definition_holds : (R : List ℕ → Tree → Type 0) (names : List LaidName) (x : Defined) (area : Option ℕ) (offset : ℕ) (size : Option ℕ) (thumb : Bool) (m : ℕ)
+pub definition_holds : (R : List ℕ → Tree → Type 0) (names : List LaidName) (x : Defined) (area : Option ℕ) (offset : ℕ) (size : Option ℕ) (thumb : Bool)
+    (m : ℕ)
     → EachEqual (OfTrees R) (equal_of x) → HoldsOf R (definition_of names x area offset size thumb m)
 definition_holds R names (Equal name e) area offset size thumb m h = tree_holds R names area name (tree_of e) h.0
 definition_holds R names x area offset size thumb m h = tt

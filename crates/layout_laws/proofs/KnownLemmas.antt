@@ -14,10 +14,11 @@ use Rattle.asm_model.specs.declared.names.LaidName.{LaidName}
 use Rattle.asm_model.specs.AtLine.{SourceLine, with_names}
 use Rattle.asm_model.specs.Forms.{same}
 use Rattle.asm_model.specs.Grammar.{Tree, Leaf, Before, Between}
-use Rattle.asm_model.specs.Meaning.{named_in, entry_stands_at, stands_at, distance, between_places, binary, unary_of, Operand, Known, Unread, value_of, size_of, defined_of, known, then_of, on_both, applied, operand_of_item, operand_of_tree, meaning}
+use Rattle.asm_model.specs.Meaning.{named_in, entry_stands_at, stands_at, distance, between_places, binary, unary_of, Operand, Known, Unread, value_of, size_of, defined_of, known, applied, operand_of_item, operand_of_tree, meaning}
 use Rattle.asm_model.specs.Before.{is_thumb_label}
 use Rattle.asm_model.specs.Entries.{later_entry}
 use Rattle.asm_model.specs.Labels.{Defined, Unnamed, Label, Equal, MapField, RegisterName, defined_by, imported_in, declared_entries, declared_imports, declared_names}
+use Rattle.asm_model.specs.Readings.{and_then, then_both}
 use Rattle.asm_model.specs.declared.statements.Statement.{Statement}
 use Rattle.asm_model.proofs.LineLemmas.{applied_known, number_more}
 use Rattle.asm_model.proofs.WordLemmas.{same_true}
@@ -46,8 +47,8 @@ abbrev pub OperandTells : Operand → Operand → Type 0
 OperandTells x y = Gives (known x) (known y) × ((op : UnaryOp) → Gives (applied op x) (applied op y))
 
 pub then_tells : (r s : Result Value LineKind) (f : Value → Result Value LineKind) → Gives r s
-    → Gives (then_of r f) (then_of s f)
-then_tells (Ok w) s f more v h = ap (λ z. then_of z f) (more w refl) ∙ h
+    → Gives (and_then r f) (and_then s f)
+then_tells (Ok w) s f more v h = ap (λ z. and_then z f) (more w refl) ∙ h
 then_tells (Err k) s f more v h = absurd (cc)
 
 pub known_tells : (r s : Result Value LineKind) → Gives r s → OperandTells (Known r) (Known s)
@@ -93,10 +94,10 @@ binary_tells l xs ys h op v w = λ r k. k
 
 pub both_tell : (l : SourceLine) (xs ys : List LaidName) → TellAll xs ys
     → (op : BinaryOp) (a b c d : Result Value LineKind) → Gives a c → Gives b d
-    → Gives (on_both a b (binary (with_names l xs) op)) (on_both c d (binary (with_names l ys) op))
+    → Gives (then_both a b (binary (with_names l xs) op)) (then_both c d (binary (with_names l ys) op))
 both_tell l xs ys h op (Ok v) (Ok w) c d f g r k =
-    ap (λ z. on_both z d (binary (with_names l ys) op)) (f v refl)
-    ∙ ap (λ z. on_both (Ok v) z (binary (with_names l ys) op)) (g w refl)
+    ap (λ z. then_both z d (binary (with_names l ys) op)) (f v refl)
+    ∙ ap (λ z. then_both (Ok v) z (binary (with_names l ys) op)) (g w refl)
     ∙ binary_tells l xs ys h op v w r k
 both_tell l xs ys h op (Ok v) (Err j) c d f g r k = absurd (cc)
 both_tell l xs ys h op (Err i) (Ok w) c d f g r k = absurd (cc)

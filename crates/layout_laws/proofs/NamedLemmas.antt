@@ -57,7 +57,8 @@ pub tree_most : (N : List LaidName) (l : SourceLine) (names : List LaidName) (ar
 tree_most N l names area name None = tt
 tree_most N l names area name (Some t) = ap (λ z. z ∷ []) (sym (equal_made names area name (meaning (with_names l N) t)).0)
 
-pub definition_most : (N : List LaidName) (l : SourceLine) (names : List LaidName) (x : Defined) (area : Option ℕ) (offset : ℕ) (size : Option ℕ) (thumb : Bool) (m : ℕ)
+pub definition_most : (N : List LaidName) (l : SourceLine) (names : List LaidName) (x : Defined) (area : Option ℕ) (offset : ℕ) (size : Option ℕ) (thumb : Bool)
+    (m : ℕ)
     → AtMost (own_name x) (entries_with N l (definition_of names x area offset size thumb m))
 definition_most N l names Unnamed area offset size thumb m = tt
 definition_most N l names (Equal name e) area offset size thumb m = tree_most N l names area name (tree_of e)
@@ -118,11 +119,15 @@ statement_holds A bs ps qs (n ∷ []) [] a b h f =
     let x : is_repeated bs (n.name ∷ qs) ≡ false = subst (λ z. is_repeated bs (z ++ qs) ≡ false) a h in
     (found_behind A (n ∷ []) n (f n.name (or_parts (list_any (same n.name) bs) (is_repeated (n.name ∷ bs) qs) x).0) (found_first n []), tt)
 statement_holds A bs ps qs (n ∷ []) (m ∷ []) a b h f =
-    let x : is_repeated bs (n.name ∷ m.name ∷ []) ≡ false = subst (λ z. is_repeated bs (n.name ∷ z) ≡ false) b (subst (λ z. is_repeated bs (z ++ qs) ≡ false) a h) in
+    let x : is_repeated bs (n.name ∷ m.name ∷ []) ≡ false =
+    subst (λ z. is_repeated bs (n.name ∷ z) ≡ false) b (subst (λ z. is_repeated bs (z ++ qs) ≡ false) a h) in
     let p = or_parts (list_any (same n.name) bs) (is_repeated (n.name ∷ bs) (m.name ∷ [])) x in
     let r = or_parts (same m.name n.name) (list_any (same m.name) bs) (later_new [] (n.name ∷ bs) m.name p.1) in (
       found_behind A (n ∷ m ∷ []) n (f n.name p.0) (found_first n (m ∷ [])),
-      (found_behind A (n ∷ m ∷ []) m (f m.name r.1) (ap (λ b. cond b (Some n) (named_in m.name (m ∷ []))) (same_flip m.name n.name r.0) ∙ found_first m []), tt),
+      (
+        found_behind A (n ∷ m ∷ []) m (f m.name r.1) (ap (λ b. cond b (Some n) (named_in m.name (m ∷ []))) (same_flip m.name n.name r.0) ∙ found_first m []),
+        tt,
+      ),
     )
 statement_holds A bs ps qs (n ∷ k ∷ ns) ms a b h f = absurd a
 statement_holds A bs ps qs [] (m ∷ k ∷ ms) a b h f = absurd b
@@ -148,7 +153,8 @@ pub cond_none : (b : Bool) (x y : LaidName) → cond b (Some x) None ≡ None �
 cond_none true x y h = absurd (cc)
 cond_none false x y h = refl
 
-pub tree_undeclared : (q : List ℕ) (N : List LaidName) (l : SourceLine) (names : List LaidName) (area : Option ℕ) (name : List ℕ) (x : LaidName) (o : Option Tree)
+pub tree_undeclared : (q : List ℕ) (N : List LaidName) (l : SourceLine) (names : List LaidName) (area : Option ℕ) (name : List ℕ) (x : LaidName)
+    (o : Option Tree)
     → cond (same name q) (Some x) None ≡ None → named_in q (entries_with N l (tree_equated names area name o)) ≡ None
 tree_undeclared q N l names area name x None h = refl
 tree_undeclared q N l names area name x (Some t) h =
@@ -156,7 +162,8 @@ tree_undeclared q N l names area name x (Some t) h =
     ap (λ z. cond (same z q) (Some (equal_entry names area name r)) None) (equal_made names area name r).0
     ∙ cond_none (same name q) x (equal_entry names area name r) h
 
-pub own_undeclared : (q : List ℕ) (s : Statement) (before : List Statement) (N : List LaidName) (l : SourceLine) (names : List LaidName) (x : Defined) (area : Option ℕ)
+pub own_undeclared : (q : List ℕ) (s : Statement) (before : List Statement) (N : List LaidName) (l : SourceLine) (names : List LaidName) (x : Defined)
+    (area : Option ℕ)
     (offset : ℕ) (size : Option ℕ) (thumb : Bool) (m : ℕ) → named_in q (declared_entries x s before) ≡ None
     → named_in q (entries_with N l (definition_of names x area offset size thumb m)) ≡ None
 own_undeclared q s before N l names Unnamed area offset size thumb m h = refl

@@ -22,7 +22,8 @@ use Rattle.asm_model.specs.Directives.{or_else}
 use Rattle.asm_model.specs.Forms.{same}
 use Rattle.asm_model.specs.Grammar.{Tree, Leaf, Before, Between}
 use Rattle.asm_model.specs.Limits.{string_bytes}
-use Rattle.asm_model.specs.Meaning.{named_in, entry_stands_at, stands_at, distance, between_places, related, arithmetic, logical, joined_strings, cut_string, moved_place, added_place, as_number, as_truth, as_words, as_place, truth_or, binary, unary_of, Operand, Known, Unread, entry_value, value_of, known_size, size_in, is_later, known, then_of, on_both, applied, operand_of_item, operand_of_tree, meaning}
+use Rattle.asm_model.specs.Meaning.{named_in, entry_stands_at, stands_at, distance, between_places, related, arithmetic, logical, joined_strings, cut_string, moved_place, added_place, as_number, as_truth, as_words, as_place, truth_or, binary, unary_of, Operand, Known, Unread, entry_value, value_of, known_size, size_in, is_later, known, applied, operand_of_item, operand_of_tree, meaning}
+use Rattle.asm_model.specs.Readings.{and_then, then_both}
 use Rattle.layout_laws.proofs.TreeLemmas.{TreeEach}
 
 -- ---- symbols
@@ -85,7 +86,7 @@ unary_is P op (Number n) = tt
 unary_is P op (Truth b) = tt
 unary_is P op v = tt
 
-pub then_is : (P : List ℕ → Type 0) (op : UnaryOp) (r : Result Value LineKind) → ResultIs P (then_of r (unary_of op))
+pub then_is : (P : List ℕ → Type 0) (op : UnaryOp) (r : Result Value LineKind) → ResultIs P (and_then r (unary_of op))
 then_is P op (Ok v) = unary_is P op v
 then_is P op (Err k) = tt
 
@@ -148,7 +149,7 @@ binary_is P names op (Place s p) (Place t q) h k = number_is P (between_places n
 binary_is P names op v w h k = tt
 
 pub both_is : (P : List ℕ → Type 0) (names : Names) (op : BinaryOp) (x y : Result Value LineKind) → ResultIs P x → ResultIs P y
-    → ResultIs P (on_both x y (binary names op))
+    → ResultIs P (then_both x y (binary names op))
 both_is P names op (Ok v) (Ok w) h k = binary_is P names op v w h k
 both_is P names op (Ok v) (Err j) h k = tt
 both_is P names op (Err i) (Ok w) h k = tt
@@ -186,7 +187,7 @@ binary_same P l xs ys alike op (Place s p) (Place t q) h k =
 binary_same P l xs ys alike op v w h k = refl
 
 pub both_same : (P : List ℕ → Type 0) (l : SourceLine) (xs ys : List LaidName) → AreSame P xs ys → (op : BinaryOp) (x y : Result Value LineKind)
-    → ResultIs P x → ResultIs P y → on_both x y (binary (with_names l xs) op) ≡ on_both x y (binary (with_names l ys) op)
+    → ResultIs P x → ResultIs P y → then_both x y (binary (with_names l xs) op) ≡ then_both x y (binary (with_names l ys) op)
 both_same P l xs ys alike op (Ok v) (Ok w) h k = binary_same P l xs ys alike op v w h k
 both_same P l xs ys alike op (Ok v) (Err j) h k = refl
 both_same P l xs ys alike op (Err i) (Ok w) h k = refl
@@ -199,8 +200,8 @@ tree_same P l xs ys closed alike (Before op t) h = ap (λ x. Known (applied op x
 tree_same P l xs ys closed alike (Between op t u) h =
     ap (λ z. Known z)
     (both_same P l xs ys alike op (meaning (with_names l xs) t) (meaning (with_names l xs) u) (tree_is P l xs closed t h.0) (tree_is P l xs closed u h.1))
-    ∙ ap (λ z. Known (on_both (known z) (meaning (with_names l xs) u) (binary (with_names l ys) op))) (tree_same P l xs ys closed alike t h.0)
-    ∙ ap (λ z. Known (on_both (meaning (with_names l ys) t) (known z) (binary (with_names l ys) op))) (tree_same P l xs ys closed alike u h.1)
+    ∙ ap (λ z. Known (then_both (known z) (meaning (with_names l xs) u) (binary (with_names l ys) op))) (tree_same P l xs ys closed alike t h.0)
+    ∙ ap (λ z. Known (then_both (meaning (with_names l ys) t) (known z) (binary (with_names l ys) op))) (tree_same P l xs ys closed alike u h.1)
 
 -- ---- lists joined
 

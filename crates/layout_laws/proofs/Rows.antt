@@ -10,6 +10,7 @@ use Rattle.asm_model.specs.declared.values.Value.TheVariants.{Number, Place}
 use Rattle.asm_model.specs.declared.statements.Statement.{Statement}
 use Rattle.asm_model.specs.declared.statements.What.TheVariants as what
 use Rattle.asm_model.specs.declared.directives.Contents.TheVariants as contents
+use Rattle.asm_model.specs.declared.directives.DataItem.TheVariants as datum
 use Rattle.asm_model.specs.declared.directives.DirectiveLine.{DirectiveLine}
 use Rattle.asm_model.specs.declared.directives.DirectiveLine.TheVariants as line
 use Rattle.asm_model.specs.Entries.{label_entry, place_entry, valued_entry, entry}
@@ -37,9 +38,9 @@ equal n name items = says n (Some name) (line.Equ (record { items = items }))
 -- AREA a,DATA / y EQU x + 4 / DCD 1 / x EQU z / z DCD 1, the last first
 abbrev forward : List Statement
 forward =
-    says 5 (Some (codes "z")) (line.Dcd (record { items = item.Constant (Number 1) ∷ [] } ∷ []))
+    says 5 (Some (codes "z")) (line.Constants datum.Word (record { items = item.Constant (Number 1) ∷ [] } ∷ []))
     ∷ equal 4 (codes "x") (item.Name (codes "z") ∷ [])
-    ∷ says 3 None (line.Dcd (record { items = item.Constant (Number 1) ∷ [] } ∷ []))
+    ∷ says 3 None (line.Constants datum.Word (record { items = item.Constant (Number 1) ∷ [] } ∷ []))
     ∷ equal 2 (codes "y") (item.Name (codes "x") ∷ item.Constant (Number 4) ∷ item.Binary Add ∷ [])
     ∷ area
     ∷ []
@@ -51,7 +52,8 @@ pub forward_plain : ArePlain forward
 forward_plain = (tt, ((tt, tt), (tt, ((tt, (tt, (tt, tt))), (tt, tt)))))
 
 pub forward_final : final_names (laid forward)
-    ≡ valued_entry (codes "y") (Place (codes "z") 4) false ∷ valued_entry (codes "x") (Place (codes "z") 0) false ∷ label_entry (codes "z") (Some 0) 4 (Some 4) false ∷ []
+    ≡ valued_entry (codes "y") (Place (codes "z") 4) false ∷ valued_entry (codes "x") (Place (codes "z") 0) false
+    ∷ label_entry (codes "z") (Some 0) 4 (Some 4) false ∷ []
 forward_final = refl
 
 -- AREA a,DATA / l EQU . / b EQU . + a / a EQU b - l, of places as constants
@@ -67,7 +69,8 @@ pub placed_sound : IsSound placed
 placed_sound = refl
 
 pub placed_final : final_names (laid placed)
-    ≡ place_entry (codes "l") (Some 0) 0 ∷ entry (codes "b") (means.Faulty WrongType) (Some 0) false ∷ entry (codes "a") (means.Faulty WrongType) (Some 0) false ∷ []
+    ≡ place_entry (codes "l") (Some 0) 0 ∷ entry (codes "b") (means.Faulty WrongType) (Some 0) false ∷ entry (codes "a") (means.Faulty WrongType) (Some 0) false
+    ∷ []
 placed_final = refl
 
 abbrev moved : List LaidName

@@ -73,7 +73,8 @@ statements_kept d [] = refl
 statements_kept d (s ∷ ss) = ap (λ z. s ∷ z) (statements_kept d ss)
 
 pub line_sound : (S : List (List ℕ)) (all : List Statement) (l : LaidLine) (before : List LaidLine) → layout_kinds S all l before ≡ []
-    → (is_repeated (names_behind (statements_of before)) (names_in l.statement) ≡ false) × (settled_kinds S (first_equal (defined_by l.statement) (statements_of before)) ≡ [])
+    → (is_repeated (names_behind (statements_of before)) (names_in l.statement) ≡ false)
+    × (settled_kinds S (first_equal (defined_by l.statement) (statements_of before)) ≡ [])
 line_sound S all l before h =
     let a = fault_kinds l.extent ++ map_kinds l.seen l.statement.what ++ no_area_kinds l.area (defined_by l.statement) l.statement.what
     ++ contents_kinds (contents_behind (l.statement ∷ statements_of before)) l.thumb l.statement.what
@@ -87,8 +88,10 @@ line_sound S all l before h =
     let p = both_empty (a ++ b ++ c) d o.0 in
     let q = both_empty (a ++ b) c p.0 in
     let r = both_empty a b q.0 in
-    let t = or_parts (is_repeated (names_behind (statements_of before)) (names_in l.statement)) (is_entry l.statement.what && list_any (λ t. is_entry t.what) (statements_of before))
-    (kind_none (is_repeated (names_behind (statements_of before)) (names_in l.statement) || (is_entry l.statement.what && list_any (λ t. is_entry t.what) (statements_of before))) DuplicateName r.1) in
+    let t = or_parts (is_repeated (names_behind (statements_of before)) (names_in l.statement))
+    (is_entry l.statement.what && list_any (λ t. is_entry t.what) (statements_of before))
+    (kind_none (is_repeated (names_behind (statements_of before)) (names_in l.statement)
+    || (is_entry l.statement.what && list_any (λ t. is_entry t.what) (statements_of before))) DuplicateName r.1) in
     (t.0, q.1)
 
 pub sound_each : (S : List (List ℕ)) (all : List Statement) (d : List LaidName) (ss : List Statement) → first_fault S all (laid_of d ss) ≡ None → EachSound S ss
@@ -118,7 +121,8 @@ abbrev pub AreDistinct : List (List ℕ × Expr) → Type 0
 AreDistinct [] = Unit {0}
 AreDistinct (x ∷ xs) = EachEqual (λ p e. same x.0 p ≡ false) xs × AreDistinct xs
 
-pub distinct_end : (xs : List (List ℕ × Expr)) (q : List ℕ) (e : Expr) → AreDistinct xs → EachEqual (λ p f. same q p ≡ false) xs → AreDistinct (xs ++ (q, e) ∷ [])
+pub distinct_end : (xs : List (List ℕ × Expr)) (q : List ℕ) (e : Expr) → AreDistinct xs → EachEqual (λ p f. same q p ≡ false) xs
+    → AreDistinct (xs ++ (q, e) ∷ [])
 distinct_end [] q e h k = (tt, tt)
 distinct_end (x ∷ xs) q e h k = (
   equal_joined (λ p f. same x.0 p ≡ false) xs ((q, e) ∷ []) h.0 (same_flip q x.0 k.0, tt),
@@ -171,11 +175,13 @@ settled_apart E S q (x ∷ xs) h = by_test (are_settled E S x.1.items) (settled_
 abbrev pub IsSettledIn : List (List ℕ × Expr) → List (List ℕ) → List (List ℕ) → List ℕ → Expr → Type 0
 IsSettledIn E S all p e = list_any (same p) all ≡ true → are_settled E S e.items ≡ true
 
-pub in_rest : (b : Bool) (p q : List ℕ) (rest : List (List ℕ)) → same p q ≡ false → list_any (same p) (cond b (q ∷ rest) rest) ≡ true → list_any (same p) rest ≡ true
+pub in_rest : (b : Bool) (p q : List ℕ) (rest : List (List ℕ)) → same p q ≡ false → list_any (same p) (cond b (q ∷ rest) rest) ≡ true
+    → list_any (same p) rest ≡ true
 in_rest true p q rest h k = ap (λ c. c || list_any (same p) rest) (sym h) ∙ k
 in_rest false p q rest h k = k
 
-pub settled_head : (b : Bool) (q : List ℕ) (rest : List (List ℕ)) → list_any (same q) rest ≡ false → list_any (same q) (cond b (q ∷ rest) rest) ≡ true → b ≡ true
+pub settled_head : (b : Bool) (q : List ℕ) (rest : List (List ℕ)) → list_any (same q) rest ≡ false → list_any (same q) (cond b (q ∷ rest) rest) ≡ true
+    → b ≡ true
 settled_head true q rest h k = refl
 settled_head false q rest h k = absurd (cc)
 

@@ -4,8 +4,8 @@
 use asm_expr::{evaluate, parse_directive, parse_expr};
 use asm_lines::tokens;
 use asm_model::{
-    ArmLine, DirectiveLine, Expr, Flat, LaidName, Meaning, Names, Statement, ThumbLine, Token,
-    TokenKind, Value, What,
+    ArmLine, DataItem, DirectiveLine, Expr, FileName, Flat, LaidName, Meaning, Names, Statement,
+    ThumbLine, Token, TokenKind, Value, What,
 };
 use asm_reading::{parse_arm, parse_thumb};
 use sdt_fault::answer::Fault;
@@ -23,7 +23,7 @@ fn token(kind: TokenKind, start: u32, end: u32) -> Token {
 /// Line 3 of t.s.
 fn line(alloc: Global, text: &[u8]) -> Result<Flat, Fault> {
     Ok(Flat {
-        source: Text::from_slice(alloc, b"t.s")?,
+        source: FileName::of(alloc, &Text::from_slice(alloc, b"t.s")?)?,
         number: 3,
         text: Bytes::from_slice(alloc, text)?,
     })
@@ -89,7 +89,12 @@ fn is_word(said: &Statement) -> bool {
         return false;
     }
     match &said.what {
-        What::Directive(DirectiveLine::Dcd { values }) => values.as_slice().len() == 1,
+        What::Directive(
+            DirectiveLine::Constants {
+                item: DataItem::Word,
+                values,
+            },
+        ) => values.as_slice().len() == 1,
         _ => false,
     }
 }

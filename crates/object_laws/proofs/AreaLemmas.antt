@@ -32,7 +32,7 @@ use Rattle.asm_model.specs.Laid.{LaidLine, pieces_of, laid_behind, laid_of, laid
 use Rattle.asm_model.specs.LayoutKinds.{exponent, exponent_kinds, is_named_otherwise, area_kinds, contents_kinds, is_instruction, state_at, first_state, is_thumb_area, settled, equals_in}
 use Rattle.asm_model.specs.Offsets.{is_of}
 use Rattle.layout_laws.proofs.SoundLemmas.{both_empty, kind_none, statements_kept}
-use Rattle.said_model.specs.Fit.{WhatFits, IsFit}
+use Rattle.asm_model.specs.Fit.{WhatFits, IsFit}
 use Rattle.source_model.specs.Objects.{Source, source_of, Piece, StandsIn, attributes_word, or_two, says_area, attributes_of, HasRelocs, contents_in, contents_of, IsArea as IsAreaOf, IsObject}
 use Rattle.source_laws.specs.Laws.{IsOfState}
 use Rattle.source_laws.proofs.ListedLemmas.{owned}
@@ -72,7 +72,8 @@ told_here area thumb l ls (what.Directive (line.Area name a)) e = by_test (is_of
     by_test false = tt
 told_here area thumb l ls w e = tt
 
-pub told_later : (area : ℕ) (thumb : Bool) (l : LaidLine) (ls : List LaidLine) (w : ℕ) (c : Contents) → FirstLine area thumb ls w c → FirstLine area thumb (l ∷ ls) w c
+pub told_later : (area : ℕ) (thumb : Bool) (l : LaidLine) (ls : List LaidLine) (w : ℕ) (c : Contents) → FirstLine area thumb ls w c
+    → FirstLine area thumb (l ∷ ls) w c
 told_later area thumb l ls w c f =
     record {
       later = l ∷ f.later;
@@ -109,7 +110,8 @@ pub record InstructionOf (area : ℕ) (thumb : Bool) (lines : List LaidLine) : T
   pub says : is_instruction owner.statement.what ≡ true
   pub state : owner.thumb ≡ thumb
 
-pub first_instruction : (d : List LaidName) (area : ℕ) (thumb : Bool) (ss : List Statement) → first_state area ss ≡ Some thumb → InstructionOf area thumb (laid_of d ss)
+pub first_instruction : (d : List LaidName) (area : ℕ) (thumb : Bool) (ss : List Statement) → first_state area ss ≡ Some thumb
+    → InstructionOf area thumb (laid_of d ss)
 first_instruction d area thumb [] e = absurd (cc)
 first_instruction d area thumb (s ∷ ss) e = by_first (first_state area ss) (first_instruction d area thumb ss) e
   where
@@ -232,7 +234,8 @@ pub nothing_misplaced : (n : ℕ) (b : Bool) → n ≡ 0 → cond b n 0 ≡ 0
 nothing_misplaced n true e = e
 nothing_misplaced n false e = refl
 
-pub few_relocs : (ss : List Statement) → AreFaultless ss → (area : ℕ) (a : Area) (c : Contents) → contents_of area (laid ss) ≡ Some c → bit a.attributes 12 ≡ zero_flag c
+pub few_relocs : (ss : List Statement) → AreFaultless ss → (area : ℕ) (a : Area) (c : Contents) → contents_of area (laid ss) ≡ Some c
+    → bit a.attributes 12 ≡ zero_flag c
     → HasRelocs (source_of ss) area a.relocs → misplaced a.attributes (length a.relocs) ≡ 0
 few_relocs ss h area a contents.Code e b x = ap (λ z. cond (z == 1) (length a.relocs) 0) b
 few_relocs ss h area a contents.Data e b x = ap (λ z. cond (z == 1) (length a.relocs) 0) b
@@ -315,7 +318,8 @@ areas_stand before (a ∷ rest) h k = (
   areas_stand (before ++ a ∷ []) rest (subst (λ z. AreApart z (area_names rest)) (sym (area_names_end before a)) h.1) k.1,
 )
 
-pub areas_are_valid : (ss : List Statement) (o : Object) → AreFaultless ss → IsObject ss o → EachStands (λ before a. IsArea (area_names before) (head_of a)) [] o.areas
+pub areas_are_valid : (ss : List Statement) (o : Object) → AreFaultless ss → IsObject ss o
+    → EachStands (λ before a. IsArea (area_names before) (head_of a)) [] o.areas
 areas_are_valid ss o h x =
     let names = names_same (areas_behind ss) o.areas x.count (λ k a e. (x.areas k a e).name) in
     areas_stand [] o.areas (subst (AreApart []) (sym names) (areas_apart ss)) (each_by_place IsAreaAlone o.areas (λ k a e. area_alone ss h k a (x.areas k a e)))

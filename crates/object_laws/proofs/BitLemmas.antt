@@ -4,7 +4,7 @@ use Rattle.sdt_word.specs.Numbers.{bit, bits, flag}
 use Rattle.aof_object.specs.Checks.{refused_area_bits, is_placed, refused_symbol_bits}
 use Rattle.asm_model.specs.declared.directives.Contents.{Contents}
 use Rattle.asm_model.specs.declared.directives.Contents.TheVariants as contents
-use Rattle.said_model.specs.Fit.{MarksAgree}
+use Rattle.asm_model.specs.Fit.{MarksAgree}
 use Rattle.source_model.specs.Objects.{contents_bits}
 
 pub flag_small : (b : Bool) → flag b ≤ 1
@@ -131,7 +131,8 @@ pub record IsAllowed (a : ℕ) : Type 0 where
 pub refused_symbol_none : (a : ℕ) → bit a 3 ≡ 0 → bit a 5 ≡ 0 → bit a 6 ≡ 0 → refused_symbol_bits a ≡ 0
 refused_symbol_none a x y z = rw (x, y, z) refl
 
-pub reference_bits : (w : ℕ) → w ≤ 1 → (bit (2 + w * 2 ^ 4) 3 ≡ 0) × (bit (2 + w * 2 ^ 4) 5 ≡ 0) × (bit (2 + w * 2 ^ 4) 6 ≡ 0) × (bit (2 + w * 2 ^ 4) 0 ≡ 0) × ((2 + w * 2 ^ 4) % 4 ≡ 2)
+pub reference_bits : (w : ℕ) → w ≤ 1 → (bit (2 + w * 2 ^ 4) 3 ≡ 0) × (bit (2 + w * 2 ^ 4) 5 ≡ 0) × (bit (2 + w * 2 ^ 4) 6 ≡ 0) × (bit (2 + w * 2 ^ 4) 0 ≡ 0)
+    × ((2 + w * 2 ^ 4) % 4 ≡ 2)
 reference_bits w h = (omega arith, omega arith, omega arith, omega arith, omega arith)
 
 pub placed_bits : (s m t : ℕ) → 1 ≤ s → s ≤ 3 → m ≤ 1 → t ≤ 1

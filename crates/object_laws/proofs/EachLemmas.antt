@@ -17,7 +17,7 @@ use Rattle.asm_model.specs.Before.{area_named, with_name, areas_behind}
 use Rattle.asm_model.specs.Labels.{Defined, Unnamed, Label, Equal, MapField, RegisterName, field_defines, defined_by, imported_in, declared_names}
 use Rattle.asm_model.specs.Laid.{LaidLine, statements_of, laid, final_names}
 use Rattle.layout_laws.proofs.SoundLemmas.{statements_kept}
-use Rattle.said_model.specs.Said.{what_names, label_names, HoldsNoZero, HasTexts, AllHaveTexts}
+use Rattle.asm_model.specs.Said.{what_names, label_names, HoldsNoZero, HasTexts, AllHaveTexts}
 use Rattle.source_model.specs.Objects.{source_of, At}
 use Rattle.source_laws.proofs.NameLemmas.{each_joined, final_each}
 use Rattle.source_laws.proofs.WithinLemmas.{IsWithin, AllWithin, line_within, names_within}
@@ -118,7 +118,8 @@ name_text ss h = final_each ss (λ n. HoldsNoZero n.name) (record {
 
 pub areas_kept : (ss : List Statement) → length (areas_behind (statements_of (laid ss))) ≤ length (areas_behind ss)
 areas_kept ss =
-    let same : length (areas_behind (statements_of (laid ss))) ≡ length (areas_behind ss) = ap (λ z. length (areas_behind z)) (statements_kept (declared_names ss) ss) in
+    let same : length (areas_behind (statements_of (laid ss))) ≡ length (areas_behind ss) =
+    ap (λ z. length (areas_behind z)) (statements_kept (declared_names ss) ss) in
     omega arith
 
 -- the area of a line is one of the source

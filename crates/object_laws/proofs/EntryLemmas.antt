@@ -99,12 +99,14 @@ entry_inside o area l all own says h =
     ltb-true l.offset size (not_false (nat_lt l.offset size) p)
 
 -- and of its area's state
-pub entry_state : (o : Option ℕ) (area : ℕ) (thumb : Bool) (w : What) (all : List Statement) → o ≡ Some area → is_entry w ≡ true → state_kinds o thumb w all ≡ []
+pub entry_state : (o : Option ℕ) (area : ℕ) (thumb : Bool) (w : What) (all : List Statement) → o ≡ Some area → is_entry w ≡ true
+    → state_kinds o thumb w all ≡ []
     → thumb ≡ is_thumb_area area all
 entry_state o area thumb w all own says h =
     let same = same_mark thumb (is_thumb_area area all) in
     marks_agree thumb (is_thumb_area area all)
-    (not_false same (second_false (is_entry w) (not same) says (kind_none (is_entry w && not same) BadOperand (subst (λ z. state_kinds z thumb w all ≡ []) own h))))
+    (not_false same (second_false (is_entry w) (not same) says (kind_none (is_entry w && not same) BadOperand
+    (subst (λ z. state_kinds z thumb w all ≡ []) own h))))
 
 -- what an offset leaves over in Thumb or ARM state
 abbrev pub left_in : Bool → ℕ → ℕ

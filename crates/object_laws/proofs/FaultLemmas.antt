@@ -32,7 +32,8 @@ pub reversed_order : (xs ys : List LaidLine) → reversed xs ys ≡ in_order xs 
 reversed_order [] ys = refl
 reversed_order (x ∷ xs) ys = reversed_order xs (x ∷ ys)
 
-pub reversed_split : (after before : List LaidLine) (l : LaidLine) (tail : List LaidLine) → reversed (after ++ l ∷ before) tail ≡ reversed before (l ∷ reversed after tail)
+pub reversed_split : (after before : List LaidLine) (l : LaidLine) (tail : List LaidLine)
+    → reversed (after ++ l ∷ before) tail ≡ reversed before (l ∷ reversed after tail)
 reversed_split [] before l tail = refl
 reversed_split (x ∷ after) before l tail = reversed_split after before l (x ∷ tail)
 
@@ -97,11 +98,14 @@ pub valued_here : (ss : List Statement) → value_faults ss ≡ None → (after 
     → valued_kinds (laid ss) ss before l (in_order after []) ≡ []
 valued_here ss none after before l e =
     let all = laid ss in
-    let split = subst (λ z. first_valued all ss [] z ≡ None) (reversed_split after before l []) (subst (λ z. first_valued all ss [] (reversed z []) ≡ None) e none) in
-    let here = subst (λ z. first_valued all ss z (l ∷ reversed after []) ≡ None) (append-nil before) (valued_behind all ss [] before (l ∷ reversed after []) split) in
+    let split =
+    subst (λ z. first_valued all ss [] z ≡ None) (reversed_split after before l []) (subst (λ z. first_valued all ss [] (reversed z []) ≡ None) e none) in
+    let here =
+    subst (λ z. first_valued all ss z (l ∷ reversed after []) ≡ None) (append-nil before) (valued_behind all ss [] before (l ∷ reversed after []) split) in
     subst (λ z. valued_kinds all ss before l z ≡ []) (reversed_order after [])
     (told_none l.statement (valued_kinds all ss before l (reversed after []))
-    (or_none (told_at l.statement (told_kind (valued_kinds all ss before l (reversed after [])))) (first_valued all ss (l ∷ before) (reversed after [])) here).0)
+    (or_none (told_at l.statement (told_kind (valued_kinds all ss before l (reversed after [])))) (first_valued all ss (l ∷ before) (reversed after []))
+    here).0)
 
 pub known_result : {A : Type 0} → (r : Result A LineKind) → fault_kinds r ≡ [] → (x : A) × (r ≡ Ok x)
 known_result (Ok x) h = (x, refl)

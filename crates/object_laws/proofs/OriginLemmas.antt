@@ -55,7 +55,8 @@ pub tree_to : (P Q : List ℕ → Type 0) (l : SourceLine) (xs : List LaidName) 
 tree_to P Q l xs closed (Leaf i) h k = item_to P Q l xs closed i h k
 tree_to P Q l xs closed (Before op t) h k = applied_is Q op (operand_of_tree (with_names l xs) t)
 tree_to P Q l xs closed (Between op t u) h k =
-    both_is Q (with_names l xs) op (meaning (with_names l xs) t) (meaning (with_names l xs) u) (tree_to P Q l xs closed t h.0 k.0) (tree_to P Q l xs closed u h.1 k.1)
+    both_is Q (with_names l xs) op (meaning (with_names l xs) t) (meaning (with_names l xs) u) (tree_to P Q l xs closed t h.0 k.0)
+    (tree_to P Q l xs closed u h.1 k.1)
 
 -- ---- entries
 
@@ -107,7 +108,8 @@ entry_own P Q xs q l us n closed (Named m) regular owned h rest e = by_test (sam
     by_test true k = let x : m ≡ n = cc in subst (OwnOr Q) x (own_weaker nothing Q (λ s g. absurd g) m owned)
     by_test false k = rest k
 entry_own P Q xs q l us n closed (Equated make t) regular owned h rest e =
-    made_found Q make (meaning (with_names l xs) t) q us n (regular (meaning (with_names l xs) t)) (λ y. let p = h y in tree_to P Q l xs closed t p.0 p.1) rest e
+    made_found Q make (meaning (with_names l xs) t) q us n (regular (meaning (with_names l xs) t)) (λ y. let p = h y in tree_to P Q l xs closed t p.0 p.1) rest
+    e
 
 pub entries_own : (P Q : List ℕ → Type 0) (xs : List LaidName) (q : List ℕ) (n : LaidName) → ClosedTo P Q xs
     → (ls : List SourceLine) → AreRegular ls → AreOwned ls → EachEquated (LeadTo P Q q) ls → named_in q (all_entries xs ls) ≡ Some n → OwnOr Q n
@@ -155,7 +157,8 @@ pub one_step : (names : List LaidName) (ls : List SourceLine) → AreFinal names
 one_step names ls final P closed q n h e =
     by_case
     (entries_own P (IsOwn names) names q n closed ls final.regular final.owned
-    (each_both (λ p t. p ≡ q → TreeIs P t) (λ p t. TreeEach (HoldsConstant (IsOwn names)) t) (LeadTo P (IsOwn names) q) (λ p t f k x. (f x, k)) ls h final.placeless)
+    (each_both (λ p t. p ≡ q → TreeIs P t) (λ p t. TreeEach (HoldsConstant (IsOwn names)) t) (LeadTo P (IsOwn names) q) (λ p t f k x. (f x, k)) ls h
+    final.placeless)
     (ap (named_in q) final.same_again ∙ e))
   where
     by_case : OwnOr (IsOwn names) n → ResultIs (IsOwn names) (entry_value n)

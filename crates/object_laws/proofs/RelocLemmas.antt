@@ -14,9 +14,9 @@ use Rattle.asm_model.specs.declared.statements.Statement.{Statement}
 use Rattle.asm_model.specs.Before.{areas_behind}
 use Rattle.asm_model.specs.Laid.{statements_of, laid}
 use Rattle.asm_model.specs.Symbols.{symbols_of}
-use Rattle.said_model.specs.Said.{HoldsNoZero}
+use Rattle.asm_model.specs.Said.{HoldsNoZero}
 use Rattle.source_model.specs.Objects.{source_of, symbol_number, word_relocs, branch_relocs, relocs_of, IsRelocOf, HasRelocs, contents_of, symbol_named, symbol_records, is_kept, KeepsBytes, IsArea, IsObject}
-use Rattle.source_model.specs.Units.{Emitted, Bytes, Word, Instruction, Half, LinkPair, Target, Nothing, ByArea, BySymbol}
+use Rattle.source_model.specs.Units.{Emitted, Bytes, Word, Instruction, Half, LinkPair, RelocationTarget, Nothing, ByArea, BySymbol}
 use Rattle.source_laws.proofs.ZeroLemmas.{place_below}
 use Rattle.object_laws.specs.Laws.{IsListed, OptionListed, TargetListed, UnitListed, AreFaultless}
 use Rattle.object_laws.proofs.AreaLemmas.{area_facts}
@@ -60,7 +60,7 @@ pub symbol_below : (ss : List Statement) (areas symbols : ℕ) → AreFew ss are
 symbol_below ss areas symbols few q h =
     subst (λ z. symbol_number (source_of ss) q < z) few.symbols_are (place_below q (symbols_of (source_of ss).names (source_of ss).lines) h)
 
-pub word_valid : (ss : List Statement) (areas symbols : ℕ) → AreFew ss areas symbols → (at : ℕ) (t : Target)
+pub word_valid : (ss : List Statement) (areas symbols : ℕ) → AreFew ss areas symbols → (at : ℕ) (t : RelocationTarget)
     → TargetListed (symbols_of (source_of ss).names (source_of ss).lines) t → TargetBelow areas t → (r : Reloc) → IsRelocOf (word_relocs (source_of ss) at t) r
     → IsReloc areas symbols r
 word_valid ss areas symbols few at Nothing h k r i = absurd i
@@ -73,7 +73,8 @@ word_valid ss areas symbols few at (BySymbol q) h k r (inl e) =
 word_valid ss areas symbols few at (BySymbol q) h k r (inr i) = absurd i
 
 pub branch_valid : (ss : List Statement) (areas symbols : ℕ) → AreFew ss areas symbols → (at : ℕ) (o : Option (List ℕ))
-    → OptionListed (symbols_of (source_of ss).names (source_of ss).lines) o → (r : Reloc) → IsRelocOf (branch_relocs (source_of ss) at o) r → IsReloc areas symbols r
+    → OptionListed (symbols_of (source_of ss).names (source_of ss).lines) o → (r : Reloc) → IsRelocOf (branch_relocs (source_of ss) at o) r
+    → IsReloc areas symbols r
 branch_valid ss areas symbols few at None h r i = absurd i
 branch_valid ss areas symbols few at (Some q) h r (inl e) =
     subst (λ z. IsReloc areas symbols z) (sym e)

@@ -22,7 +22,8 @@ use Rattle.object_laws.proofs.FaultLemmas.{layout_here, last_kinds, late_here}
 
 -- ---- lines end early enough
 
-pub line_small : (S : List (List ℕ)) (all : List Statement) (l : LaidLine) (before : List LaidLine) → layout_kinds S all l before ≡ [] → l.offset + l.size ≤ 2 ^ 24
+pub line_small : (S : List (List ℕ)) (all : List Statement) (l : LaidLine) (before : List LaidLine) → layout_kinds S all l before ≡ [] → l.offset
+    + l.size ≤ 2 ^ 24
 line_small S all l before h =
     ltb-false area_bytes (l.offset + l.size) (kind_none (nat_lt area_bytes (l.offset + l.size)) TooMany (last_kinds S all l before h).1)
 
@@ -34,7 +35,8 @@ pub ends_small : (ss : List Statement) → layout_faults ss ≡ None → (area :
     → end_behind area (pieces_of before) ≤ 2 ^ 24
 ends_small ss none area after [] e = omega arith
 ends_small ss none area after (l ∷ ls) e =
-    either_small (is_of area l.area) (end_from (end_behind area (pieces_of ls)) (waiting area (pieces_of ls)) (taken l.extent)) (end_behind area (pieces_of ls)) (2 ^ 24)
+    either_small (is_of area l.area) (end_from (end_behind area (pieces_of ls)) (waiting area (pieces_of ls)) (taken l.extent)) (end_behind area (pieces_of ls))
+    (2 ^ 24)
     (λ x.
     subst (λ z. z ≤ 2 ^ 24) (line_ends ss (layout_sound ss none) area after ls l e (owned area l.area x))
     (line_small (settled (equals_in ss)) ss l ls (layout_here ss none after ls l e)))
@@ -60,7 +62,8 @@ each_last P (w ∷ ws) v h = each_last P ws v h.1
 abbrev pub HasLast : (Value → Type 0) → List Value → Type 0
 HasLast P ws = (ws ≡ []) ⊎ ((v : Value) × P v × (place_among v ws + 1 ≡ length ws))
 
-last_waits : (P : Value → Type 0) → ((v : Value) → P v → same_literal v v ≡ true) → (area : ℕ) (ps : List Piece) → AllByRecursion P (waiting area ps) → HasLast P (waiting area ps)
+last_waits : (P : Value → Type 0) → ((v : Value) → P v → same_literal v v ≡ true) → (area : ℕ) (ps : List Piece) → AllByRecursion P (waiting area ps)
+    → HasLast P (waiting area ps)
 last_waits P f area [] h = inl refl
 last_waits P f area (s ∷ ps) h = by_area (last_waits P f area ps) (is_of area s.area) h
   where
@@ -77,7 +80,8 @@ last_waits P f area (s ∷ ps) h = by_area (last_waits P f area ps) (is_of area 
     by_extent older (Loading n v) k = by_noted older v (list_any (same_literal v) ws) refl k
     by_extent older e k = older k
 
-    by_area : (AllByRecursion P ws → HasLast P ws) → (b : Bool) → AllByRecursion P (cond b (waiting_behind s.extent ws) ws) → HasLast P (cond b (waiting_behind s.extent ws) ws)
+    by_area : (AllByRecursion P ws → HasLast P ws) → (b : Bool) → AllByRecursion P (cond b (waiting_behind s.extent ws) ws)
+        → HasLast P (cond b (waiting_behind s.extent ws) ws)
     by_area older true k = by_extent older s.extent k
     by_area older false k = older k
 

@@ -17,6 +17,8 @@ use Rattle.arm_isa.specs.declared.instr.ArmInstr.TheVariants as instr
 use Rattle.asm_model.specs.declared.arm_lines.ArmLine.{ArmLine}
 use Rattle.asm_model.specs.declared.arm_lines.ArmLine.TheVariants as arm
 use Rattle.asm_model.specs.declared.directives.DirectiveLine.TheVariants as line
+use Rattle.asm_model.specs.declared.directives.Held.{Held}
+use Rattle.asm_model.specs.declared.directives.Held.TheVariants as held
 use Rattle.asm_model.specs.declared.exprs.Expr.{Expr}
 use Rattle.asm_model.specs.declared.names.LaidName.{LaidName}
 use Rattle.asm_model.specs.declared.names.Meaning.{Meaning}
@@ -28,23 +30,24 @@ use Rattle.asm_model.specs.declared.thumb_lines.ThumbLine.{ThumbLine}
 use Rattle.asm_model.specs.declared.thumb_lines.ThumbLine.TheVariants as thumb
 use Rattle.asm_model.specs.declared.values.Value.{Value}
 use Rattle.asm_model.specs.declared.values.Value.TheVariants.{Number, Truth, Words, Place}
+use Rattle.asm_model.specs.DataItems.{held_by}
 use Rattle.asm_model.specs.Forms.{same}
 use Rattle.asm_model.specs.Meaning.{named_in, in_area, entry_stands_at, stands_at, meant, entry_value, value_of as value_of_name}
-use Rattle.asm_model.specs.Says.{mapped}
 use Rattle.asm_model.specs.Before.{with_name, areas_behind}
 use Rattle.asm_model.specs.Entries.{imported_entry, equal_entry, thumb_of}
 use Rattle.asm_model.specs.Extents.{Extent, Block, Padding, Loading, Pool}
 use Rattle.asm_model.specs.Labels.{imported_in, is_hidden}
 use Rattle.asm_model.specs.Laid.{LaidLine, taken, laid, final_names}
 use Rattle.asm_model.specs.Marks.{datum_names}
+use Rattle.asm_model.specs.Readings.{and_then, mapped}
 use Rattle.asm_model.specs.Sound.{IsSound}
-use Rattle.asm_model.specs.Symbols.{literal_value, unless_placed, word_symbols, words_symbols, branch_symbols, literal_symbols, symbols_in, listed_behind, symbols_of, symbols_of}
+use Rattle.asm_model.specs.Symbols.{literal_value, unless_placed, word_symbols, words_symbols, branch_symbols, literal_symbols, held_symbols, symbols_in, listed_behind, symbols_of}
 use Rattle.layout_laws.proofs.FoundLemmas.{imports_stand}
 use Rattle.layout_laws.proofs.RoundLemmas.{ResultIs}
-use Rattle.said_model.specs.Fit.{AllPlaceless, WhatFits, IsFit}
-use Rattle.said_model.specs.Said.{what_names, HoldsNoZero, HasTexts}
+use Rattle.asm_model.specs.Fit.{AllPlaceless, HeldFit, WhatFits, IsFit}
+use Rattle.asm_model.specs.Said.{what_names, HoldsNoZero, HasTexts}
 use Rattle.source_model.specs.ArmForms.{is_settled, has_symbol, branch_from, branch_displacement, branch_field, arm_instruction}
-use Rattle.source_model.specs.Contexts.{Context, sees, is_symbol, is_symbol_entry, may_have_symbol, value_of, and_then}
+use Rattle.source_model.specs.Contexts.{Context, sees, is_symbol, is_symbol_entry, may_have_symbol, value_of}
 use Rattle.source_model.specs.Objects.{Source, source_of, At, is_exported as is_exported_name, is_weak, scope, contents_of, holds_code, symbol_placed, context_in, symbol_valued, symbol_named, IsObject}
 use Rattle.source_model.specs.ThumbForms.{half_words, pair_fields, thumb_displacement, thumb_from, thumb_instruction}
 use Rattle.source_model.specs.Units.{Emitted, Instruction, branch_symbol, link_symbol, code_unit, units}
@@ -60,7 +63,7 @@ use Rattle.object_laws.proofs.BitLemmas.{IsAllowed, reference_allowed, placed_al
 use Rattle.object_laws.proofs.EachLemmas.{each_there, names_text, name_text, line_below, name_below}
 use Rattle.object_laws.proofs.FaultLemmas.{sizes_of, line_valued}
 use Rattle.object_laws.proofs.OriginLemmas.{IsOwn, named_name, value_own, literal_own}
-use Rattle.said_model.proofs.SharedLemmas.{are_plain as said_plain}
+use Rattle.asm_model.proofs.SaidLemmas.{are_plain as said_plain}
 
 -- ---- one symbol
 
@@ -195,7 +198,8 @@ pub loose_good : (ss : List Statement) → AreFaultless ss → (q : List ℕ) �
 loose_good ss h q own (Some a) f = tt
 loose_good ss h q own None f = (own_name_good ss h q own (λ a y. let z = f own.0 own.1 in absurd (cc)), tt)
 
-pub word_good : (ss : List Statement) → AreFaultless ss → (before : List LaidLine) (l : LaidLine) (r : Result Value LineKind) → ResultIs (IsOwn (final_names (laid ss))) r
+pub word_good : (ss : List Statement) → AreFaultless ss → (before : List LaidLine) (l : LaidLine) (r : Result Value LineKind)
+    → ResultIs (IsOwn (final_names (laid ss))) r
     → AreGoodNames ss (word_symbols (sees (context_behind ss l before)) r)
 word_good ss h before l (Ok (Place (x ∷ xs) n)) own =
     let c = context_behind ss l before in
@@ -244,7 +248,8 @@ HasSymbol c r = Unit {0}
 
 pub branch_good : (ss : List Statement) → AreFaultless ss → (before : List LaidLine) (l : LaidLine) (r : Result Value LineKind)
     → HasSymbol (context_behind ss l before) r → AreGoodNames ss (branch_symbols (sees (context_behind ss l before)) r)
-branch_good ss h before l (Ok (Place (x ∷ xs) n)) has = linked_good ss h (context_behind ss l before) refl (x ∷ xs) (is_settled (context_behind ss l before) (x ∷ xs)) has
+branch_good ss h before l (Ok (Place (x ∷ xs) n)) has =
+    linked_good ss h (context_behind ss l before) refl (x ∷ xs) (is_settled (context_behind ss l before) (x ∷ xs)) has
 branch_good ss h before l (Ok (Place [] n)) has = tt
 branch_good ss h before l (Ok (Number n)) has = tt
 branch_good ss h before l (Ok (Truth b)) has = tt
@@ -352,7 +357,8 @@ pub arm_good : (ss : List Statement) → AreFaultless ss → (before : List Laid
     → (t : Extent) → AreGoodNames ss (symbols_in (final_names (laid ss)) (context_behind ss l before).line t (what.Arm a))
 arm_good ss h before l (arm.Branch condition link target) us e t =
     let c = context_behind ss l before in
-    let i = mapped_known (λ i. Instruction i (branch_symbol c (arm.Branch condition link target)) ∷ []) (arm_instruction c (arm.Branch condition link target)) us e in
+    let i = mapped_known (λ i. Instruction i (branch_symbol c (arm.Branch condition link target)) ∷ []) (arm_instruction c (arm.Branch condition link target))
+    us e in
     let d = then_known (λ d. mapped (λ f. instr.Branch condition link f) (branch_field d)) (branch_displacement c (value_of c target)) i.0 i.1 in
     branch_good ss h before l (value_of c target) (branch_has c (value_of c target) d.0 d.1)
 arm_good ss h before l a us e t = tt
@@ -369,6 +375,12 @@ thumb_good ss h before l (thumb.BranchLink target) us e t =
     branch_good ss h before l (value_of c target) (link_has c (value_of c target) d.0 d.1)
 thumb_good ss h before l a us e t = tt
 
+held_good : (ss : List Statement) → AreFaultless ss → (before : List LaidLine) (l : LaidLine) (v : Held) (es : List Expr) → HeldFit v es
+    → AreGoodNames ss (held_symbols (final_names (laid ss)) (context_behind ss l before).line v es)
+held_good ss h before l held.Relocatable es k = words_good ss h before l es k
+held_good ss h before l (held.Fixed width) es k = tt
+held_good ss h before l held.Strings es k = tt
+
 pub line_good : (ss : List Statement) → AreFaultless ss → (before : List LaidLine) (l : LaidLine)
     → (word : Option ℕ) (t : Extent) (w : What) → Known ss before l word w
     → AreGoodNames ss (symbols_in (final_names (laid ss)) (context_behind ss l before).line t w)
@@ -381,8 +393,7 @@ line_good ss h before l word t (what.Directive (line.Export name)) k =
 line_good ss h before l word t (what.Directive (line.Keep name)) k =
     ((export_good ss h (context_behind ss l before) refl name k.kinds, k.texts.0), tt)
 line_good ss h before l word t (what.Directive (line.Import name weak)) k = (k.imports name refl, tt)
-line_good ss h before l word t (what.Directive (line.Dcd es)) k = words_good ss h before l es k.fits
-line_good ss h before l word t (what.Directive (line.Dcdu es)) k = words_good ss h before l es k.fits
+line_good ss h before l word t (what.Directive (line.Constants item es)) k = held_good ss h before l (held_by item) es k.fits
 line_good ss h before l word t (what.Directive d) k = tt
 
 pub line_here : (ss : List Statement) → AreFaultless ss → (after before : List LaidLine) (l : LaidLine) → laid ss ≡ after ++ l ∷ before
@@ -445,7 +456,8 @@ pub exported_lacks : (s : Source) (q : List ℕ) (names : List (List ℕ)) → L
 exported_lacks s q [] h = tt
 exported_lacks s q (n ∷ ns) h = by_test (is_exported (symbol_named s n).attributes) (exported_lacks s q ns h.1)
   where
-    by_test : (b : Bool) → Lacks (exported (map (symbol_named s) ns)) q → Lacks (cond b ((symbol_named s n).name ∷ exported (map (symbol_named s) ns)) (exported (map (symbol_named s) ns))) q
+    by_test : (b : Bool) → Lacks (exported (map (symbol_named s) ns)) q → Lacks
+        (cond b ((symbol_named s n).name ∷ exported (map (symbol_named s) ns)) (exported (map (symbol_named s) ns))) q
     by_test true k = (subst (λ z. z ≢ q) (sym (symbol_name s n (value_of_name (named_in n s.names)))) h.0, k)
     by_test false k = k
 
@@ -467,7 +479,8 @@ head_there [] k a e = absurd (cc)
 head_there (b ∷ areas) zero a e = let x : b ≡ a = cc in ap (λ z. Some (head_of z)) x
 head_there (b ∷ areas) (suc k) a e = head_there areas k a e
 
-pub lives : (areas : List Area) (sizes : ℕ → ℕ) → HaveSizes areas sizes → (attributes value : ℕ) (o : Option ℕ) → LivesBelow (length areas) sizes attributes value o
+pub lives : (areas : List Area) (sizes : ℕ → ℕ) → HaveSizes areas sizes → (attributes value : ℕ) (o : Option ℕ)
+    → LivesBelow (length areas) sizes attributes value o
     → Lives (heads areas) attributes value o
 lives areas sizes f attributes value None h = h
 lives areas sizes f attributes value (Some k) h =
@@ -481,7 +494,8 @@ pub records_stand : (s : Source) (areas : List Area) (sizes : ℕ → ℕ) → H
 records_stand s areas sizes f before [] h k = tt
 records_stand s areas sizes f before (q ∷ names) h k = (
   record {
-    fresh = λ e. subst (Lacks (exported (map (symbol_named s) before))) (sym (symbol_name s q (value_of_name (named_in q s.names)))) (exported_lacks s q before h.0);
+    fresh = λ e. subst (Lacks (exported (map (symbol_named s) before))) (sym (symbol_name s q (value_of_name (named_in q s.names))))
+        (exported_lacks s q before h.0);
     permitted = k.0.allowed.permitted;
     scope = k.0.allowed.scope;
     lives = lives areas sizes f (symbol_named s q).attributes (symbol_named s q).value (symbol_named s q).area k.0.lives;

@@ -8,37 +8,38 @@ use Rattle.sdt_fault.specs.declared.kinds.LineKind.{LineKind}
 use Rattle.arm_isa.specs.declared.instr.ArmInstr.{ArmInstr}
 use Rattle.asm_model.specs.declared.exprs.Expr.{Expr}
 use Rattle.asm_model.specs.declared.arm_lines.ArmLine.{ArmLine}
-use Rattle.asm_model.specs.declared.arm_lines.ArmLine.TheVariants as arm
 use Rattle.asm_model.specs.declared.directives.DirectiveLine.TheVariants as line
+use Rattle.asm_model.specs.declared.directives.Held.{Held}
+use Rattle.asm_model.specs.declared.directives.Held.TheVariants as held
 use Rattle.asm_model.specs.declared.names.LaidName.{LaidName}
 use Rattle.asm_model.specs.declared.statements.PseudoLine.{PseudoLine}
 use Rattle.asm_model.specs.declared.statements.Statement.{Statement}
 use Rattle.asm_model.specs.declared.statements.What.{What}
 use Rattle.asm_model.specs.declared.statements.What.TheVariants as what
 use Rattle.asm_model.specs.declared.thumb_lines.ThumbLine.{ThumbLine}
-use Rattle.asm_model.specs.declared.thumb_lines.ThumbLine.TheVariants as thumb
 use Rattle.asm_model.specs.declared.values.Value.{Value}
 use Rattle.asm_model.specs.declared.values.Value.TheVariants.{Number, Place}
 use Rattle.asm_model.specs.declared.names.Names.{Names}
 use Rattle.asm_model.specs.AtLine.{SourceLine}
+use Rattle.asm_model.specs.DataItems.{held_by}
 use Rattle.asm_model.specs.Forms.{same}
 use Rattle.asm_model.specs.Meaning.{stands_at, in_area}
-use Rattle.asm_model.specs.Says.{on_both, mapped}
 use Rattle.asm_model.proofs.WordLemmas.{same_refl, same_true}
 use Rattle.asm_model.specs.Before.{with_name, areas_behind}
 use Rattle.asm_model.specs.Extents.{Extent, value_there}
 use Rattle.asm_model.specs.Laid.{LaidLine, taken, statements_of, pieces_of, laid, final_names}
 use Rattle.asm_model.specs.Marks.{datum_names}
 use Rattle.asm_model.specs.Offsets.{literal_word}
-use Rattle.asm_model.specs.Symbols.{literal_value, unless_placed, word_symbols, words_symbols, branch_symbols, arm_symbols, thumb_symbols, literal_symbols, symbols_in, listed_behind, symbols_of}
+use Rattle.asm_model.specs.Symbols.{literal_value, unless_placed, word_symbols, words_symbols, branch_symbols, arm_target, thumb_target, target_symbols, arm_symbols, thumb_symbols, literal_symbols, held_symbols, symbols_in, listed_behind, symbols_of}
+use Rattle.asm_model.specs.Readings.{and_then, mapped, on_both}
 use Rattle.source_model.specs.ArmForms.{arm_instruction, is_settled}
-use Rattle.source_model.specs.Contexts.{Context, sees, value_of, number_in, and_then}
+use Rattle.source_model.specs.Contexts.{Context, sees, value_of, number_in}
 use Rattle.source_model.specs.Objects.{Piece, unit_bytes, units_from, or_none, source_of, in_order, literal_stored, IsAmong, StandsIn}
 use Rattle.source_model.specs.PseudoForms.{pseudo_instructions}
 use Rattle.source_model.specs.ThumbForms.{thumb_instruction, thumb_pseudo}
 use Rattle.source_model.specs.declared.codes.ThumbCode.{ThumbCode}
 use Rattle.source_model.specs.declared.codes.ThumbCode.TheVariants as code
-use Rattle.source_model.specs.Units.{Emitted, Bytes, Word, Instruction, Half, Stored, Target, ByArea, placed, stored, word_units, narrow, half_units, byte_operand, byte_units, linked_symbol, branch_symbol, link_symbol, code_unit, instruction_units, pseudo_units, units}
+use Rattle.source_model.specs.Units.{Emitted, Bytes, Word, Instruction, Half, Stored, RelocationTarget, ByArea, placed, stored, word_units, narrow, number_units, byte_operand, byte_units, linked_symbol, target_symbol, branch_symbol, link_symbol, code_unit, instruction_units, pseudo_units, held_units, units}
 use Rattle.source_laws.specs.Laws.{word_among, context_behind}
 use Rattle.source_laws.proofs.AgreeLemmas.{line_area, literal_stored_there}
 use Rattle.source_laws.proofs.ListedLemmas.{OwnUnit}
@@ -98,7 +99,7 @@ lines_listed names (x ∷ after) before l q h =
 
 -- ---- units
 
-abbrev pub TargetBelow : ℕ → Target → Type 0
+abbrev pub TargetBelow : ℕ → RelocationTarget → Type 0
 TargetBelow count (ByArea a) = a < count
 TargetBelow count _ = Unit {0}
 
@@ -117,7 +118,8 @@ abbrev pub ResultKnown : ℕ → List (List ℕ) → Result (List Emitted) LineK
 ResultKnown count ns (Ok us) = EachKnown count ns us
 ResultKnown count ns (Err k) = Unit {0}
 
-pub unit_there : (count : ℕ) (ns : List (List ℕ)) (at : ℕ) (r : Result (List Emitted) LineKind) (p : Piece) → ResultKnown count ns r → IsAmong p (units_from at (or_none r))
+pub unit_there : (count : ℕ) (ns : List (List ℕ)) (at : ℕ) (r : Result (List Emitted) LineKind) (p : Piece) → ResultKnown count ns r
+    → IsAmong p (units_from at (or_none r))
     → UnitKnown count ns p.1
 unit_there count ns at (Ok []) p h k = absurd k
 unit_there count ns at (Ok (u ∷ us)) p h (inl e) = subst (λ (z : Piece). UnitKnown count ns z.1) (sym e) h.0
@@ -136,11 +138,13 @@ abbrev pub StoredKnown : ℕ → List (List ℕ) → Result Stored LineKind → 
 StoredKnown count ns (Ok w) = TargetBelow count w.target × TargetListed ns w.target
 StoredKnown count ns (Err k) = Unit {0}
 
-pub word_known : (count : ℕ) (ns : List (List ℕ)) (c : Context) (d : List (List ℕ)) (r : Result Value LineKind) → InArea count c → Fewer (word_symbols (sees c) r) ns
+pub word_known : (count : ℕ) (ns : List (List ℕ)) (c : Context) (d : List (List ℕ)) (r : Result Value LineKind) → InArea count c
+    → Fewer (word_symbols (sees c) r) ns
     → StoredKnown count ns (stored c d r)
 word_known count ns c d (Ok (Place [] n)) here f = by_place (in_area c.line.area 0) refl (ap (λ o. in_area o 0) here.own)
   where
-    by_place : (o : Option (ℕ × ℕ)) → in_area c.line.area 0 ≡ o → o ≡ Some (here.area, 0) → TargetBelow count (placed c d [] n o).target × TargetListed ns (placed c d [] n o).target
+    by_place : (o : Option (ℕ × ℕ)) → in_area c.line.area 0 ≡ o → o ≡ Some (here.area, 0) → TargetBelow count (placed c d [] n o).target
+        × TargetListed ns (placed c d [] n o).target
     by_place None x e = absurd (cc)
     by_place (Some a) x e = (here.within [] a x, tt)
 word_known count ns c d (Ok (Place (x ∷ xs) n)) here f = by_place (stands_at (sees c) (x ∷ xs)) refl f
@@ -152,14 +156,16 @@ word_known count ns c d (Ok (Place (x ∷ xs) n)) here f = by_place (stands_at (
 word_known count ns c d (Ok (Number n)) here f = (tt, tt)
 word_known count ns c d r here f = tt
 
-pub words_joined : (count : ℕ) (ns : List (List ℕ)) (x : Result Stored LineKind) (y : Result (List Emitted) LineKind) → StoredKnown count ns x → ResultKnown count ns y
+pub words_joined : (count : ℕ) (ns : List (List ℕ)) (x : Result Stored LineKind) (y : Result (List Emitted) LineKind) → StoredKnown count ns x
+    → ResultKnown count ns y
     → ResultKnown count ns (on_both (λ w us. Word w ∷ us) x y)
 words_joined count ns (Ok w) (Ok us) h k = (h, k)
 words_joined count ns (Ok w) (Err k) h i = tt
 words_joined count ns (Err k) (Ok us) h i = tt
 words_joined count ns (Err k) (Err j) h i = tt
 
-pub words_known : (count : ℕ) (ns : List (List ℕ)) (c : Context) (d : List (List ℕ)) (es : List Expr) → InArea count c → Fewer (words_symbols c.names c.line es) ns
+pub words_known : (count : ℕ) (ns : List (List ℕ)) (c : Context) (d : List (List ℕ)) (es : List Expr) → InArea count c
+    → Fewer (words_symbols c.names c.line es) ns
     → ResultKnown count ns (word_units c d es)
 words_known count ns c d [] here f = tt
 words_known count ns c d (e ∷ es) here f =
@@ -169,7 +175,7 @@ words_known count ns c d (e ∷ es) here f =
     (word_known count ns c d (value_of c e) here (λ q h. f q (any_joined q one others h)))
     (words_known count ns c d es here (λ q h. f q (any_later q one others h)))
 
--- ---- half-words and bytes
+-- ---- numbers and strings
 
 pub bytes_joined : (count : ℕ) (ns : List (List ℕ)) (x : Result (List ℕ) LineKind) (y : Result (List Emitted) LineKind) → ResultKnown count ns y
     → ResultKnown count ns (on_both (λ b us. Bytes b ∷ us) x y)
@@ -178,13 +184,21 @@ bytes_joined count ns (Ok b) (Err k) h = tt
 bytes_joined count ns (Err k) (Ok us) h = tt
 bytes_joined count ns (Err k) (Err j) h = tt
 
-pub halves_known : (count : ℕ) (ns : List (List ℕ)) (c : Context) (es : List Expr) → ResultKnown count ns (half_units c es)
-halves_known count ns c [] = tt
-halves_known count ns c (e ∷ es) = bytes_joined count ns (and_then (number_in c e) (narrow 2)) (half_units c es) (halves_known count ns c es)
+pub numbers_known : (count : ℕ) (ns : List (List ℕ)) (c : Context) (width : ℕ) (es : List Expr) → ResultKnown count ns (number_units c width es)
+numbers_known count ns c width [] = tt
+numbers_known count ns c width (e ∷ es) =
+    bytes_joined count ns (and_then (number_in c e) (narrow width)) (number_units c width es) (numbers_known count ns c width es)
 
 pub bytes_known : (count : ℕ) (ns : List (List ℕ)) (c : Context) (s : Names) (es : List Expr) → ResultKnown count ns (byte_units c s es)
 bytes_known count ns c s [] = tt
 bytes_known count ns c s (e ∷ es) = bytes_joined count ns (byte_operand (value_there s e) (value_of c e)) (byte_units c s es) (bytes_known count ns c s es)
+
+-- values that are held so
+held_known : (count : ℕ) (ns : List (List ℕ)) (c : Context) (d : List (List ℕ)) (s : Names) (h : Held) (es : List Expr) → InArea count c
+    → Fewer (held_symbols c.names c.line h es) ns → ResultKnown count ns (held_units c d s h es)
+held_known count ns c d s held.Relocatable es here f = words_known count ns c d es here f
+held_known count ns c d s (held.Fixed width) es here f = numbers_known count ns c width es
+held_known count ns c d s held.Strings es here f = bytes_known count ns c s es
 
 -- ---- instructions
 
@@ -196,13 +210,15 @@ pub linked_listed : (ns : List (List ℕ)) (c : Context) (r : Result Value LineK
 linked_listed ns c (Ok (Place (x ∷ xs) n)) f = branch_listed ns (is_settled c (x ∷ xs)) (x ∷ xs) f
 linked_listed ns c r f = tt
 
+target_listed : (ns : List (List ℕ)) (c : Context) (t : Option Expr) → Fewer (target_symbols c.names c.line t) ns → OptionListed ns (target_symbol c t)
+target_listed ns c None f = tt
+target_listed ns c (Some e) f = linked_listed ns c (value_of c e) f
+
 pub arm_listed : (ns : List (List ℕ)) (c : Context) (l : ArmLine) → Fewer (arm_symbols c.names c.line l) ns → OptionListed ns (branch_symbol c l)
-arm_listed ns c (arm.Branch condition link target) f = linked_listed ns c (value_of c target) f
-arm_listed ns c l f = tt
+arm_listed ns c l f = target_listed ns c (arm_target l) f
 
 pub thumb_listed : (ns : List (List ℕ)) (c : Context) (l : ThumbLine) → Fewer (thumb_symbols c.names c.line l) ns → OptionListed ns (link_symbol c l)
-thumb_listed ns c (thumb.BranchLink target) f = linked_listed ns c (value_of c target) f
-thumb_listed ns c l f = tt
+thumb_listed ns c l f = target_listed ns c (thumb_target l) f
 
 pub mapped_known : {A : Type 0} → (count : ℕ) (ns : List (List ℕ)) (f : A → List Emitted) (r : Result A LineKind) → ((a : A) → EachKnown count ns (f a))
     → ResultKnown count ns (mapped f r)
@@ -217,7 +233,8 @@ pub code_known : (count : ℕ) (ns : List (List ℕ)) (o : Option (List ℕ)) (i
 code_known count ns o (code.One i) h = ((tt, tt), tt)
 code_known count ns o (code.Pair first second) h = ((tt, h), tt)
 
-pub pseudo_known : (count : ℕ) (ns : List (List ℕ)) (thumb : Bool) (c : Context) (word : Option ℕ) (l : PseudoLine) → ResultKnown count ns (pseudo_units thumb c word l)
+pub pseudo_known : (count : ℕ) (ns : List (List ℕ)) (thumb : Bool) (c : Context) (word : Option ℕ) (l : PseudoLine)
+    → ResultKnown count ns (pseudo_units thumb c word l)
 pseudo_known count ns true c word l = mapped_known count ns (λ i. Half i ∷ []) (thumb_pseudo c word l) (λ i. ((tt, tt), tt))
 pseudo_known count ns false c word l = mapped_known count ns instruction_units (pseudo_instructions c word l) (instructions_known count ns)
 
@@ -229,12 +246,10 @@ line_known count ns c d s word e what.Nothing here f = tt
 line_known count ns c d s word e (what.Arm l) here f =
     mapped_known count ns (λ i. Instruction i (branch_symbol c l) ∷ []) (arm_instruction c l) (λ i. ((tt, arm_listed ns c l f), tt))
 line_known count ns c d s word e (what.Thumb l) here f =
-    mapped_known count ns (λ i. code_unit (link_symbol c l) i ∷ []) (thumb_instruction c l) (λ i. code_known count ns (link_symbol c l) i (thumb_listed ns c l f))
+    mapped_known count ns (λ i. code_unit (link_symbol c l) i ∷ []) (thumb_instruction c l)
+    (λ i. code_known count ns (link_symbol c l) i (thumb_listed ns c l f))
 line_known count ns c d s word e (what.Pseudo l) here f = pseudo_known count ns c.line.thumb c word l
-line_known count ns c d s word e (what.Directive (line.Dcd es)) here f = words_known count ns c d es here f
-line_known count ns c d s word e (what.Directive (line.Dcdu es)) here f = words_known count ns c d es here f
-line_known count ns c d s word e (what.Directive (line.Dcw es)) here f = halves_known count ns c es
-line_known count ns c d s word e (what.Directive (line.Dcb es)) here f = bytes_known count ns c s es
+line_known count ns c d s word e (what.Directive (line.Constants item es)) here f = held_known count ns c d s (held_by item) es here f
 line_known count ns c d s word e (what.Directive l) here f = tt
 
 -- ---- literals
@@ -261,7 +276,8 @@ things_known ss count few area p x = elim (unit_or_word ss area p x) [ inl u ↦
     here after before l e own =
         record { area = area; own = line_area ss after before l e ∙ own; within = context_within ss count after before l few e }
 
-    there : (after before : List LaidLine) (l : LaidLine) → laid ss ≡ after ++ l ∷ before → Fewer (symbols_in names l.line (taken l.extent) l.statement.what) listed
+    there : (after before : List LaidLine) (l : LaidLine) → laid ss ≡ after ++ l ∷ before
+        → Fewer (symbols_in names l.line (taken l.extent) l.statement.what) listed
     there after before l e q h = subst (λ z. IsListed (symbols_of names z) q) (sym e) (lines_listed names after before l q h)
 
     of_unit : OwnUnit ss area p → UnitKnown count listed p.1
@@ -270,7 +286,8 @@ things_known ss count few area p x = elim (unit_or_word ss area p x) [ inl u ↦
         let c = context_behind ss l u.before in
         let word = word_among u.after l u.before in
         unit_there count listed l.offset (units c (datum_names ss) l.seen word l.statement.what) p
-        (line_known count listed c (datum_names ss) l.seen word (taken l.extent) l.statement.what (here u.after u.before l u.parts u.own) (there u.after u.before l u.parts))
+        (line_known count listed c (datum_names ss) l.seen word (taken l.extent) l.statement.what (here u.after u.before l u.parts u.own)
+        (there u.after u.before l u.parts))
         u.among
 
     of_word : PoolWord ss area p → UnitKnown count listed p.1
@@ -279,7 +296,8 @@ things_known ss count few area p x = elim (unit_or_word ss area p x) [ inl u ↦
         let l = x.loader in
         let c = context_behind ss l x.before in
         let v = literal_value (sees c) w.value in
-        let pseudo = loads_are_pseudo l.seen l.statement.what x.size w.value (sym (seen_extent ss x.after x.before l x.parts).0 ∙ taken_loads l.extent x.size w.value x.extent) in
+        let pseudo = loads_are_pseudo l.seen l.statement.what x.size w.value (sym (seen_extent ss x.after x.before l x.parts).0
+        ∙ taken_loads l.extent x.size w.value x.extent) in
         let fewer : Fewer (word_symbols (sees c) v) listed = λ q h.
         there x.after x.before l x.parts q
         (literal_fewer names l.line (taken l.extent) l.statement.what pseudo q (subst (λ e. IsListed (literal_symbols names l.line e) q) (sym x.extent) h)) in

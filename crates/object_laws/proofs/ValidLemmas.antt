@@ -3,8 +3,8 @@ use Rattle.std.proofs.Common.{◌≡◌, ◌^◌, ◌<◌, List, length, None}
 use Rattle.aof_object.specs.declared.records.Object.{Object}
 use Rattle.aof_object.specs.Validity.{IsValid}
 use Rattle.asm_model.specs.declared.statements.Statement.{Statement}
-use Rattle.said_model.specs.Fit.{AllFit}
-use Rattle.said_model.specs.Said.{AllSaid, AllHaveTexts}
+use Rattle.asm_model.specs.Fit.{AllFit}
+use Rattle.asm_model.specs.Said.{AllSaid, AllHaveTexts}
 use Rattle.source_model.specs.Objects.{IsObject}
 use Rattle.source_model.specs.SourceFaults.{layout_faults, value_faults}
 use Rattle.source_laws.specs.Laws.{AreOfState}

@@ -6,11 +6,11 @@ use Rattle.aof_object.specs.declared.records.Object.{Object}
 use Rattle.aof_object.specs.Validity.{IsValid}
 use Rattle.asm_model.specs.declared.statements.Statement.{Statement}
 use Rattle.asm_model.specs.Forms.{same}
-use Rattle.said_model.specs.Fit.{AllFit}
-use Rattle.said_model.specs.Said.{AllSaid, AllHaveTexts}
+use Rattle.asm_model.specs.Fit.{AllFit}
+use Rattle.asm_model.specs.Said.{AllSaid, AllHaveTexts}
 use Rattle.source_model.specs.Objects.{IsObject}
 use Rattle.source_model.specs.SourceFaults.{layout_faults, value_faults}
-use Rattle.source_model.specs.Units.{Emitted, Bytes, Word, Instruction, Half, LinkPair, Target, BySymbol}
+use Rattle.source_model.specs.Units.{Emitted, Bytes, Word, Instruction, Half, LinkPair, RelocationTarget, BySymbol}
 use Rattle.source_laws.specs.Laws.{AreOfState}
 
 -- ---- symbols that relocations name
@@ -22,7 +22,7 @@ abbrev pub OptionListed : List (List ℕ) → Option (List ℕ) → Type 0
 OptionListed names None = Unit {0}
 OptionListed names (Some name) = IsListed names name
 
-abbrev pub TargetListed : List (List ℕ) → Target → Type 0
+abbrev pub TargetListed : List (List ℕ) → RelocationTarget → Type 0
 TargetListed names (BySymbol name) = IsListed names name
 TargetListed names _ = Unit {0}
 

@@ -8,10 +8,11 @@ use Rattle.asm_model.specs.declared.values.Value.TheVariants.{Number, Truth, Wor
 use Rattle.asm_model.specs.declared.names.LaidName.{LaidName}
 use Rattle.asm_model.specs.declared.names.Names.{Names}
 use Rattle.asm_model.specs.declared.statements.Statement.{Statement}
-use Rattle.asm_model.specs.Meaning.{named_in, entry_stands_at, in_area, binary, entry_value, value_of, on_both}
+use Rattle.asm_model.specs.Meaning.{named_in, entry_stands_at, in_area, binary, entry_value, value_of}
 use Rattle.asm_model.specs.Labels.{declared_names}
 use Rattle.asm_model.specs.Laid.{LaidLine, laid, final_names}
 use Rattle.asm_model.specs.Marks.{datum_names}
+use Rattle.asm_model.specs.Readings.{then_both}
 use Rattle.asm_model.specs.Symbols.{literal_value}
 use Rattle.source_model.specs.Contexts.{Context, sees}
 use Rattle.source_model.specs.Objects.{source_of, context_in, literal_stored}
@@ -24,13 +25,13 @@ pub line_area : (ss : List Statement) (after before : List LaidLine) (l : LaidLi
 line_area ss after before l e = subst (λ (z : LaidLine). z.line.area ≡ z.area) (sym (is_laid (declared_names ss) ss after before l e).1) refl
 
 abbrev pub with_number : Names → Option LaidName → ℕ → Result Value LineKind
-with_number names o n = on_both (value_of o) (Ok (Number n)) (binary names Add)
+with_number names o n = then_both (value_of o) (Ok (Number n)) (binary names Add)
 
 pub sum_same : (a b : Names) (o : Option LaidName) (n : ℕ) → with_number a o n ≡ with_number b o n
 sum_same a b None n = refl
 sum_same a b (Some e) n = by_value (entry_value e)
   where
-    by_value : (r : Result Value LineKind) → on_both r (Ok (Number n)) (binary a Add) ≡ on_both r (Ok (Number n)) (binary b Add)
+    by_value : (r : Result Value LineKind) → then_both r (Ok (Number n)) (binary a Add) ≡ then_both r (Ok (Number n)) (binary b Add)
     by_value (Ok (Number m)) = refl
     by_value (Ok (Truth c)) = refl
     by_value (Ok (Words w)) = refl
@@ -38,7 +39,8 @@ sum_same a b (Some e) n = by_value (entry_value e)
     by_value (Err k) = refl
 
 -- the word of a literal of an area is that of a line there
-pub literal_stored_there : (ss : List Statement) (area : ℕ) (after before : List LaidLine) (l : LaidLine) → laid ss ≡ after ++ l ∷ before → l.area ≡ Some area → (v : Value)
+pub literal_stored_there : (ss : List Statement) (area : ℕ) (after before : List LaidLine) (l : LaidLine) → laid ss ≡ after ++ l ∷ before → l.area ≡ Some area
+    → (v : Value)
     → literal_stored (source_of ss) area v
     ≡ stored (context_behind ss l before) (datum_names ss) (literal_value (sees (context_behind ss l before)) v)
 literal_stored_there ss area after before l e own v = by_value v
@@ -58,7 +60,8 @@ literal_stored_there ss area after before l e own v = by_value v
     stored_same (Ok (Truth b)) = refl
     stored_same (Ok (Words w)) = refl
     stored_same (Ok (Place [] n)) =
-        ap Ok (put_same [] n (in_area (Some area) 0)) ∙ ap (λ z. Ok (placed there (datum_names ss) [] n (in_area z 0))) (sym (line_area ss after before l e ∙ own))
+        ap Ok (put_same [] n (in_area (Some area) 0)) ∙ ap (λ z. Ok (placed there (datum_names ss) [] n (in_area z 0)))
+        (sym (line_area ss after before l e ∙ own))
     stored_same (Ok (Place (x ∷ xs) n)) = ap Ok (put_same (x ∷ xs) n (entry_stands_at (named_in (x ∷ xs) (final_names (laid ss)))))
     stored_same (Err k) = refl
 

@@ -44,7 +44,8 @@ pool_line ss sound area after before l e h =
     let x = is_pool_true (taken l.extent) (and_parts (is_of area l.area) (is_pool (taken l.extent)) h).1 in
     (x, pools_are_said l.seen l.statement.what (known_extent ss sound after before l e ∙ ap Ok x))
 
-no_units : (ss : List Statement) (before rest : List LaidLine) (l : LaidLine) (p : Piece) → is_filled l.statement.what ≡ false → IsAmong p (own_things ss l before rest) → ⊥
+no_units : (ss : List Statement) (before rest : List LaidLine) (l : LaidLine) (p : Piece) → is_filled l.statement.what ≡ false
+    → IsAmong p (own_things ss l before rest) → ⊥
 no_units ss before rest l p bare h =
     let word = word_of l.area (taken l.extent) (pieces_of (l ∷ before)) (pieces_of rest) in
     let none = other_units_are_none (context_behind ss l before) (datum_names ss) l.seen word l.statement.what bare in
@@ -111,7 +112,8 @@ put_split ss area l before rest p h =
     of_line true e k = inr (e, inl k)
     of_line false e k = absurd k
 
-    of_pool : (b : Bool) → is_pool_of area (piece_of l) ≡ b → IsAmong p (words_of (source_of ss) area (cond b (front ++ pool) front)) → Split ss area l before rest p
+    of_pool : (b : Bool) → is_pool_of area (piece_of l) ≡ b → IsAmong p (words_of (source_of ss) area (cond b (front ++ pool) front))
+        → Split ss area l before rest p
     of_pool true e k =
         elim (words_either (source_of ss) area p front pool k) [
           | inl j ↦ inl (inr j)
@@ -191,7 +193,8 @@ things_lie_in_areas ss sound area p h = ((area_fill ss sound area).within p h).1
 -- ---- around a line
 
 -- what lines put is put by the first of them, or lies behind these
-put_or_behind : (ss : List Statement) → IsSound ss → (area : ℕ) (later after lines : List LaidLine) → laid ss ≡ later ++ (after ++ lines) → (rest : List LaidLine) (p : Piece)
+put_or_behind : (ss : List Statement) → IsSound ss → (area : ℕ) (later after lines : List LaidLine) → laid ss ≡ later ++ (after ++ lines)
+    → (rest : List LaidLine) (p : Piece)
     → PutBehind ss area (after ++ lines) rest p → PutBehind ss area lines (in_order after rest) p ⊎ (end_behind area (pieces_of lines) ≤ p.0)
 put_or_behind ss sound area later [] lines e rest p h = inl h
 put_or_behind ss sound area later (x ∷ after) lines e rest p h =
@@ -212,7 +215,8 @@ abbrev pub IsAround : LaidLine → Piece → Type 0
 IsAround l p = (p.0 + length (unit_bytes p.1) ≤ l.offset) ⊎ (l.offset + l.size ≤ p.0)
 
 -- where a line is neither an instruction nor data nor LTORG nothing stands
-pub bare_line : (ss : List Statement) → IsSound ss → (area : ℕ) (after before : List LaidLine) (l : LaidLine) → laid ss ≡ after ++ l ∷ before → l.area ≡ Some area
+pub bare_line : (ss : List Statement) → IsSound ss → (area : ℕ) (after before : List LaidLine) (l : LaidLine) → laid ss ≡ after ++ l ∷ before
+    → l.area ≡ Some area
     → is_filled l.statement.what ≡ false → (l.statement.what ≡ what.Directive line.Ltorg → ⊥) → (p : Piece) → StandsIn (source_of ss) area p → IsAround l p
 bare_line ss sound area after before l e here bare no_pool p h =
     elim (stands_split ss area p h) [

@@ -19,7 +19,8 @@ use Rattle.asm_model.specs.declared.names.LaidName.{LaidName}
 
 -- ---- layouts without faults
 
-pub sound_lines : (names fixed : List (List ℕ)) (all : List Statement) (ls : List LaidLine) → first_laid names fixed all ls ≡ None → first_fault fixed all ls ≡ None
+pub sound_lines : (names fixed : List (List ℕ)) (all : List Statement) (ls : List LaidLine) → first_laid names fixed all ls ≡ None
+    → first_fault fixed all ls ≡ None
 sound_lines names fixed all [] e = refl
 sound_lines names fixed all (l ∷ before) e =
     let kinds = layout_kinds fixed all l before ++ register_kinds names l before in

@@ -46,19 +46,23 @@ pub extent_known : (r : Result Extent LineKind) (b c d e f g h i j : List LineKi
 extent_known (Ok x) b c d e f g h i j k = (x, refl)
 extent_known (Err x) b c d e f g h i j k = absurd (cc)
 
-pub line_known : (S : List (List ℕ)) (all : List Statement) (l : LaidLine) (before : List LaidLine) → layout_kinds S all l before ≡ [] → (x : Extent) × (l.extent ≡ Ok x)
+pub line_known : (S : List (List ℕ)) (all : List Statement) (l : LaidLine) (before : List LaidLine) → layout_kinds S all l before ≡ [] → (x : Extent)
+    × (l.extent ≡ Ok x)
 line_known S all l before h =
     extent_known l.extent (map_kinds l.seen l.statement.what) (no_area_kinds l.area (defined_by l.statement) l.statement.what)
     (contents_kinds (contents_behind (l.statement ∷ statements_of before)) l.thumb l.statement.what)
     (area_kinds l.seen l.statement.what before) (name_kinds l.statement (statements_of before))
-    (settled_kinds S (first_equal (defined_by l.statement) (statements_of before))) (state_kinds l.area l.thumb l.statement.what all) (kind_if (nat_lt area_bytes (l.offset + l.size)) TooMany)
+    (settled_kinds S (first_equal (defined_by l.statement) (statements_of before))) (state_kinds l.area l.thumb l.statement.what all)
+    (kind_if (nat_lt area_bytes (l.offset + l.size)) TooMany)
     (own_kinds l.statement) h
 
-pub stands_there : (d : List LaidName) (ss : List Statement) (after before : List LaidLine) (l : LaidLine) (x : Extent) → laid_of d ss ≡ after ++ l ∷ before → l.extent ≡ Ok x
+pub stands_there : (d : List LaidName) (ss : List Statement) (after before : List LaidLine) (l : LaidLine) (x : Extent) → laid_of d ss ≡ after ++ l ∷ before
+    → l.extent ≡ Ok x
     → (l.offset ≡ offset_of l.area (pieces_of before) x) × (l.size ≡ size_behind l.area (pieces_of before) x)
 stands_there d ss after before l x e k =
     let p = is_laid d ss after before l e in
-    subst (λ (z : LaidLine). z.extent ≡ Ok x → (z.offset ≡ offset_of z.area (pieces_of before) x) × (z.size ≡ size_behind z.area (pieces_of before) x)) (sym p.1)
+    subst (λ (z : LaidLine). z.extent ≡ Ok x → (z.offset ≡ offset_of z.area (pieces_of before) x) × (z.size ≡ size_behind z.area (pieces_of before) x))
+    (sym p.1)
     (lines_stand_at_offsets d p.0 before x) k
 
 -- ---- pieces
@@ -71,7 +75,8 @@ pieces_joined [] ys = refl
 pieces_joined (x ∷ xs) ys = ap (λ z. piece_of x ∷ z) (pieces_joined xs ys)
 
 -- a line of an area stands where what it takes up starts behind the lines before
-pub stands_in : (ss : List Statement) → IsSound ss → (area : ℕ) (after before : List LaidLine) (l : LaidLine) → laid ss ≡ after ++ l ∷ before → l.area ≡ Some area
+pub stands_in : (ss : List Statement) → IsSound ss → (area : ℕ) (after before : List LaidLine) (l : LaidLine) → laid ss ≡ after ++ l ∷ before
+    → l.area ≡ Some area
     → (l.offset ≡ start_in area (pieces_of before) (taken l.extent))
     × (l.size ≡ size_of (waiting area (pieces_of before)) (start_in area (pieces_of before) (taken l.extent)) (taken l.extent))
 stands_in ss sound area after before l e here =
@@ -87,7 +92,8 @@ pub both_sum : (a b x y : ℕ) → a ≡ x → b ≡ y → a + b ≡ x + y
 both_sum a b x y h k = omega arith
 
 -- its end is the end of its area behind it
-pub line_ends : (ss : List Statement) → IsSound ss → (area : ℕ) (after before : List LaidLine) (l : LaidLine) → laid ss ≡ after ++ l ∷ before → l.area ≡ Some area
+pub line_ends : (ss : List Statement) → IsSound ss → (area : ℕ) (after before : List LaidLine) (l : LaidLine) → laid ss ≡ after ++ l ∷ before
+    → l.area ≡ Some area
     → l.offset + l.size ≡ end_behind area (pieces_of (l ∷ before))
 line_ends ss sound area after before l e here =
     let p = stands_in ss sound area after before l e here in
@@ -96,11 +102,13 @@ line_ends ss sound area after before l e here =
     ∙ end_here area (pieces_of before) (piece_of l) here
 
 -- and it starts at the end of its area before it or behind it
-pub line_starts : (ss : List Statement) → IsSound ss → (area : ℕ) (after before : List LaidLine) (l : LaidLine) → laid ss ≡ after ++ l ∷ before → l.area ≡ Some area
+pub line_starts : (ss : List Statement) → IsSound ss → (area : ℕ) (after before : List LaidLine) (l : LaidLine) → laid ss ≡ after ++ l ∷ before
+    → l.area ≡ Some area
     → end_behind area (pieces_of before) ≤ l.offset
 line_starts ss sound area after before l e here =
     subst (λ z. end_behind area (pieces_of before) ≤ z) (sym (stands_in ss sound area after before l e here).0)
-    (more (end_behind area (pieces_of before)) (lacking (end_behind area (pieces_of before)) (alignment_of (waiting area (pieces_of before)) (taken l.extent)) 0))
+    (more (end_behind area (pieces_of before)) (lacking (end_behind area (pieces_of before)) (alignment_of (waiting area (pieces_of before)) (taken l.extent))
+    0))
 
 pub pieces_rise : (area : ℕ) (later before : List LaidLine) → end_behind area (pieces_of before) ≤ end_behind area (pieces_of (later ++ before))
 pieces_rise area later before =

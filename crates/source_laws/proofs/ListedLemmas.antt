@@ -51,7 +51,8 @@ pub record Owner (ss : List Statement) (area : ℕ) (p : Piece) (lines rest : Li
   pub own : owner.area ≡ Some area
   pub among : IsAmong p (own_things ss owner before (in_order after rest))
 
-owner_among : (ss : List Statement) (area : ℕ) (p : Piece) (lines rest : List LaidLine) → IsAmong p (things_behind (source_of ss) area lines rest) → Owner ss area p lines rest
+owner_among : (ss : List Statement) (area : ℕ) (p : Piece) (lines rest : List LaidLine) → IsAmong p (things_behind (source_of ss) area lines rest)
+    → Owner ss area p lines rest
 owner_among ss area p [] rest h = absurd h
 owner_among ss area p (l ∷ before) rest h =
     elim (among_either p (things_behind (source_of ss) area before (l ∷ rest)) (things_of (source_of ss) area l before rest) h)

@@ -74,7 +74,8 @@ tree_is : (R : LaidName → Type 0) (names : List LaidName) (area : Option ℕ) 
 tree_is R names area name None f = tt
 tree_is R names area name (Some t) f = f
 
-definition_is : (ss : List Statement) (R : LaidName → Type 0) → EntriesAre ss R → (l : LaidLine) → At (source_of ss) l → (names : List LaidName) (thumb : Bool) (m : ℕ)
+definition_is : (ss : List Statement) (R : LaidName → Type 0) → EntriesAre ss R → (l : LaidLine) → At (source_of ss) l
+    → (names : List LaidName) (thumb : Bool) (m : ℕ)
     → (x : Defined) → defined_by l.statement ≡ x → DefinitionIs R (definition_of names x l.area l.offset (Some l.size) thumb m)
 definition_is ss R h l at names thumb m Unnamed x = tt
 definition_is ss R h l at names thumb m (Label name) x = h.label l at name x thumb
@@ -101,6 +102,7 @@ lines_are ss R h after (s ∷ front) e =
       imports_are ss R h l at s before (imported_in s.what) refl,
     )
 
-pub final_each : (ss : List Statement) (R : LaidName → Type 0) → EntriesAre ss R → (q : List ℕ) (n : LaidName) → named_in q (final_names (laid ss)) ≡ Some n → R n
+pub final_each : (ss : List Statement) (R : LaidName → Type 0) → EntriesAre ss R → (q : List ℕ) (n : LaidName) → named_in q (final_names (laid ss)) ≡ Some n
+    → R n
 final_each ss R h q n e =
     found_each R q (final_names (laid ss)) (names_each R (length (laid ss)) (source_lines (laid ss)) (lines_are ss R h [] ss refl)) n e

@@ -78,7 +78,8 @@ same_bytes ss area us vs h k =
     by_place i (inr f) =
         h.others i f ∙ sym (k.others i f)
 
-pub same_kept : (ss : List Statement) (area : ℕ) (kept : Bool) (us vs : List ℕ) → KeepsBytes (source_of ss) area kept us → KeepsBytes (source_of ss) area kept vs → us ≡ vs
+pub same_kept : (ss : List Statement) (area : ℕ) (kept : Bool) (us vs : List ℕ) → KeepsBytes (source_of ss) area kept us
+    → KeepsBytes (source_of ss) area kept vs → us ≡ vs
 same_kept ss area true us vs h k = same_bytes ss area us vs h k
 same_kept ss area false us vs h k = h ∙ sym k
 

@@ -191,9 +191,11 @@ word_there s area at (w ∷ ws) v x e h = by_test (same_literal v w) refl h (wor
         → (Waits v ws → IsAmong (at + 4 + 4 * place_among v ws, Word x) rest)
         → IsAmong (at + 4 * cond b 0 (place_among v ws + 1), Word x) (word_piece at first ++ rest)
     by_test true y k later =
-        subst (λ r. IsAmong (at + 4 * 0, Word x) (word_piece at r ++ rest)) (sym e ∙ ap (literal_stored s area) (same_value v w y)) (inl (ap (λ z. (z, Word x)) (at_first at)))
+        subst (λ r. IsAmong (at + 4 * 0, Word x) (word_piece at r ++ rest)) (sym e ∙ ap (literal_stored s area) (same_value v w y))
+        (inl (ap (λ z. (z, Word x)) (at_first at)))
     by_test false y k later =
-        among_last (at + 4 * (place_among v ws + 1), Word x) (word_piece at first) rest (subst (λ z. IsAmong (z, Word x) rest) (at_next at (place_among v ws)) (later k))
+        among_last (at + 4 * (place_among v ws + 1), Word x) (word_piece at first) rest
+        (subst (λ z. IsAmong (z, Word x) rest) (at_next at (place_among v ws)) (later k))
 
 -- what is in a pool stays there
 pooled_kept : (s : Source) (area : ℕ) (p : Piece) (before rest : List LaidPiece) → IsAmong p (words_of s area (pooled area before))

@@ -1,6 +1,7 @@
 -- What a statement puts into its area is as long as what it takes up, or empty.
 use Rattle.std.proofs.Common.{◌≡◌, ℕ, ◌+◌, ◌-◌, ◌*◌, ◌%◌, ◌^◌, ◌≤◌, nat_lt, nat_le, ◌||◌, List, [], ◌∷◌, length, length-append, Bool, true, false, cond, refl, sym, ◌∙◌, ap, subst, arith, Option, Some, None}
 use Rattle.std.specs.Prelude.{Result, Ok, Err}
+use Rattle.std.proofs.Math.Nat.{mul-suc}
 use Rattle.sdt_word.specs.Bytes.{bytes_of}
 use Rattle.sdt_word.specs.declared.codes.Condition.{Condition}
 use Rattle.sdt_word.proofs.BytesLemmas.{length-bytes_of}
@@ -14,6 +15,8 @@ use Rattle.thumb_isa.specs.declared.instr.ThumbInstr.{ThumbInstr}
 use Rattle.asm_model.specs.declared.directives.Boundary.TheVariants as limit
 use Rattle.asm_model.specs.declared.directives.DirectiveLine.{DirectiveLine}
 use Rattle.asm_model.specs.declared.directives.DirectiveLine.TheVariants as line
+use Rattle.asm_model.specs.declared.directives.Held.{Held}
+use Rattle.asm_model.specs.declared.directives.Held.TheVariants as held
 use Rattle.asm_model.specs.declared.exprs.Expr.{Expr}
 use Rattle.asm_model.specs.declared.statements.PseudoLine.{PseudoLine}
 use Rattle.asm_model.specs.declared.statements.PseudoLine.TheVariants as pseudo
@@ -24,11 +27,13 @@ use Rattle.asm_model.specs.declared.thumb_lines.ThumbLine.TheVariants as thumb
 use Rattle.asm_model.specs.declared.values.Value.{Value}
 use Rattle.asm_model.specs.declared.values.Value.TheVariants.{Number, Truth, Words, Place}
 use Rattle.asm_model.specs.declared.names.Names.{Names}
-use Rattle.asm_model.specs.Says.{on_both, mapped}
-use Rattle.asm_model.specs.Extents.{Extent, Block, Padding, Loading, Pool, value_there, number_there, as_multiple, literal_there, is_moved, instruction, loading, thumb_extent, byte_count, byte_counts, extent_of}
+use Rattle.asm_model.specs.DataItems.{item_alignment, held_by}
+use Rattle.asm_model.specs.Occupied.{Occupied, Items, occupied}
+use Rattle.asm_model.specs.Extents.{Extent, Block, Padding, Loading, Pool, value_there, number_there, as_multiple, literal_there, is_moved, instruction, loading, thumb_extent, byte_count, byte_counts, held_size, occupied_extent, extent_of}
 use Rattle.asm_model.specs.Offsets.{size_of}
+use Rattle.asm_model.specs.Readings.{and_then, mapped, on_both}
 use Rattle.source_model.specs.ArmForms.{arm_instruction}
-use Rattle.source_model.specs.Contexts.{Context, value_of, number_in, register, and_then, offset_below, own_offset, from_pc}
+use Rattle.source_model.specs.Contexts.{Context, value_of, number_in, register, offset_below, own_offset, from_pc}
 use Rattle.source_model.specs.Immediates.{data_immediate, negated}
 use Rattle.source_model.specs.Objects.{unit_bytes, units_bytes}
 use Rattle.source_model.specs.declared.codes.ThumbCode.{ThumbCode}
@@ -36,8 +41,8 @@ use Rattle.source_model.specs.declared.codes.ThumbCode.TheVariants as code
 use Rattle.source_model.specs.ThumbForms.{one as one_half, pair_fields, thumb_instruction, thumb_pseudo, with_operand}
 use Rattle.source_model.specs.PseudoForms.{address_instruction, two_by, two_of, first_of as first_found, long_address, one, load_literal, pseudo_instructions, first_part, second_part}
 use Rattle.source_model.specs.Immediates.{immediate}
-use Rattle.source_model.specs.Units.{Emitted, Bytes, Word, Instruction, Half, Stored, stored, word_units, narrow, half_units, byte_operand, byte_units, branch_symbol, link_symbol, code_unit, instruction_units, pseudo_units, units}
-use Rattle.source_laws.specs.Laws.{is_data, is_filled}
+use Rattle.source_model.specs.Units.{Emitted, Bytes, Word, Instruction, Half, Stored, stored, word_units, narrow, number_units, byte_operand, byte_units, branch_symbol, link_symbol, code_unit, instruction_units, pseudo_units, held_units, occupied_units, units}
+use Rattle.source_laws.specs.Laws.{is_items, is_filled}
 
 -- ---- lengths
 
@@ -81,11 +86,13 @@ pub then_long : (size : ℕ) (r : Result ℕ LineKind) → EachLong Bytes size (
 then_long size (Ok n) = narrow_long size n
 then_long size (Err k) = tt
 
-pub halves_long : (c : Context) (es : List Expr) → Long (2 * length es) (half_units c es)
-halves_long c [] = refl
-halves_long c (e ∷ es) =
-    subst (λ n. Long n (half_units c (e ∷ es))) (omega arith)
-    (one_longer Bytes 2 (2 * length es) (and_then (number_in c e) (narrow 2)) (half_units c es) (then_long 2 (number_in c e)) (halves_long c es))
+pub numbers_long : (c : Context) (width : ℕ) (es : List Expr) → Long (width * length es) (number_units c width es)
+numbers_long c width [] = omega arith
+numbers_long c width (e ∷ es) =
+    let more = mul-suc width (length es) in
+    subst (λ n. Long n (number_units c width (e ∷ es))) (omega (arith, more))
+    (one_longer Bytes width (width * length es) (and_then (number_in c e) (narrow width)) (number_units c width es)
+    (then_long width (number_in c e)) (numbers_long c width es))
 
 -- a string that is known is itself, and anything else is one byte
 pub byte_long : (known final : Result Value LineKind) → EachLong Bytes (byte_count known) (byte_operand known final)
@@ -136,9 +143,11 @@ long_count condition rd distance =
     (two_count condition Add rd (immediate (first_part distance)) (immediate (second_part distance)))
     (two_count condition Sub rd (immediate (first_part (negated distance))) (immediate (second_part (negated distance))))
 
-pub literal_count : (c : Context) (condition : Condition) (rd : ℕ) (number : Result ℕ LineKind) (word : Option ℕ) → Count 1 (load_literal c condition rd number word)
+pub literal_count : (c : Context) (condition : Condition) (rd : ℕ) (number : Result ℕ LineKind) (word : Option ℕ)
+    → Count 1 (load_literal c condition rd number word)
 literal_count c condition rd number None =
-    then_count 1 number (λ n. mapped one (data_immediate condition Mov false 0 rd n)) (λ n. mapped_count one 1 (data_immediate condition Mov false 0 rd n) (λ i. refl))
+    then_count 1 number (λ n. mapped one (data_immediate condition Mov false 0 rd n))
+    (λ n. mapped_count one 1 (data_immediate condition Mov false 0 rd n) (λ i. refl))
 literal_count c condition rd number (Some word) =
     mapped_count (λ o. one (instr.TransferImmediate condition true o.0 false false true 15 rd o.1)) 1 (offset_below 4096 (from_pc c word)) (λ o. refl)
 
@@ -287,13 +296,16 @@ thumb_fills c o l =
     subst (λ x. Fills (Ok x) r) (sym (extent_sized l))
     (block_fills 2 (thumb_size l) r (codes_long o (thumb_size l) (thumb_instruction c l) (thumb_coded c l)))
 
-pub directive_fills : (c : Context) (d : List (List ℕ)) (s : Names) (word : Option ℕ) (l : DirectiveLine) → is_data l ≡ true
-    → Fills (extent_of s (what.Directive l)) (units c d s word (what.Directive l))
-directive_fills c d s word (line.Dcd es) h = block_fills 4 (4 * length es) (word_units c d es) (words_long c d es)
-directive_fills c d s word (line.Dcdu es) h = block_fills 1 (4 * length es) (word_units c d es) (words_long c d es)
-directive_fills c d s word (line.Dcw es) h = block_fills 2 (2 * length es) (half_units c es) (halves_long c es)
-directive_fills c d s word (line.Dcb es) h = block_fills 1 (byte_counts s es) (byte_units c s es) (bytes_long c s es)
-directive_fills c d s word l h = absurd (cc)
+held_long : (c : Context) (d : List (List ℕ)) (s : Names) (h : Held) (es : List Expr) → Long (held_size s h es) (held_units c d s h es)
+held_long c d s held.Relocatable es = words_long c d es
+held_long c d s (held.Fixed width) es = numbers_long c width es
+held_long c d s held.Strings es = bytes_long c s es
+
+pub occupied_fills : (c : Context) (d : List (List ℕ)) (s : Names) (o : Occupied) → is_items o ≡ true
+    → Fills (occupied_extent s o) (occupied_units c d s o)
+occupied_fills c d s (Items item es) h =
+    block_fills (item_alignment item) (held_size s (held_by item) es) (held_units c d s (held_by item) es) (held_long c d s (held_by item) es)
+occupied_fills c d s o h = absurd (cc)
 
 pub fills : (c : Context) (d : List (List ℕ)) (s : Names) (word : Option ℕ) (w : What) → is_filled w ≡ true → c.line.thumb ≡ s.thumb
     → Fills (extent_of s w) (units c d s word w)
@@ -303,7 +315,7 @@ fills c d s word (what.Arm l) h state =
 fills c d s word (what.Thumb l) h state = thumb_fills c (link_symbol c l) l
 fills c d s word (what.Pseudo l) h state =
     subst (λ b. Fills (extent_of s (what.Pseudo l)) (pseudo_units b c word l)) (sym state) (pseudo_fills c s word l)
-fills c d s word (what.Directive l) h state = directive_fills c d s word l h
+fills c d s word (what.Directive l) h state = occupied_fills c d s (occupied l) h
 
 pub units_fill : (c : Context) (d : List (List ℕ)) (s : Names) (word : Option ℕ) (w : What) (e : Extent) (us : List Emitted)
     → is_filled w ≡ true → c.line.thumb ≡ s.thumb → extent_of s w ≡ Ok e → units c d s word w ≡ Ok us
@@ -313,20 +325,16 @@ units_fill c d s word w e us h state x y =
 
 -- ---- others
 
-pub no_data : (c : Context) (d : List (List ℕ)) (s : Names) (word : Option ℕ) (l : DirectiveLine) → is_data l ≡ false
-    → units c d s word (what.Directive l) ≡ Ok []
-no_data c d s word (line.Dcd es) h = absurd (cc)
-no_data c d s word (line.Dcdu es) h = absurd (cc)
-no_data c d s word (line.Dcw es) h = absurd (cc)
-no_data c d s word (line.Dcb es) h = absurd (cc)
-no_data c d s word l h = refl
+pub no_items : (c : Context) (d : List (List ℕ)) (s : Names) (o : Occupied) → is_items o ≡ false → occupied_units c d s o ≡ Ok []
+no_items c d s (Items item es) h = absurd (cc)
+no_items c d s o h = refl
 
 pub other_units_are_none : (c : Context) (d : List (List ℕ)) (s : Names) (word : Option ℕ) (w : What) → is_filled w ≡ false → units c d s word w ≡ Ok []
 other_units_are_none c d s word what.Nothing h = refl
 other_units_are_none c d s word (what.Arm l) h = absurd (cc)
 other_units_are_none c d s word (what.Thumb l) h = absurd (cc)
 other_units_are_none c d s word (what.Pseudo l) h = absurd (cc)
-other_units_are_none c d s word (what.Directive l) h = no_data c d s word l h
+other_units_are_none c d s word (what.Directive l) h = no_items c d s (occupied l) h
 
 abbrev Within : ℕ → Result (List Emitted) LineKind → Type 0
 Within n (Ok us) = length (units_bytes us) ≤ n
@@ -392,7 +400,8 @@ directive_said s (line.Space e) = mapped_said (what.Directive (line.Space e)) (�
 directive_said s (line.Align limit.Word) = tt
 directive_said s (line.Align (limit.Multiple e)) =
     mapped_said (what.Directive (line.Align (limit.Multiple e))) (λ m. Padding m 0) (as_multiple (number_there s e)) (λ n. tt)
-directive_said s (line.Align (limit.Behind e f)) = both_said (what.Directive (line.Align (limit.Behind e f))) (as_multiple (number_there s e)) (number_there s f)
+directive_said s (line.Align (limit.Behind e f)) =
+    both_said (what.Directive (line.Align (limit.Behind e f))) (as_multiple (number_there s e)) (number_there s f)
 directive_said s line.Ltorg = refl
 directive_said s l = tt
 

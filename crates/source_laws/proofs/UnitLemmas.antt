@@ -52,7 +52,8 @@ units_fill at (u ∷ us) =
     let size = length-append (unit_bytes u) (units_bytes us) in
     let next = at + length (unit_bytes u) in
     subst (Fills (λ p. IsAmong p (units_from at (u ∷ us))) at) (omega arith)
-    (filled_both (λ p. p ≡ (at, u)) (λ p. IsAmong p (units_from next us)) (λ p. IsAmong p (units_from at (u ∷ us))) at next next (next + length (units_bytes us))
+    (filled_both (λ p. p ≡ (at, u)) (λ p. IsAmong p (units_from next us)) (λ p. IsAmong p (units_from at (u ∷ us))) at next next
+    (next + length (units_bytes us))
     (omega arith) (omega arith) (omega arith) (λ p x. x) (one_fills at u) (units_fill next us))
 
 -- the words of a pool

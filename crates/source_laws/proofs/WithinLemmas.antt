@@ -49,7 +49,8 @@ area_within n ss h = within_more (length (areas_behind ss)) n (area_behind ss) h
 pub areas_more : (after before : List LaidLine) → length (areas_behind (statements_of before)) ≤ length (areas_behind (statements_of (after ++ before)))
 areas_more [] before = omega arith
 areas_more (l ∷ after) before =
-    low_of (length (areas_behind (statements_of before))) (length (areas_behind (statements_of (after ++ before)))) (length (areas_behind (statements_of (l ∷ after ++ before))))
+    low_of (length (areas_behind (statements_of before))) (length (areas_behind (statements_of (after ++ before))))
+    (length (areas_behind (statements_of (l ∷ after ++ before))))
     (areas_more after before) (fewer (area_named l.statement.what) (areas_behind (statements_of (after ++ before))))
 
 -- a line stands in an area of the source, or in none

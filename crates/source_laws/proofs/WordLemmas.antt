@@ -33,7 +33,8 @@ pub literal_next : (area : ℕ) (before rest : List LaidPiece) (s : LaidPiece) (
     → literal_word area before (s ∷ rest) v ≡ literal_word area (s ∷ before) rest v
 literal_next area before rest s v h = ap (λ b. cond b (word_behind area before v) (literal_word area (s ∷ before) rest v)) h
 
-pub joined_order : (xs ys : List LaidLine) (before : List LaidPiece) → joined before (pieces_of (in_order xs ys)) ≡ joined (pieces_of xs ++ before) (pieces_of ys)
+pub joined_order : (xs ys : List LaidLine) (before : List LaidPiece) → joined before (pieces_of (in_order xs ys)) ≡ joined (pieces_of xs ++ before)
+    (pieces_of ys)
 joined_order [] ys before = refl
 joined_order (x ∷ xs) ys before = joined_order xs (x ∷ ys) before
 

@@ -94,7 +94,8 @@ pub numbered_rest : (after before : List LaidLine) → AreNumbered (after ++ bef
 numbered_rest [] before h = h
 numbered_rest (l ∷ after) before h = numbered_rest after before h.1
 
-pub fine_rest : (S : List (List ℕ)) (all : List Statement) (after before : List LaidLine) → first_fault S all (after ++ before) ≡ None → first_fault S all before ≡ None
+pub fine_rest : (S : List (List ℕ)) (all : List Statement) (after before : List LaidLine) → first_fault S all (after ++ before) ≡ None
+    → first_fault S all before ≡ None
 fine_rest S all [] before h = h
 fine_rest S all (l ∷ after) before h =
     fine_rest S all after before (or_none (first_fault S all (after ++ before)) (told_at l.statement (told_kind (layout_kinds S all l (after ++ before)))) h).0
@@ -183,7 +184,8 @@ pub attributes_true : (s : Names) (a : AreaAttributes) (t : Names) (b : AreaAttr
 attributes_true s a t b h =
     contents_true a.contents b.contents
     (first_of_all (same_contents a.contents b.contents) (same_mark a.read_only b.read_only) (same_mark a.interwork b.interwork)
-    (same_mark a.halfword b.halfword) (same_mark a.pic b.pic) (same_mark a.reentrant b.reentrant) (same_exponent (exponent s a.alignments) (exponent t b.alignments)) h)
+    (same_mark a.halfword b.halfword) (same_mark a.pic b.pic) (same_mark a.reentrant b.reentrant)
+    (same_exponent (exponent s a.alignments) (exponent t b.alignments)) h)
 
 pub rest_false : (c x r : Bool) → cond c (x || r) r ≡ false → r ≡ false
 rest_false true true r h = absurd (cc)
@@ -296,7 +298,8 @@ line_kinds S all l before h =
 abbrev pub Behind : ℕ → Option Contents → Option Contents → Type 0
 Behind k first nearest = (c : Contents) × (first ≡ Some c) × (nearest ≡ Some c)
 
-pub otherwise_false : (n : List ℕ) (s : Names) (a : AreaAttributes) (rest : Bool) → rest ≡ false → again_with n s a s (what.Directive (line.Area n a)) rest ≡ false
+pub otherwise_false : (n : List ℕ) (s : Names) (a : AreaAttributes) (rest : Bool) → rest ≡ false
+    → again_with n s a s (what.Directive (line.Area n a)) rest ≡ false
 otherwise_false n s a rest h =
     cond-true (same n n) (not (same_attributes s a s a) || rest) rest (same_refl n) ∙ ap (λ b. not b || rest) (attributes_same s a) ∙ h
 
@@ -319,7 +322,8 @@ behind_line l before xs o k (what.Directive (line.Area name b)) c known fine ear
 behind_line l before xs o k w c known fine earlier e =
     let p = earlier e in (p.0, ap (λ z. or_else z None) p.1, p.2)
 
-pub contents_are : (S : List (List ℕ)) (all : List Statement) (lines : List LaidLine) → AreNumbered lines → first_fault S all lines ≡ None → (k : ℕ) → area_behind (statements_of lines) ≡ Some k
+pub contents_are : (S : List (List ℕ)) (all : List Statement) (lines : List LaidLine) → AreNumbered lines → first_fault S all lines ≡ None → (k : ℕ)
+    → area_behind (statements_of lines) ≡ Some k
     → Behind k (contents_of k lines) (contents_behind (statements_of lines))
 contents_are S all [] h fine k e = absurd (cc)
 contents_are S all (l ∷ before) h fine k e =
@@ -333,10 +337,7 @@ pub zero_units : (c : Context) (d : List (List ℕ)) (s : Names) (word : Option 
 zero_units c d s word (what.Arm l) h = absurd (cc)
 zero_units c d s word (what.Thumb l) h = absurd (cc)
 zero_units c d s word (what.Pseudo l) h = absurd (cc)
-zero_units c d s word (what.Directive (line.Dcd es)) h = absurd (cc)
-zero_units c d s word (what.Directive (line.Dcdu es)) h = absurd (cc)
-zero_units c d s word (what.Directive (line.Dcw es)) h = absurd (cc)
-zero_units c d s word (what.Directive (line.Dcb es)) h = absurd (cc)
+zero_units c d s word (what.Directive (line.Constants item es)) h = absurd (cc)
 zero_units c d s word w h = refl
 
 no_pseudo : (w : What) → is_zero_statement w ≡ true → IsPseudo w → ⊥

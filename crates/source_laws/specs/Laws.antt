@@ -4,24 +4,30 @@
 use Rattle.std.specs.Prelude.{◌≡◌, ◌⊎◌, ℕ, ◌+◌, ◌≤◌, List, [], ◌∷◌, ◌++◌, length, Bool, true, false, Option, None}
 use Rattle.aof_object.specs.declared.records.Object.{Object}
 use Rattle.asm_model.specs.declared.directives.DirectiveLine.{DirectiveLine}
-use Rattle.asm_model.specs.declared.directives.DirectiveLine.TheVariants as line
 use Rattle.asm_model.specs.declared.statements.Statement.{Statement}
 use Rattle.asm_model.specs.declared.statements.What.{What}
 use Rattle.asm_model.specs.declared.statements.What.TheVariants as what
 use Rattle.asm_model.specs.Before.{thumb_behind}
 use Rattle.asm_model.specs.Laid.{LaidLine, taken, pieces_of, laid, final_names}
+use Rattle.asm_model.specs.Occupied.{Occupied, Unplaced, Opening, Marking, Entering, Items, Zeroes, UpTo, Literals, occupied}
 use Rattle.source_model.specs.Contexts.{Context}
 use Rattle.source_model.specs.Objects.{Piece, unit_bytes, source_of, in_order, StandsIn, IsObject}
 use Rattle.source_model.specs.SourceFaults.{layout_faults, context_of, word_of}
 
 -- ---- sizes
 
+abbrev pub is_items : Occupied → Bool
+is_items Unplaced = false
+is_items (Opening a) = false
+is_items Marking = false
+is_items Entering = false
+is_items (Items item es) = true
+is_items (Zeroes e) = false
+is_items (UpTo b) = false
+is_items Literals = false
+
 abbrev pub is_data : DirectiveLine → Bool
-is_data (line.Dcd es) = true
-is_data (line.Dcdu es) = true
-is_data (line.Dcw es) = true
-is_data (line.Dcb es) = true
-is_data _ = false
+is_data l = is_items (occupied l)
 
 -- whether a statement is an instruction or data
 abbrev pub is_filled : What → Bool
@@ -37,9 +43,13 @@ word_among after l before = word_of l.area (taken l.extent) (pieces_of (l ∷ be
 
 -- an instruction is one of the line's state
 abbrev pub IsOfState : Bool → What → Type 0
+IsOfState thumb what.Nothing = Unit {0}
 IsOfState true (what.Arm l) = ⊥
+IsOfState false (what.Arm l) = Unit {0}
+IsOfState true (what.Thumb l) = Unit {0}
 IsOfState false (what.Thumb l) = ⊥
-IsOfState thumb w = Unit {0}
+IsOfState thumb (what.Pseudo l) = Unit {0}
+IsOfState thumb (what.Directive l) = Unit {0}
 
 abbrev pub AreOfState : List Statement → Type 0
 AreOfState statements =

@@ -25,6 +25,7 @@ use Rattle.asm_model.specs.declared.operands.ListItem.TheVariants as listed
 use Rattle.asm_model.specs.declared.operands.Shift.TheVariants as shift
 use Rattle.asm_model.specs.declared.arm_lines.ArmLine.{ArmLine}
 use Rattle.asm_model.specs.declared.arm_lines.ArmLine.TheVariants as arm
+use Rattle.asm_model.specs.declared.directives.DataItem.TheVariants as datum
 use Rattle.asm_model.specs.declared.directives.DirectiveLine.TheVariants as line
 use Rattle.asm_model.specs.declared.names.LaidName.{LaidName}
 use Rattle.asm_model.specs.declared.names.Names.{Names}
@@ -164,7 +165,8 @@ pub near_address : means None (pseudo.Address Al (r 0) (name (codes "start"))) �
 unfolding immediate
 near_address = refl
 
-pub long_address : means None (pseudo.LongAddress Al (r 0) (items (item.Name (codes "start") ∷ item.Constant (Number 0x12354) ∷ item.Binary op.Add ∷ []))) ≡ Ok (0xE28F0FD1 ∷ 0xE2800A12 ∷ [])
+pub long_address : means None (pseudo.LongAddress Al (r 0) (items (item.Name (codes "start") ∷ item.Constant (Number 0x12354) ∷ item.Binary op.Add ∷ []))) ≡ Ok
+    (0xE28F0FD1 ∷ 0xE2800A12 ∷ [])
 unfolding immediate
 long_address = refl
 
@@ -181,16 +183,17 @@ no_operation = refl
 -- ---- data
 
 pub words_of_labels :
-    units context [] seen None (what.Directive (line.Dcd (number 7 ∷ name (codes "other") ∷ name (codes "far") ∷ [])))
-    ≡ Ok (Word (record { number = 7; target = Nothing }) ∷ Word (record { number = 4; target = ByArea 1 }) ∷ Word (record { number = 0; target = BySymbol (codes "far") }) ∷ [])
+    units context [] seen None (what.Directive (line.Constants datum.Word (number 7 ∷ name (codes "other") ∷ name (codes "far") ∷ [])))
+    ≡ Ok (Word (record { number = 7; target = Nothing }) ∷ Word (record { number = 4; target = ByArea 1 })
+    ∷ Word (record { number = 0; target = BySymbol (codes "far") }) ∷ [])
 words_of_labels = refl
 
 pub bytes_and_strings :
-    units context [] seen None (what.Directive (line.Dcb (items (item.Constant (Words (codes "ab")) ∷ []) ∷ number 0xFFFFFFFF ∷ [])))
+    units context [] seen None (what.Directive (line.Constants datum.Byte (items (item.Constant (Words (codes "ab")) ∷ []) ∷ number 0xFFFFFFFF ∷ [])))
     ≡ Ok (Bytes (97 ∷ 98 ∷ []) ∷ Bytes (255 ∷ []) ∷ [])
 bytes_and_strings = refl
 
-pub half_too_large : units context [] seen None (what.Directive (line.Dcw (number 65536 ∷ []))) ≡ Err OutOfRange
+pub half_too_large : units context [] seen None (what.Directive (line.Constants datum.HalfWord (number 65536 ∷ []))) ≡ Err OutOfRange
 half_too_large = refl
 
 -- ---- EXPORT
@@ -228,6 +231,7 @@ pub register_of_a_label : name_kinds (codes "base" ∷ []) names [] (register.Na
 register_of_a_label = refl
 
 pub falling_range :
-    operand_kinds false ((codes "base", 9) ∷ []) (what.Arm (arm.TransferBlock Al true mode.IncrementAfter (r 0) false (record { items = listed.Range (register.Named (codes "base")) (r 1) ∷ [] }) false))
+    operand_kinds false ((codes "base", 9) ∷ []) (what.Arm (arm.TransferBlock Al true mode.IncrementAfter (r 0) false
+    (record { items = listed.Range (register.Named (codes "base")) (r 1) ∷ [] }) false))
     ≡ BadOperand ∷ []
 falling_range = refl

@@ -209,5 +209,6 @@ pub link_bytes : unit_bytes (LinkPair 0 0x7E None) ≡ 0x00 ∷ 0xF0 ∷ 0x7E �
 link_bytes = refl
 
 -- one that is left to the linker is relocated at its odd offset
-pub link_reloc : (s : Source) → relocs_of s (4, LinkPair 0x7FF 0x7FC (Some (codes "f"))) ≡ record { offset = 5; word = 0x8F000000 + symbol_number s (codes "f") } ∷ []
+pub link_reloc : (s : Source) → relocs_of s (4, LinkPair 0x7FF 0x7FC (Some (codes "f")))
+    ≡ record { offset = 5; word = 0x8F000000 + symbol_number s (codes "f") } ∷ []
 link_reloc s = refl

@@ -30,9 +30,9 @@ use Rattle.asm_model.specs.declared.values.Value.{Value}
 use Rattle.asm_model.specs.declared.values.Value.TheVariants.{Number, Place}
 use Rattle.asm_model.specs.LayoutKinds.{is_true}
 use Rattle.asm_model.specs.Meaning.{named_in, stands_at}
-use Rattle.asm_model.specs.Says.{mapped}
+use Rattle.asm_model.specs.Readings.{and_then, mapped}
 use Rattle.asm_model.specs.Symbols.{is_in_area, keeps_state}
-use Rattle.source_model.specs.Contexts.{Context, sees, may_have_symbol, value_of, number_in, register, and_then, offset_below, own_offset, from_pc}
+use Rattle.source_model.specs.Contexts.{Context, sees, may_have_symbol, value_of, number_in, register, offset_below, own_offset, from_pc}
 use Rattle.source_model.specs.Immediates.{immediate, data_immediate, status_of}
 
 -- ---- shifts
@@ -147,7 +147,8 @@ abbrev pub arm_instruction : Context → ArmLine → Result ArmInstr LineKind
 arm_instruction c (arm.DataImmediate condition operation set_flags rd rn e) =
     and_then (number_in c e) (data_immediate condition operation set_flags (register c rn) (register c rd))
 arm_instruction c (arm.DataShifted condition operation set_flags rd rn rm by) =
-    mapped (λ f. instr.DataShifted condition operation set_flags (register c rn) (register c rd) f.1 f.0 (register c rm)) (shift_fields c by)
+    mapped (λ f. instr.DataShifted condition operation set_flags (register c rn) (register c rd) f.1 f.0 (register c rm))
+    (shift_fields c by)
 arm_instruction c (arm.DataRegisterShifted condition operation set_flags rd rn rm kind rs) =
     Ok (instr.DataRegisterShifted condition operation set_flags (register c rn) (register c rd) (register c rs) kind (register c rm))
 arm_instruction c (arm.Multiply condition accumulate set_flags rd rm rs rn) =
@@ -162,11 +163,13 @@ arm_instruction c (arm.WriteStatusImmediate condition saved fields e) =
     and_then (number_in c e) (λ n. status_of condition saved fields (immediate n))
 arm_instruction c (arm.TransferImmediate condition load byte rd a) = transfer_at c condition load byte (register c rd) a
 arm_instruction c (arm.TransferShifted condition load byte rd rn ix subtract rm by) =
-    mapped (λ f. instr.TransferShifted condition (is_before ix) (not subtract) byte (writes_back ix) load (register c rn) (register c rd) f.1 f.0 (register c rm))
+    mapped (λ f. instr.TransferShifted condition (is_before ix) (not subtract) byte (writes_back ix) load (register c rn) (register c rd)
+    f.1 f.0 (register c rm))
     (shift_fields c by)
 arm_instruction c (arm.TransferHalf condition load kind rd rn ix o) = half_at c condition load kind (register c rd) (register c rn) ix o
 arm_instruction c (arm.TransferBlock condition load m rn write_back list user) =
-    Ok (instr.TransferBlock condition (is_block_before m) (is_block_up m) user write_back load (register c rn) (list_bits c list.items 0 16))
+    Ok (instr.TransferBlock condition (is_block_before m) (is_block_up m) user write_back load (register c rn)
+    (list_bits c list.items 0 16))
 arm_instruction c (arm.Branch condition link e) =
     and_then (branch_displacement c (value_of c e)) (λ d. mapped (λ f. instr.Branch condition link f) (branch_field d))
 arm_instruction c (arm.SoftwareInterrupt condition e) =

@@ -57,13 +57,6 @@ may_have_symbol c name = is_symbol_entry (named_in name c.names) && not (is_hidd
 abbrev pub register : Context → Register → ℕ
 register c r = or_zero (number_of c.registers r)
 
--- ---- results
-
--- what comes behind a result
-abbrev pub and_then : {A B : Type 0} → Result A LineKind → (A → Result B LineKind) → Result B LineKind
-and_then (Ok a) f = f a
-and_then (Err k) f = Err k
-
 -- ---- numbers that are read as signed
 
 abbrev pub is_positive : ℕ → Bool

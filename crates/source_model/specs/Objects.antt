@@ -38,7 +38,7 @@ use Rattle.asm_model.specs.Offsets.{is_of, area_size, all_pooled}
 use Rattle.asm_model.specs.Symbols.{symbols_of, literal_value}
 use Rattle.source_model.specs.Contexts.{Context, sees}
 use Rattle.source_model.specs.SourceFaults.{context_of, word_of as literal_place}
-use Rattle.source_model.specs.Units.{Emitted, Bytes, Word, Instruction, Half, LinkPair, Stored, Target, Nothing, ByArea, BySymbol, stored, units}
+use Rattle.source_model.specs.Units.{Emitted, Bytes, Word, Instruction, Half, LinkPair, Stored, RelocationTarget, Nothing, ByArea, BySymbol, stored, units}
 
 -- ---- areas
 
@@ -190,7 +190,7 @@ pub record HoldsBytes (s : Source) (area : ℕ) (bytes : List ℕ) : Type 0 wher
 abbrev pub symbol_number : Source → List ℕ → ℕ
 symbol_number s name = place_of name (symbols_of s.names s.lines)
 
-abbrev pub word_relocs : Source → ℕ → Target → List Reloc
+abbrev pub word_relocs : Source → ℕ → RelocationTarget → List Reloc
 word_relocs s at Nothing = []
 word_relocs s at (ByArea area) = record { offset = at; word = 2 ^ 31 + 2 * 2 ^ 24 + area } ∷ []
 word_relocs s at (BySymbol name) = record { offset = at; word = 2 ^ 31 + 2 ^ 27 + 2 * 2 ^ 24 + symbol_number s name } ∷ []

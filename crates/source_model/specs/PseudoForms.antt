@@ -13,8 +13,8 @@ use Rattle.arm_isa.specs.declared.instr.ArmInstr.{ArmInstr}
 use Rattle.arm_isa.specs.declared.instr.ArmInstr.TheVariants as instr
 use Rattle.asm_model.specs.declared.statements.PseudoLine.{PseudoLine}
 use Rattle.asm_model.specs.declared.statements.PseudoLine.TheVariants as pseudo
-use Rattle.asm_model.specs.Says.{mapped}
-use Rattle.source_model.specs.Contexts.{Context, value_of, number_in, register, and_then, offset_below, own_offset, from_pc}
+use Rattle.asm_model.specs.Readings.{and_then, mapped}
+use Rattle.source_model.specs.Contexts.{Context, value_of, number_in, register, offset_below, own_offset, from_pc}
 use Rattle.source_model.specs.Immediates.{immediate, negated, data_immediate}
 
 -- ---- ADR

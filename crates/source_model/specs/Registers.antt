@@ -147,10 +147,11 @@ pseudo_registers (pseudo.LongAddress condition rd target) = rd ∷ []
 pseudo_registers pseudo.NoOperation = []
 
 abbrev pub registers_of : What → List Register
+registers_of what.Nothing = []
 registers_of (what.Arm l) = arm_registers l
 registers_of (what.Thumb l) = thumb_registers l
 registers_of (what.Pseudo l) = pseudo_registers l
-registers_of _ = []
+registers_of (what.Directive l) = []
 
 -- ---- faults of names for registers
 
@@ -166,7 +167,8 @@ kinds_unless None k = k ∷ []
 -- of a register, where a source has these names for registers and all these names, and those registers are known
 abbrev pub name_kinds : List (List ℕ) → List LaidName → List Named → Register → List LineKind
 name_kinds registers names known (register.Number n) = []
-name_kinds registers names known (register.Named name) = kinds_unless (register_in name known) (no_register registers name (named_in name names))
+name_kinds registers names known (register.Named name) =
+    kinds_unless (register_in name known) (no_register registers name (named_in name names))
 
 abbrev pub names_kinds : List (List ℕ) → List LaidName → List Named → List Register → List LineKind
 names_kinds registers names known [] = []
@@ -184,7 +186,8 @@ falls _ _ = false
 abbrev pub range_kinds : List Named → List ListItem → List LineKind
 range_kinds known [] = []
 range_kinds known (item.One r ∷ is) = range_kinds known is
-range_kinds known (item.Range first last ∷ is) = kind_if (falls (number_of known first) (number_of known last)) BadOperand ++ range_kinds known is
+range_kinds known (item.Range first last ∷ is) =
+    kind_if (falls (number_of known first) (number_of known last)) BadOperand ++ range_kinds known is
 
 abbrev pub is_pc : Option ℕ → Bool
 is_pc None = false
@@ -248,32 +251,74 @@ has_row n (thumb.TransferStack load rd offset) = is_low n rd
 has_row n (thumb.LoadAddress stack rd offset) = is_low n rd
 has_row n (thumb.PushPop load list) = list_all (has_item (link_register load) n) list.items
 has_row n (thumb.TransferMultiple load rn list) = is_low n rn && list_all (has_item 0 n) list.items
-has_row n _ = true
+has_row n (thumb.AdjustStack subtract offset) = true
+has_row n (thumb.BranchConditional condition target) = true
+has_row n (thumb.SoftwareInterrupt number) = true
+has_row n (thumb.Branch target) = true
+has_row n (thumb.BranchLink target) = true
 
--- the list of a line
+-- the list of an instruction
 abbrev pub thumb_list : ThumbLine → List ListItem
+thumb_list (thumb.ShiftImmediate shift rd rs amount) = []
+thumb_list (thumb.AddSubtract subtract rd rs o) = []
+thumb_list (thumb.DataImmediate operation rd value) = []
+thumb_list (thumb.DataRegister operation rd rs) = []
+thumb_list (thumb.HighRegister operation rd rs) = []
+thumb_list (thumb.LoadLiteral rd a) = []
+thumb_list (thumb.TransferRegister load byte rd rn ro) = []
+thumb_list (thumb.TransferSigned kind rd rn ro) = []
+thumb_list (thumb.TransferImmediate load byte rd rn offset) = []
+thumb_list (thumb.TransferHalf load rd rn offset) = []
+thumb_list (thumb.TransferStack load rd offset) = []
+thumb_list (thumb.LoadAddress stack rd offset) = []
+thumb_list (thumb.AdjustStack subtract offset) = []
 thumb_list (thumb.PushPop load list) = list.items
 thumb_list (thumb.TransferMultiple load rn list) = list.items
-thumb_list _ = []
+thumb_list (thumb.BranchConditional condition target) = []
+thumb_list (thumb.SoftwareInterrupt number) = []
+thumb_list (thumb.Branch target) = []
+thumb_list (thumb.BranchLink target) = []
+
+abbrev pub arm_list : ArmLine → List ListItem
+arm_list (arm.DataImmediate condition operation set_flags rd rn value) = []
+arm_list (arm.DataShifted condition operation set_flags rd rn rm shift) = []
+arm_list (arm.DataRegisterShifted condition operation set_flags rd rn rm shift rs) = []
+arm_list (arm.Multiply condition accumulate set_flags rd rm rs rn) = []
+arm_list (arm.MultiplyLong condition signed accumulate set_flags low high rm rs) = []
+arm_list (arm.Swap condition byte rd rm rn) = []
+arm_list (arm.BranchExchange condition rm) = []
+arm_list (arm.ReadStatus condition saved rd) = []
+arm_list (arm.WriteStatus condition saved fields rm) = []
+arm_list (arm.WriteStatusImmediate condition saved fields value) = []
+arm_list (arm.TransferImmediate condition load byte rd a) = []
+arm_list (arm.TransferShifted condition load byte rd rn indexing subtract rm shift) = []
+arm_list (arm.TransferHalf condition load kind rd rn indexing offset) = []
+arm_list (arm.TransferBlock condition load mode rn write_back list user) = list.items
+arm_list (arm.Branch condition link target) = []
+arm_list (arm.SoftwareInterrupt condition number) = []
 
 -- the register of a literal or an address
 abbrev pub has_pseudo : Numbers → PseudoLine → Bool
 has_pseudo n (pseudo.LoadConstant condition rd value) = is_low n rd
 has_pseudo n (pseudo.Address condition rd target) = is_low n rd
-has_pseudo n _ = true
+has_pseudo n (pseudo.LongAddress condition rd target) = true
+has_pseudo n pseudo.NoOperation = true
 
 -- operands that no instruction has: a range that falls, pc as the register of ADRL, and in Thumb state a register that the
 -- row doesn't have
 abbrev pub pseudo_kinds : Bool → List Named → PseudoLine → List LineKind
 pseudo_kinds true known l = kind_if (not (has_pseudo (number_of known) l)) BadOperand
+pseudo_kinds false known (pseudo.LoadConstant condition rd value) = []
+pseudo_kinds false known (pseudo.Address condition rd target) = []
 pseudo_kinds false known (pseudo.LongAddress condition rd target) = kind_if (is_pc (number_of known rd)) BadOperand
-pseudo_kinds false known _ = []
+pseudo_kinds false known pseudo.NoOperation = []
 
 abbrev pub operand_kinds : Bool → List Named → What → List LineKind
-operand_kinds thumb known (what.Arm (arm.TransferBlock condition load mode rn write_back list user)) = range_kinds known list.items
+operand_kinds thumb known what.Nothing = []
+operand_kinds thumb known (what.Arm l) = range_kinds known (arm_list l)
 operand_kinds thumb known (what.Thumb l) = range_kinds known (thumb_list l) ++ kind_if (not (has_row (number_of known) l)) BadOperand
 operand_kinds thumb known (what.Pseudo l) = pseudo_kinds thumb known l
-operand_kinds thumb known _ = []
+operand_kinds thumb known (what.Directive l) = []
 
 abbrev pub given_kinds : Names → Defined → List LineKind
 given_kinds s (RegisterName name r) = fault_kinds (given s r)

@@ -48,7 +48,8 @@ first_valued all statements before (l ∷ rest) =
     (told_at l.statement
     (told_kind
     (value_kinds (context_of (final_names all) l before) (datum_names statements)
-    (λ area. area_size area (pieces_of all)) l.seen (taken l.extent) (word_of l.area (taken l.extent) (pieces_of (l ∷ before)) (pieces_of rest))
+    (λ area. area_size area (pieces_of all)) l.seen (taken l.extent)
+    (word_of l.area (taken l.extent) (pieces_of (l ∷ before)) (pieces_of rest))
     l.statement.what)))
     (first_valued all statements (l ∷ before) rest)
 

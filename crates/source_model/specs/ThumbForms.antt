@@ -29,18 +29,14 @@ use Rattle.asm_model.specs.declared.thumb_lines.ThumbLine.TheVariants as thumb
 use Rattle.asm_model.specs.declared.values.Value.{Value}
 use Rattle.asm_model.specs.declared.values.Value.TheVariants.{Number, Place}
 use Rattle.asm_model.specs.Meaning.{stands_at}
-use Rattle.asm_model.specs.Says.{mapped, on_both}
+use Rattle.asm_model.specs.Readings.{and_then, both, mapped, on_both}
 use Rattle.source_model.specs.declared.codes.ThumbCode.{ThumbCode}
 use Rattle.source_model.specs.declared.codes.ThumbCode.TheVariants.{One, Pair}
 use Rattle.source_model.specs.ArmForms.{amount_field, has_symbol, is_settled, list_bits, offset_at}
-use Rattle.source_model.specs.Contexts.{Context, sees, value_of, number_in, register, and_then, own_offset}
+use Rattle.source_model.specs.Contexts.{Context, sees, value_of, number_in, register, own_offset}
 use Rattle.source_model.specs.Immediates.{negated}
 
 -- ---- two operands
-
--- where both have faults, the one that is told
-abbrev pub both : {A B : Type 0} → Result A LineKind → Result B LineKind → Result (A × B) LineKind
-both a b = on_both (λ x y. (x, y)) a b
 
 -- registers that have no row, with a number
 abbrev pub no_row : Result ℕ LineKind → Result ThumbInstr LineKind

@@ -13,19 +13,21 @@ use Rattle.asm_model.specs.declared.values.Value.{Value}
 use Rattle.asm_model.specs.declared.values.Value.TheVariants.{Number, Words, Place}
 use Rattle.asm_model.specs.declared.names.Names.{Names}
 use Rattle.asm_model.specs.declared.arm_lines.ArmLine.{ArmLine}
-use Rattle.asm_model.specs.declared.arm_lines.ArmLine.TheVariants as arm
 use Rattle.asm_model.specs.declared.thumb_lines.ThumbLine.{ThumbLine}
-use Rattle.asm_model.specs.declared.thumb_lines.ThumbLine.TheVariants as thumb
 use Rattle.asm_model.specs.declared.statements.PseudoLine.{PseudoLine}
 use Rattle.asm_model.specs.declared.directives.DirectiveLine.{DirectiveLine}
-use Rattle.asm_model.specs.declared.directives.DirectiveLine.TheVariants as line
+use Rattle.asm_model.specs.declared.directives.Held.{Held}
+use Rattle.asm_model.specs.declared.directives.Held.TheVariants as held
 use Rattle.asm_model.specs.declared.statements.What.{What}
 use Rattle.asm_model.specs.declared.statements.What.TheVariants as what
 use Rattle.asm_model.specs.Meaning.{stands_at}
-use Rattle.asm_model.specs.Says.{on_both, mapped}
 use Rattle.asm_model.specs.Extents.{value_there}
+use Rattle.asm_model.specs.DataItems.{held_by}
 use Rattle.asm_model.specs.Marks.{counts_one, thumb_bit}
-use Rattle.source_model.specs.Contexts.{Context, sees, value_of, number_in, and_then}
+use Rattle.asm_model.specs.Occupied.{Occupied, Unplaced, Opening, Marking, Entering, Items, Zeroes, UpTo, Literals, occupied}
+use Rattle.asm_model.specs.Symbols.{arm_target, thumb_target}
+use Rattle.source_model.specs.Contexts.{Context, sees, value_of, number_in}
+use Rattle.asm_model.specs.Readings.{and_then, mapped, on_both}
 use Rattle.source_model.specs.ArmForms.{arm_instruction, is_settled}
 use Rattle.source_model.specs.PseudoForms.{pseudo_instructions}
 use Rattle.source_model.specs.declared.codes.ThumbCode.{ThumbCode}
@@ -33,15 +35,15 @@ use Rattle.source_model.specs.declared.codes.ThumbCode.TheVariants as code
 use Rattle.source_model.specs.ThumbForms.{thumb_instruction, thumb_pseudo}
 
 -- what a word is relocated by
-pub data Target : Type 0 where
-  Nothing : Target
-  ByArea : ℕ → Target
-  BySymbol : List ℕ → Target
+pub data RelocationTarget : Type 0 where
+  Nothing : RelocationTarget
+  ByArea : ℕ → RelocationTarget
+  BySymbol : List ℕ → RelocationTarget
 
 -- what a word holds before it is relocated
 pub record Stored : Type 0 where
   pub number : ℕ
-  pub target : Target
+  pub target : RelocationTarget
 
 pub data Emitted : Type 0 where
   Bytes : List ℕ → Emitted
@@ -74,16 +76,17 @@ word_units c data_names [] = Ok []
 word_units c data_names (e ∷ es) =
     on_both (λ w us. Word w ∷ us) (stored c data_names (value_of c e)) (word_units c data_names es)
 
--- ---- half-words and bytes
+-- ---- numbers and strings
 
 -- a number in so many bytes, from the least signed one to the greatest unsigned one
 abbrev pub narrow : ℕ → ℕ → Result (List ℕ) LineKind
 narrow size n =
     if nat_lt n (2 ^ (8 * size)) || nat_le (2 ^ 32 - 2 ^ (8 * size - 1)) n then Ok (bytes_of (n % 2 ^ (8 * size)) size) else Err OutOfRange
 
-abbrev pub half_units : Context → List Expr → Result (List Emitted) LineKind
-half_units c [] = Ok []
-half_units c (e ∷ es) = on_both (λ b us. Bytes b ∷ us) (and_then (number_in c e) (narrow 2)) (half_units c es)
+-- numbers in so many bytes each
+abbrev pub number_units : Context → ℕ → List Expr → Result (List Emitted) LineKind
+number_units c width [] = Ok []
+number_units c width (e ∷ es) = on_both (λ b us. Bytes b ∷ us) (and_then (number_in c e) (narrow width)) (number_units c width es)
 
 -- an operand of DCB, by what is known at its line and in the end: a string that isn't known at its line comes too late
 abbrev pub byte_operand : Result Value LineKind → Result Value LineKind → Result (List ℕ) LineKind
@@ -103,13 +106,15 @@ abbrev pub linked_symbol : Context → Result Value LineKind → Option (List �
 linked_symbol c (Ok (Place (x ∷ xs) n)) = if is_settled c (x ∷ xs) then None else Some (x ∷ xs)
 linked_symbol c _ = None
 
+abbrev pub target_symbol : Context → Option Expr → Option (List ℕ)
+target_symbol c None = None
+target_symbol c (Some e) = linked_symbol c (value_of c e)
+
 abbrev pub branch_symbol : Context → ArmLine → Option (List ℕ)
-branch_symbol c (arm.Branch condition link target) = linked_symbol c (value_of c target)
-branch_symbol c _ = None
+branch_symbol c l = target_symbol c (arm_target l)
 
 abbrev pub link_symbol : Context → ThumbLine → Option (List ℕ)
-link_symbol c (thumb.BranchLink target) = linked_symbol c (value_of c target)
-link_symbol c _ = None
+link_symbol c l = target_symbol c (thumb_target l)
 
 abbrev pub code_unit : Option (List ℕ) → ThumbCode → Emitted
 code_unit symbol (code.One i) = Half i
@@ -126,12 +131,24 @@ pseudo_units false c word l = mapped instruction_units (pseudo_instructions c wo
 
 -- ---- all
 
+-- values that are held so
+abbrev pub held_units : Context → List (List ℕ) → Names → Held → List Expr → Result (List Emitted) LineKind
+held_units c data_names s held.Relocatable es = word_units c data_names es
+held_units c data_names s (held.Fixed width) es = number_units c width es
+held_units c data_names s held.Strings es = byte_units c s es
+
+abbrev pub occupied_units : Context → List (List ℕ) → Names → Occupied → Result (List Emitted) LineKind
+occupied_units c data_names s Unplaced = Ok []
+occupied_units c data_names s (Opening a) = Ok []
+occupied_units c data_names s Marking = Ok []
+occupied_units c data_names s Entering = Ok []
+occupied_units c data_names s (Items item es) = held_units c data_names s (held_by item) es
+occupied_units c data_names s (Zeroes e) = Ok []
+occupied_units c data_names s (UpTo b) = Ok []
+occupied_units c data_names s Literals = Ok []
+
 abbrev pub directive_units : Context → List (List ℕ) → Names → DirectiveLine → Result (List Emitted) LineKind
-directive_units c data_names s (line.Dcd es) = word_units c data_names es
-directive_units c data_names s (line.Dcdu es) = word_units c data_names es
-directive_units c data_names s (line.Dcw es) = half_units c es
-directive_units c data_names s (line.Dcb es) = byte_units c s es
-directive_units c data_names s _ = Ok []
+directive_units c data_names s l = occupied_units c data_names s (occupied l)
 
 -- of a statement that sees this at its line, whose literal has its word at an offset, if it has one
 abbrev pub units : Context → List (List ℕ) → Names → Option ℕ → What → Result (List Emitted) LineKind

@@ -48,11 +48,30 @@ assert_kinds (Err k) = k ∷ []
 -- ---- all
 
 abbrev pub directive_kinds : Context → (ℕ → ℕ) → DirectiveLine → List LineKind
+directive_kinds c sizes (line.Area name a) = []
+directive_kinds c sizes line.Entry = []
+directive_kinds c sizes line.End = []
 directive_kinds c sizes (line.Export name) = export_kinds c sizes (named_in name c.names)
+directive_kinds c sizes (line.Import name weak) = []
+directive_kinds c sizes (line.Extern name weak) = []
 directive_kinds c sizes (line.Keep name) = export_kinds c sizes (named_in name c.names)
 directive_kinds c sizes (line.Equ e) = fault_kinds (value_of c e)
+directive_kinds c sizes (line.Rn r) = []
+directive_kinds c sizes line.Rout = []
 directive_kinds c sizes (line.Assert e) = assert_kinds (value_of c e)
-directive_kinds c sizes _ = []
+directive_kinds c sizes line.Nofp = []
+directive_kinds c sizes (line.Opt e) = []
+directive_kinds c sizes line.Ttl = []
+directive_kinds c sizes line.Subt = []
+directive_kinds c sizes (line.Constants item es) = []
+directive_kinds c sizes (line.Space e) = []
+directive_kinds c sizes (line.Align b) = []
+directive_kinds c sizes line.Ltorg = []
+directive_kinds c sizes line.Data = []
+directive_kinds c sizes (line.Map e) = []
+directive_kinds c sizes (line.Field e) = []
+directive_kinds c sizes line.Code16 = []
+directive_kinds c sizes line.Code32 = []
 
 -- the word of a statement's literal
 abbrev pub literal_kinds : Context → List (List ℕ) → Extent → List LineKind
@@ -60,8 +79,11 @@ literal_kinds c data_names (Loading n v) = fault_kinds (stored c data_names (lit
 literal_kinds c data_names _ = []
 
 abbrev pub statement_kinds : Context → (ℕ → ℕ) → What → List LineKind
+statement_kinds c sizes what.Nothing = []
+statement_kinds c sizes (what.Arm l) = []
+statement_kinds c sizes (what.Thumb l) = []
+statement_kinds c sizes (what.Pseudo l) = []
 statement_kinds c sizes (what.Directive l) = directive_kinds c sizes l
-statement_kinds c sizes _ = []
 
 -- of a statement that takes up this and sees this at its line, where its literal has its word at an offset, if it has one,
 -- and areas have these sizes

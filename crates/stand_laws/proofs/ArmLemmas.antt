@@ -17,8 +17,8 @@ use Rattle.asm_model.specs.declared.values.Value.{Value}
 use Rattle.asm_model.specs.declared.values.Value.TheVariants.{Number, Truth, Words, Place}
 use Rattle.asm_model.specs.Meaning.{named_in, in_area, stands_at}
 use Rattle.asm_model.specs.Forms.{same}
-use Rattle.asm_model.specs.Says.{mapped}
 use Rattle.asm_model.specs.Placing.{address_at, address_of, HaveSymbols}
+use Rattle.asm_model.specs.Readings.{mapped}
 use Rattle.asm_model.specs.Symbols.{is_in_area, keeps_state}
 use Rattle.patch_model.specs.Fields.{Meant}
 use Rattle.patch_model.specs.Laws.{state_of}
@@ -49,7 +49,8 @@ in_own_is None a area n o x h = absurd (cc)
 in_own_is (Some y) None area n o x h = absurd (cc)
 in_own_is (Some y) (Some a) area n o x h = by_test (a.0 == y) refl h
   where
-    by_test : (t : Bool) → (a.0 == y) ≡ t → cond t (Ok ((a.1 + n) % 2 ^ 32)) (Err BadOperand) ≡ Ok o → (b : ℕ) × (Some a ≡ Some (area, b)) × ((b + n) % 2 ^ 32 ≡ o)
+    by_test : (t : Bool) → (a.0 == y) ≡ t → cond t (Ok ((a.1 + n) % 2 ^ 32)) (Err BadOperand) ≡ Ok o → (b : ℕ) × (Some a ≡ Some (area, b))
+        × ((b + n) % 2 ^ 32 ≡ o)
     by_test true s k =
         let same : y ≡ area = cc in
         (a.1, ap (λ z. Some (z, a.1)) (eqb-true a.0 y s ∙ same), cc)
@@ -197,7 +198,8 @@ displaced true x d h = cc
 displaced false x d h = absurd (cc)
 
 -- a branch to a symbol
-pub to_symbol : (k : Setting) (area at a : ℕ) → Ready k area at → a ≡ k.base + at → (condition : Condition) (link : Bool) (e : Expr) (y : ℕ) (ys : List ℕ) (n d f : ℕ)
+pub to_symbol : (k : Setting) (area at a : ℕ) → Ready k area at → a ≡ k.base + at
+    → (condition : Condition) (link : Bool) (e : Expr) (y : ℕ) (ys : List ℕ) (n d f : ℕ)
     → value_of k.context e ≡ Ok (Place (y ∷ ys) n) → d ≡ branch_from k.context (y ∷ ys) n → branch_field d ≡ Ok f
     → Shown k (at, Instruction (instr.Branch condition link f) (linked_symbol k.context (Ok (Place (y ∷ ys) n)))) → SymbolMeets k (Ok (Place (y ∷ ys) n))
     → BranchStands (lookup k) a condition link e
@@ -234,7 +236,8 @@ to_symbol k area at a ready x condition link e y ys n d f v h field s meets =
         → (cond t None (Some q) ≡ Some q → address_of (lookup k).placing (sees k.context) q % 2 ^ 32 ≡ m.number % 2 ^ 32)
         → state_for k e ≡ cond t false (state_of false m m.home) → BranchStands (lookup k) a condition link e
     by_test true t g b meet state =
-        let p = settled_in k.context.line.area (stands_at (sees k.context) q) area (keeps_state k.context.line.thumb (named_in q (sees k.context).list)) ready.own t in
+        let p = settled_in k.context.line.area (stands_at (sees k.context) q) area (keeps_state k.context.line.thumb (named_in q (sees k.context).list))
+        ready.own t in
         let o : ℕ = p.0 + n in
         direct k area at a ready x condition link e d f o ((k.values.base area + p.0 + n) % 2 ^ 32)
         (g ∙ ap (λ z. away_from k.context (offset_at z + n)) p.1 ∙ away_is k area at o ready) field
@@ -243,7 +246,8 @@ to_symbol k area at a ready x condition link e y ys n d f v h field s meets =
         (area_sum k.base p.0 n (k.values.base area) ready.based) state
     by_test false t g b meet state = left g b (meet refl) state
 
-pub branch_of : (k : Setting) (area at a : ℕ) → Ready k area at → a ≡ k.base + at → (condition : Condition) (link : Bool) (e : Expr) (r : Result Value LineKind) (d f : ℕ)
+pub branch_of : (k : Setting) (area at a : ℕ) → Ready k area at → a ≡ k.base + at
+    → (condition : Condition) (link : Bool) (e : Expr) (r : Result Value LineKind) (d f : ℕ)
     → value_of k.context e ≡ r → branch_displacement k.context r ≡ Ok d → branch_field d ≡ Ok f
     → Shown k (at, Instruction (instr.Branch condition link f) (linked_symbol k.context r)) → SymbolMeets k r
     → BranchStands (lookup k) a condition link e
@@ -274,7 +278,8 @@ branch_stands k area at a ready x condition link e i h s meets =
 
 -- ---- all lines
 
-pub plain_stands : (k : Setting) (at a : ℕ) → a ≡ k.base + at → (l : ArmLine) (i : ArmInstr) → arm_instruction k.context l ≡ Ok i → Shown k (at, Instruction i None)
+pub plain_stands : (k : Setting) (at a : ℕ) → a ≡ k.base + at → (l : ArmLine) (i : ArmInstr) → arm_instruction k.context l ≡ Ok i
+    → Shown k (at, Instruction i None)
     → InstructionStands (lookup k) a l
 plain_stands k at a x l i h s = record { instruction = i; says = h; reads = subst (λ z. ReadsAt k.view z i) (sym x) s }
 

@@ -5,6 +5,7 @@ use Rattle.sdt_fault.specs.declared.kinds.LineKind.{LineKind}
 use Rattle.sdt_fault.specs.declared.kinds.LineKind.TheVariants.{OutOfRange}
 use Rattle.sdt_word.specs.Bytes.{bytes_of}
 use Rattle.sdt_word.specs.Numbers.{flag}
+use Rattle.sdt_word.proofs.BytesLemmas.{length-bytes_of}
 use Rattle.asm_model.specs.declared.exprs.Expr.{Expr}
 use Rattle.asm_model.specs.declared.values.Value.{Value}
 use Rattle.asm_model.specs.declared.values.Value.TheVariants.{Number, Truth, Words, Place}
@@ -13,13 +14,14 @@ use Rattle.asm_model.specs.Meaning.{stands_at}
 use Rattle.asm_model.specs.Extents.{value_there}
 use Rattle.asm_model.specs.Marks.{counts_one, thumb_bit, datum_names}
 use Rattle.asm_model.specs.Placing.{placed_value, HaveSymbols}
+use Rattle.asm_model.specs.Readings.{and_then}
 use Rattle.patch_model.specs.Fields.{is_thumb_label}
 use Rattle.patch_model.specs.Reaches.{Shows, ShowsWord}
-use Rattle.source_model.specs.Contexts.{Context, sees, value_of, number_in, and_then}
+use Rattle.source_model.specs.Contexts.{Context, sees, value_of, number_in}
 use Rattle.source_model.specs.Objects.{units_from, unit_bytes}
-use Rattle.source_model.specs.Units.{Emitted, Bytes, Word, Stored, placed, stored, word_units, narrow, half_units, byte_operand, byte_units}
+use Rattle.source_model.specs.Units.{Emitted, Bytes, Word, Stored, placed, stored, word_units, narrow, number_units, byte_operand, byte_units}
 use Rattle.stand_model.specs.Shown.{added_by, meant_by}
-use Rattle.stand_model.specs.Stands.{WordStands, WordsStand, HalvesStand, AreBytesOf, BytesStand, mark_of}
+use Rattle.stand_model.specs.Stands.{WordStands, WordsStand, NumbersStand, AreBytesOf, BytesStand, mark_of}
 use Rattle.stand_laws.proofs.ResultLemmas.{ok_or, both_ok, then_ok}
 use Rattle.stand_laws.proofs.ValueLemmas.{Setting, lookup, Shown, AllShown, value_stands, number_stands}
 
@@ -96,7 +98,7 @@ words_stand k (e ∷ es) us a at here x h s =
       words_stand k es b.second (a + 4) (at + 4) here (further a k.base at 4 x) b.is_second f.1,
     )
 
--- ---- half-words and bytes
+-- ---- numbers and strings
 
 pub narrow_is : (size n : ℕ) (bytes : List ℕ) → narrow size n ≡ Ok bytes → bytes_of (n % 2 ^ (8 * size)) size ≡ bytes
 narrow_is size n bytes h = by_test (nat_lt n (2 ^ (8 * size)) || nat_le (2 ^ 32 - 2 ^ (8 * size - 1)) n) h
@@ -108,20 +110,21 @@ narrow_is size n bytes h = by_test (nat_lt n (2 ^ (8 * size)) || nat_le (2 ^ 32 
 pub further_by : (a base at n m : ℕ) → a ≡ base + at → n ≡ m → a + n ≡ base + (at + m)
 further_by a base at n m h e = omega (arith, h, e)
 
-pub halves_stand : (k : Setting) (es : List Expr) (us : List Emitted) (a at : ℕ) → HaveSymbols (sees k.context) → a ≡ k.base + at
-    → half_units k.context es ≡ Ok us → AllShown k (units_from at us) → HalvesStand (lookup k) a es
-halves_stand k [] us a at here x h s = tt
-halves_stand k (e ∷ es) us a at here x h s =
-    let b = both_ok (λ b vs. Bytes b ∷ vs) (and_then (number_in k.context e) (narrow 2)) (half_units k.context es) us h in
-    let t = then_ok (narrow 2) (number_in k.context e) b.first b.is_first in
-    let n = narrow_is 2 t.from b.first t.gives in
+pub numbers_stand : (k : Setting) (width : ℕ) (es : List Expr) (us : List Emitted) (a at : ℕ) → HaveSymbols (sees k.context) → a ≡ k.base + at
+    → number_units k.context width es ≡ Ok us → AllShown k (units_from at us) → NumbersStand (lookup k) a width es
+numbers_stand k width [] us a at here x h s = tt
+numbers_stand k width (e ∷ es) us a at here x h s =
+    let b = both_ok (λ b vs. Bytes b ∷ vs) (and_then (number_in k.context e) (narrow width)) (number_units k.context width es) us h in
+    let t = then_ok (narrow width) (number_in k.context e) b.first b.is_first in
+    let n = narrow_is width t.from b.first t.gives in
+    let long : width ≡ length b.first = sym (length-bytes_of (t.from % 2 ^ (8 * width)) width) ∙ ap length n in
     let f = first_shown k at (Bytes b.first) b.second us b.gives s in (
       record {
         number = t.from;
         means = number_stands (lookup k) e t.from here t.is;
         shows = subst (Shows k.view a) (sym n) (subst (λ z. Shows k.view z b.first) (sym x) f.0);
       },
-      halves_stand k es b.second (a + 2) (at + length b.first) here (further_by a k.base at 2 (length b.first) x (ap length n)) b.is_second f.1,
+      numbers_stand k width es b.second (a + width) (at + length b.first) here (further_by a k.base at width (length b.first) x long) b.is_second f.1,
     )
 
 -- what is known at the line is so in the end

@@ -10,7 +10,7 @@ use Rattle.patch_model.specs.Fields.{Kind, Byte as ByteField, Half as HalfField,
 use Rattle.patch_model.specs.Patched.{IsOutside}
 use Rattle.patch_model.proofs.SumLemmas.{one}
 use Rattle.source_model.specs.Objects.{Piece, unit_bytes, Source, source_of, StandsIn, symbol_number, word_relocs, branch_relocs, link_relocs, relocs_of, IsRelocOf, HasRelocs}
-use Rattle.source_model.specs.Units.{Bytes, Word, Instruction, Half, LinkPair, Stored, Target, Nothing, ByArea, BySymbol}
+use Rattle.source_model.specs.Units.{Bytes, Word, Instruction, Half, LinkPair, Stored, RelocationTarget, Nothing, ByArea, BySymbol}
 use Rattle.source_laws.specs.Laws.{StandApart}
 use Rattle.object_laws.proofs.RelocLemmas.{TargetBelow, UnitBelow}
 use Rattle.stand_laws.proofs.GoodLemmas.{LinkedAligned, IsGood}
@@ -36,17 +36,19 @@ field_by : (q : Piece) (r : Reloc) (kind : Kind) (relative by : Bool) (n : ℕ) 
     → size_of kind ≡ length (unit_bytes q.1) → FieldOf q r
 field_by q r kind relative by n is low high s = record { place = is.place; size = ap size_of is.kind_is ∙ s; from_offset = low; to_offset = high }
 
-word_field : (s : Source) (at : ℕ) (w : Stored) (t : Target) (r : Reloc) → TargetBelow (2 ^ 24) t → ((name : List ℕ) → symbol_number s name < 2 ^ 24)
+word_field : (s : Source) (at : ℕ) (w : Stored) (t : RelocationTarget) (r : Reloc) → TargetBelow (2 ^ 24) t → ((name : List ℕ) → symbol_number s name < 2 ^ 24)
     → IsRelocOf (word_relocs s at t) r → FieldOf (at, Word w) r
 word_field s at w Nothing r good symbols h = absurd h
 word_field s at w (ByArea k) r good symbols (inl e) =
     subst (λ (z : Reloc). FieldOf (at, Word w) z) (sym e)
-    (field_by (at, Word w) (record { offset = at; word = 2 ^ 31 + 2 * 2 ^ 24 + k }) WordField false false k (by_area at k good) (omega arith) (omega arith) refl)
+    (field_by (at, Word w) (record { offset = at; word = 2 ^ 31 + 2 * 2 ^ 24 + k }) WordField false false k (by_area at k good) (omega arith) (omega arith)
+    refl)
 word_field s at w (ByArea k) r good symbols (inr h) = absurd h
 word_field s at w (BySymbol name) r good symbols (inl e) =
     let n = symbol_number s name in
     subst (λ (z : Reloc). FieldOf (at, Word w) z) (sym e)
-    (field_by (at, Word w) (record { offset = at; word = 2 ^ 31 + 2 ^ 27 + 2 * 2 ^ 24 + n }) WordField false true n (by_symbol at n (symbols name)) (omega arith) (omega arith) refl)
+    (field_by (at, Word w) (record { offset = at; word = 2 ^ 31 + 2 ^ 27 + 2 * 2 ^ 24 + n }) WordField false true n (by_symbol at n (symbols name))
+    (omega arith) (omega arith) refl)
 word_field s at w (BySymbol name) r good symbols (inr h) = absurd h
 
 branch_field : (s : Source) (at : ℕ) (i : ArmInstr) (o : Option (List ℕ)) (r : Reloc) → LinkedAligned at o → ((name : List ℕ) → symbol_number s name < 2 ^ 24)
@@ -65,7 +67,8 @@ pair_field s at first second None r even symbols h = absurd h
 pair_field s at first second (Some name) r even symbols (inl e) =
     let n = symbol_number s name in
     subst (λ (z : Reloc). FieldOf (at, LinkPair first second (Some name)) z) (sym e)
-    (field_by (at, LinkPair first second (Some name)) (record { offset = at + 1; word = 2 ^ 31 + 2 ^ 27 + 2 ^ 26 + 3 * 2 ^ 24 + n }) (BranchField true) true true n
+    (field_by (at, LinkPair first second (Some name)) (record { offset = at + 1; word = 2 ^ 31 + 2 ^ 27 + 2 ^ 26 + 3 * 2 ^ 24 + n }) (BranchField true) true
+    true n
     (of_pair at n (symbols name) even) (omega arith) (omega arith) refl)
 pair_field s at first second (Some name) r even symbols (inr h) = absurd h
 
@@ -85,7 +88,7 @@ option_reloc s at (Some name) q r (inl e) (inl f) = e ∙ sym f
 option_reloc s at (Some name) q r (inr h) k = absurd h
 option_reloc s at (Some name) q r (inl e) (inr k) = absurd k
 
-target_reloc : (s : Source) (at : ℕ) (t : Target) (q r : Reloc) → IsRelocOf (word_relocs s at t) q → IsRelocOf (word_relocs s at t) r → q ≡ r
+target_reloc : (s : Source) (at : ℕ) (t : RelocationTarget) (q r : Reloc) → IsRelocOf (word_relocs s at t) q → IsRelocOf (word_relocs s at t) r → q ≡ r
 target_reloc s at Nothing q r h k = absurd h
 target_reloc s at (ByArea n) q r (inl e) (inl f) = e ∙ sym f
 target_reloc s at (ByArea n) q r (inr h) k = absurd h
@@ -158,10 +161,12 @@ outside_fields ss area relocs facts has i away k r there =
 
 -- each place of a thing without relocations
 pub outside_thing : (ss : List Statement) (area : ℕ) (relocs : List Reloc) → Facts ss area → HasRelocs (source_of ss) area relocs
-    → (p : Piece) → StandsIn (source_of ss) area p → relocs_of (source_of ss) p ≡ [] → (i : ℕ) → p.0 ≤ i → i < p.0 + length (unit_bytes p.1) → IsOutside relocs i
+    → (p : Piece) → StandsIn (source_of ss) area p → relocs_of (source_of ss) p ≡ [] → (i : ℕ) → p.0 ≤ i → i < p.0 + length (unit_bytes p.1)
+    → IsOutside relocs i
 outside_thing ss area relocs facts has p x none i from below = outside_fields ss area relocs facts has i away
   where
-    away : (q : Piece) → StandsIn (source_of ss) area q → (r : Reloc) → IsRelocOf (relocs_of (source_of ss) q) r → (i < q.0) ⊎ (q.0 + length (unit_bytes q.1) ≤ i)
+    away : (q : Piece) → StandsIn (source_of ss) area q → (r : Reloc) → IsRelocOf (relocs_of (source_of ss) q) r → (i < q.0)
+        ⊎ (q.0 + length (unit_bytes q.1) ≤ i)
     away q y r h = by_case (facts.apart p q x y)
       where
         by_case : (p ≡ q) ⊎ StandApart p q → (i < q.0) ⊎ (q.0 + length (unit_bytes q.1) ≤ i)
@@ -172,7 +177,8 @@ outside_thing ss area relocs facts has p x none i from below = outside_fields ss
 
 -- ---- what one directive adds and takes away
 
-value_is : (values : Values) (r : Reloc) (b : Bool) (n : ℕ) → is_by_symbol r ≡ b → number_named r ≡ n → value_named values r ≡ cond b (values.symbol n).number (values.base n)
+value_is : (values : Values) (r : Reloc) (b : Bool) (n : ℕ) → is_by_symbol r ≡ b → number_named r ≡ n
+    → value_named values r ≡ cond b (values.symbol n).number (values.base n)
 value_is values r b n e h =
     ap (λ c. cond c (values.symbol (number_named r)).number (values.base (number_named r))) e ∙ ap (λ m. cond b (values.symbol m).number (values.base m)) h
 

@@ -9,6 +9,8 @@ use Rattle.arm_isa.specs.declared.instr.ArmInstr.{ArmInstr}
 use Rattle.thumb_isa.specs.declared.instr.ThumbInstr.{ThumbInstr}
 use Rattle.asm_model.specs.declared.arm_lines.ArmLine.{ArmLine}
 use Rattle.asm_model.specs.declared.directives.DirectiveLine.TheVariants as line
+use Rattle.asm_model.specs.declared.directives.Held.{Held}
+use Rattle.asm_model.specs.declared.directives.Held.TheVariants as held
 use Rattle.asm_model.specs.declared.directives.RnOperand.{RnOperand}
 use Rattle.asm_model.specs.declared.directives.RnOperand.TheVariants as rn
 use Rattle.asm_model.specs.declared.exprs.Expr.{Expr}
@@ -20,25 +22,26 @@ use Rattle.asm_model.specs.declared.statements.What.{What}
 use Rattle.asm_model.specs.declared.statements.What.TheVariants as what
 use Rattle.asm_model.specs.declared.values.Value.{Value}
 use Rattle.asm_model.specs.declared.names.Names.{Names}
+use Rattle.asm_model.specs.DataItems.{held_by}
 use Rattle.asm_model.specs.Forms.{same}
-use Rattle.asm_model.specs.Says.{on_both, mapped}
 use Rattle.asm_model.specs.Extents.{Extent, Block, number_there, thumb_extent, value_there, extent_of}
 use Rattle.asm_model.specs.Labels.{Defined, RegisterName, field_defines, defined_by, declared_names}
 use Rattle.asm_model.specs.Laid.{LaidLine, statements_of, taken, pieces_of, laid}
 use Rattle.asm_model.specs.Marks.{datum_names}
 use Rattle.asm_model.specs.Offsets.{waiting, end_behind, start_from}
+use Rattle.asm_model.specs.Readings.{and_then, mapped, on_both}
 use Rattle.asm_model.specs.Sound.{IsSound}
 use Rattle.layout_laws.proofs.SoundLemmas.{statements_kept}
-use Rattle.said_model.specs.Said.{GivenSaid, ArmSaid, ThumbSaid, PseudoSaid, WhatSaid, AllSaid}
+use Rattle.asm_model.specs.Said.{GivenSaid, ArmSaid, ThumbSaid, PseudoSaid, WhatSaid, AllSaid}
 use Rattle.source_model.specs.ArmForms.{arm_instruction}
-use Rattle.source_model.specs.Contexts.{Context, value_of, number_in, and_then}
+use Rattle.source_model.specs.Contexts.{Context, value_of, number_in}
 use Rattle.source_model.specs.Objects.{Piece, unit_bytes, units_from, or_none, source_of, IsAmong, StandsIn}
 use Rattle.source_model.specs.PseudoForms.{pseudo_instructions}
 use Rattle.source_model.specs.ThumbForms.{thumb_instruction, thumb_pseudo}
 use Rattle.source_model.specs.declared.codes.ThumbCode.{ThumbCode}
 use Rattle.source_model.specs.declared.codes.ThumbCode.TheVariants.{One, Pair}
 use Rattle.source_model.specs.Registers.{Named, register_in, as_register, given, with_register, named_by, registers_behind}
-use Rattle.source_model.specs.Units.{Emitted, Bytes, Word, Instruction, Half, LinkPair, stored, word_units, narrow, half_units, byte_operand, byte_units, branch_symbol, link_symbol, code_unit, instruction_units, pseudo_units, units}
+use Rattle.source_model.specs.Units.{Emitted, Bytes, Word, Instruction, Half, LinkPair, stored, word_units, narrow, number_units, byte_operand, byte_units, branch_symbol, link_symbol, code_unit, instruction_units, pseudo_units, held_units, units}
 use Rattle.asm_instructions.specs.Fits.{NamesRegisters, Fits, AllFit}
 use Rattle.source_laws.specs.Laws.{word_among, context_behind}
 use Rattle.asm_instructions.specs.ThumbFits.{ThumbFits, CodeFits}
@@ -86,13 +89,19 @@ words_good : (c : Context) (d : List (List ℕ)) (es : List Expr) (at : ℕ) →
 words_good c d [] at = tt
 words_good c d (e ∷ es) at = data_joined Word at (stored c d (value_of c e)) (word_units c d es) (λ w i. tt) (words_good c d es)
 
-halves_good : (c : Context) (es : List Expr) (at : ℕ) → ResultGood at (half_units c es)
-halves_good c [] at = tt
-halves_good c (e ∷ es) at = data_joined Bytes at (and_then (number_in c e) (narrow 2)) (half_units c es) (λ b i. tt) (halves_good c es)
+numbers_good : (c : Context) (width : ℕ) (es : List Expr) (at : ℕ) → ResultGood at (number_units c width es)
+numbers_good c width [] at = tt
+numbers_good c width (e ∷ es) at =
+    data_joined Bytes at (and_then (number_in c e) (narrow width)) (number_units c width es) (λ b i. tt) (numbers_good c width es)
 
 bytes_good : (c : Context) (s : Names) (es : List Expr) (at : ℕ) → ResultGood at (byte_units c s es)
 bytes_good c s [] at = tt
 bytes_good c s (e ∷ es) at = data_joined Bytes at (byte_operand (value_there s e) (value_of c e)) (byte_units c s es) (λ b i. tt) (bytes_good c s es)
+
+held_good : (at : ℕ) (c : Context) (d : List (List ℕ)) (s : Names) (h : Held) (es : List Expr) → ResultGood at (held_units c d s h es)
+held_good at c d s held.Relocatable es = words_good c d es at
+held_good at c d s (held.Fixed width) es = numbers_good c width es at
+held_good at c d s held.Strings es = bytes_good c s es at
 
 -- ---- instructions
 
@@ -150,10 +159,7 @@ line_good at c d s word what.Nothing named said aligned = tt
 line_good at c d s word (what.Arm l) named said aligned = arm_good at c l named said aligned
 line_good at c d s word (what.Thumb l) named said aligned = thumb_good at c l said aligned
 line_good at c d s word (what.Pseudo l) named said aligned = pseudo_good at c word l c.line.thumb named said
-line_good at c d s word (what.Directive (line.Dcd es)) named said aligned = words_good c d es at
-line_good at c d s word (what.Directive (line.Dcdu es)) named said aligned = words_good c d es at
-line_good at c d s word (what.Directive (line.Dcw es)) named said aligned = halves_good c es at
-line_good at c d s word (what.Directive (line.Dcb es)) named said aligned = bytes_good c s es at
+line_good at c d s word (what.Directive (line.Constants item es)) named said aligned = held_good at c d s (held_by item) es
 line_good at c d s word (what.Directive l) named said aligned = tt
 
 raised_aligned : (at x : ℕ) → at ≡ x + (4 + 0 % 4 - x % 4) % 4 → at % 4 ≡ 0
@@ -237,7 +243,8 @@ said_behind : (after before : List LaidLine) → AllSaid (statements_of (after +
 said_behind [] before h = h
 said_behind (l ∷ after) before h = said_behind after before h.1
 
-pub lines_said : (ss : List Statement) (after before : List LaidLine) (l : LaidLine) → AllSaid ss → laid ss ≡ after ++ l ∷ before → AllSaid (statements_of (l ∷ before))
+pub lines_said : (ss : List Statement) (after before : List LaidLine) (l : LaidLine) → AllSaid ss → laid ss ≡ after ++ l ∷ before
+    → AllSaid (statements_of (l ∷ before))
 lines_said ss after before l said e =
     said_behind after (l ∷ before) (subst (λ z. AllSaid (statements_of z)) e (subst AllSaid (sym (statements_kept (declared_names ss) ss)) said))
 

@@ -47,7 +47,8 @@ halves_held limit size d f width small h = by_whole (d % 2 == 0) refl h
     held even false true s t or = width.back d even small (leb-true (2 ^ 32 - limit) d t)
     held even false false s t or = absurd (cc)
 
-    by_range : d % 2 ≡ 0 → (b : Bool) → (nat_lt d limit || nat_le (2 ^ 32 - limit) d) ≡ b → cond b (Ok (d / 2 % limit)) (Err OutOfRange) ≡ Ok f → HoldsHalves size d f
+    by_range : d % 2 ≡ 0 → (b : Bool) → (nat_lt d limit || nat_le (2 ^ 32 - limit) d) ≡ b → cond b (Ok (d / 2 % limit)) (Err OutOfRange) ≡ Ok f
+        → HoldsHalves size d f
     by_range even true s k =
         let same : d / 2 % limit ≡ f = cc in
         subst (HoldsHalves size d) same (record { spans = held even (nat_lt d limit) (nat_le (2 ^ 32 - limit) d) refl refl s })
@@ -62,7 +63,8 @@ halves_held limit size d f width small h = by_whole (d % 2 == 0) refl h
 pub link_field : (f : ℕ) → f / 2 ^ 11 * 2 ^ 11 + f % 2 ^ 11 ≡ f
 link_field f = omega arith
 
-pub linked_leads : (at d s n m address : ℕ) → at + 8 ≤ 2 ^ 32 → d ≡ behind at n → (at + 4 + s * 2) % 2 ^ 32 ≡ (at + 4 + d) % 2 ^ 32 → address % 2 ^ 32 ≡ m % 2 ^ 32
+pub linked_leads : (at d s n m address : ℕ) → at + 8 ≤ 2 ^ 32 → d ≡ behind at n → (at + 4 + s * 2) % 2 ^ 32 ≡ (at + 4 + d) % 2 ^ 32
+    → address % 2 ^ 32 ≡ m % 2 ^ 32
     → (at + 4 + s * 2 + m) % 2 ^ 32 ≡ (address + n) % 2 ^ 32
 linked_leads at d s n m address small h same meet = omega (arith, small, h, same, meet)
 

@@ -13,19 +13,21 @@ use Rattle.asm_model.specs.declared.values.Value.{Value}
 use Rattle.asm_model.specs.declared.values.Value.TheVariants.{Number, Truth, Words, Place}
 use Rattle.asm_model.specs.AtLine.{has_value, kept_name, kept_names}
 use Rattle.asm_model.specs.Grammar.{Tree, Leaf, Before, Between}
-use Rattle.asm_model.specs.Meaning.{named_in, binary, unary_of, Known, value_of, then_of, on_both, applied, meaning}
+use Rattle.asm_model.specs.Meaning.{named_in, binary, unary_of, Known, value_of, applied, meaning}
 use Rattle.asm_model.proofs.LineLemmas.{applied_known}
 use Rattle.asm_model.specs.PlacedLines.{IsName}
+use Rattle.asm_model.specs.Readings.{and_then, then_both}
 use Rattle.layout_laws.proofs.RoundLemmas.{ResultIs}
 use Rattle.layout_laws.proofs.SettledLemmas.{HoldsConstant}
 use Rattle.layout_laws.proofs.TreeLemmas.{TreeEach}
-use Rattle.said_model.specs.Named.{ItemNamed}
+use Rattle.asm_model.specs.Named.{ItemNamed}
 use Rattle.stand_laws.proofs.LiteralLemmas.{Plus, added_turns, moves, plus_moved, Later, Loads, exact, whole, places_kept}
 
 -- ---- operators between values
 
-both_given : (names : Names) (op : BinaryOp) (v w : Value) (r q : Result Value LineKind) → r ≡ Ok v → q ≡ Ok w → on_both r q (binary names op) ≡ binary names op v w
-both_given names op v w r q h g = ap (λ z. on_both z q (binary names op)) h ∙ ap (λ z. on_both (Ok v) z (binary names op)) g
+both_given : (names : Names) (op : BinaryOp) (v w : Value) (r q : Result Value LineKind) → r ≡ Ok v → q ≡ Ok w
+    → then_both r q (binary names op) ≡ binary names op v w
+both_given names op v w r q h g = ap (λ z. then_both z q (binary names op)) h ∙ ap (λ z. then_both (Ok v) z (binary names op)) g
 
 -- ---- operators before values
 
@@ -73,49 +75,49 @@ over_between s op o t u = refl
 
 module _ (s final : Names) (Own : List ℕ → Type 0) (later : Later s final Own) where
   place_and_number : (op : BinaryOp) (a : List ℕ) (p n : ℕ) (x : Value) (r q : Result Value LineKind)
-      → binary s op (Place a p) (Number n) ≡ Ok x → Loads final (Place a p) r → q ≡ Ok (Number n) → ResultIs Own (on_both r q (binary final op))
-      → Loads final x (on_both r q (binary final op))
+      → binary s op (Place a p) (Number n) ≡ Ok x → Loads final (Place a p) r → q ≡ Ok (Number n) → ResultIs Own (then_both r q (binary final op))
+      → Loads final x (then_both r q (binary final op))
   place_and_number op [] p n x r q h g i own =
-      exact s final Own later x (on_both r q (binary final op)) (both_given final op (Place [] p) (Number n) r q g i ∙ h) own
+      exact s final Own later x (then_both r q (binary final op)) (both_given final op (Place [] p) (Number n) r q g i ∙ h) own
   place_and_number op (c ∷ cs) p n x r q h g i own =
       let m = moves final op (c ∷ cs) p n x h in
-      subst (λ z. Loads final z (on_both r q (binary final op))) (sym m.is)
+      subst (λ z. Loads final z (then_both r q (binary final op))) (sym m.is)
       (λ f e. plus_moved final op (c ∷ cs) p n x m f r q i (g f e))
 
   number_and_place : (op : BinaryOp) (a : List ℕ) (p n : ℕ) (x : Value) (r q : Result Value LineKind)
-      → binary s op (Number n) (Place a p) ≡ Ok x → r ≡ Ok (Number n) → Loads final (Place a p) q → ResultIs Own (on_both r q (binary final op))
-      → Loads final x (on_both r q (binary final op))
+      → binary s op (Number n) (Place a p) ≡ Ok x → r ≡ Ok (Number n) → Loads final (Place a p) q → ResultIs Own (then_both r q (binary final op))
+      → Loads final x (then_both r q (binary final op))
   number_and_place Add a p n x r q h g i own =
-      let same : on_both r q (binary final Add) ≡ on_both q r (binary final Add) =
-      ap (λ z. on_both z q (binary final Add)) g ∙ sym (added_turns final n q) ∙ ap (λ z. on_both q z (binary final Add)) (sym g) in
+      let same : then_both r q (binary final Add) ≡ then_both q r (binary final Add) =
+      ap (λ z. then_both z q (binary final Add)) g ∙ sym (added_turns final n q) ∙ ap (λ z. then_both q z (binary final Add)) (sym g) in
       subst (Loads final x) (sym same)
       (place_and_number Add a p n x q r (added_turns s n (Ok (Place a p)) ∙ h) i g (subst (ResultIs Own) same own))
   number_and_place op a p n x r q h g i own = absurd (cc)
 
   both_loads : (op : BinaryOp) (v w x : Value) (r q : Result Value LineKind)
-      → binary s op v w ≡ Ok x → Loads final v r → Loads final w q → ResultIs Own (on_both r q (binary final op))
-      → Loads final x (on_both r q (binary final op))
+      → binary s op v w ≡ Ok x → Loads final v r → Loads final w q → ResultIs Own (then_both r q (binary final op))
+      → Loads final x (then_both r q (binary final op))
   both_loads op (Place a p) (Number n) x r q h g i own = place_and_number op a p n x r q h g i own
   both_loads op (Number m) (Place a p) x r q h g i own = number_and_place op a p m x r q h g i own
   both_loads op (Place a p) (Place b j) x r q h g i own =
-      exact s final Own later x (on_both r q (binary final op)) (places_kept s final Own later op a b p j x r q h g i) own
+      exact s final Own later x (then_both r q (binary final op)) (places_kept s final Own later op a b p j x r q h g i) own
   both_loads op (Place a p) (Truth b) x r q h g i own = absurd (cc)
   both_loads op (Place a p) (Words b) x r q h g i own = absurd (cc)
   both_loads op (Truth a) (Place b p) x r q h g i own = absurd (cc)
   both_loads op (Words a) (Place b p) x r q h g i own = absurd (cc)
-  both_loads op v w x r q h g i own = exact s final Own later x (on_both r q (binary final op)) (both_given final op v w r q g i ∙ h) own
+  both_loads op v w x r q h g i own = exact s final Own later x (then_both r q (binary final op)) (both_given final op v w r q g i ∙ h) own
 
-  between_loads : (op : BinaryOp) (a b r q : Result Value LineKind) (x : Value) → on_both a b (binary s op) ≡ Ok x
-      → ((v : Value) → a ≡ Ok v → Loads final v r) → ((v : Value) → b ≡ Ok v → Loads final v q) → ResultIs Own (on_both r q (binary final op))
-      → Loads final x (on_both r q (binary final op))
+  between_loads : (op : BinaryOp) (a b r q : Result Value LineKind) (x : Value) → then_both a b (binary s op) ≡ Ok x
+      → ((v : Value) → a ≡ Ok v → Loads final v r) → ((v : Value) → b ≡ Ok v → Loads final v q) → ResultIs Own (then_both r q (binary final op))
+      → Loads final x (then_both r q (binary final op))
   between_loads op (Ok v) (Ok w) r q x h f g own = both_loads op v w x r q h (f v refl) (g w refl) own
   between_loads op (Err j) (Ok w) r q x h f g own = absurd (cc)
   between_loads op a b r q x h f g own = absurd (cc)
 
   one_loads : (op : UnaryOp) (v x : Value) (r : Result Value LineKind)
-      → unary_of op v ≡ Ok x → Loads final v r → ResultIs Own (then_of r (unary_of op)) → Loads final x (then_of r (unary_of op))
+      → unary_of op v ≡ Ok x → Loads final v r → ResultIs Own (and_then r (unary_of op)) → Loads final x (and_then r (unary_of op))
   one_loads op (Place a p) x r h g own = absurd (place_alone op a p x h)
-  one_loads op v x r h g own = exact s final Own later x (then_of r (unary_of op)) (ap (λ z. then_of z (unary_of op)) g ∙ h) own
+  one_loads op v x r h g own = exact s final Own later x (and_then r (unary_of op)) (ap (λ z. and_then z (unary_of op)) g ∙ h) own
 
   item_loads : (i : ExprItem) (w : Value) → IsLoaded Own i
       → meaning s (Leaf (kept_name s i)) ≡ Ok w → Loads final w (meaning final (Leaf i))
@@ -128,8 +130,8 @@ module _ (s final : Names) (Own : List ℕ → Type 0) (later : Later s final Ow
 
   -- an operator before something whose value is known, with a value known by then
   step_loads : (op : UnaryOp) (a r : Result Value LineKind) (w : Value)
-      → then_of a (unary_of op) ≡ Ok w → ((v : Value) → a ≡ Ok v → Loads final v r) → ResultIs Own (then_of r (unary_of op))
-      → Loads final w (then_of r (unary_of op))
+      → and_then a (unary_of op) ≡ Ok w → ((v : Value) → a ≡ Ok v → Loads final v r) → ResultIs Own (and_then r (unary_of op))
+      → Loads final w (and_then r (unary_of op))
   step_loads op (Ok v) r w h loads own = one_loads op v w r h (loads v refl) own
   step_loads op (Err j) r w h loads own = absurd (cc)
 

@@ -32,7 +32,8 @@ pub same_branch : (relocs : List Reloc) (old : List ℕ) (base : ℕ) (values : 
     → SameBranch thumb (word_in old (field_of r).place) (word_in new (field_of r).place)
 same_branch relocs old base values veneers new k r thumb patched there is_branch =
     let Adds : Kind → Type 0 = λ kind.
-    AddsUp kind (base + (field_of r).place) values veneers (number_of (take (size_of kind) (drop (field_of r).place old))) (number_of (take (size_of kind) (drop (field_of r).place new)))
+    AddsUp kind (base + (field_of r).place) values veneers (number_of (take (size_of kind) (drop (field_of r).place old)))
+    (number_of (take (size_of kind) (drop (field_of r).place new)))
     (added values (directives relocs (field_of r))) (taken base (directives relocs (field_of r))) (first_symbol (directives relocs (field_of r))) in
     (subst Adds is_branch (patched.fields k r there)).rest
 
@@ -53,8 +54,13 @@ pub pair_word : (first second : ℕ) → first < 2 ^ 11 → second < 2 ^ 11 → 
 pair_word first second f s = record { small = grind arith; branch = (grind arith, grind arith); field = grind arith }
 
 pub halves_shown : (view : View) (a w : ℕ) → Shows view a (bytes_of w 4) → ShowsHalf view a (w % 2 ^ 16) × ShowsHalf view (a + 2) (w / 2 ^ 16)
-halves_shown view a w (e0, (e1, (e2, (e3, e)))) =
-    ((e0 ∙ ap Some (omega arith), (e1 ∙ ap Some (omega arith), tt)), (ap view (omega arith) ∙ e2 ∙ ap Some (omega arith), (ap view (omega arith) ∙ e3 ∙ ap Some (omega arith), tt)))
+halves_shown view a w (e0, (e1, (e2, (e3, e)))) = (
+  (e0 ∙ ap Some (omega arith), (e1 ∙ ap Some (omega arith), tt)),
+  (
+    ap view (omega arith) ∙ e2 ∙ ap Some (omega arith),
+    (ap view (omega arith) ∙ e3 ∙ ap Some (omega arith), tt),
+  ),
+)
 
 pub pair_halves : (view : View) (a first second : ℕ) → first < 2 ^ 11 → second < 2 ^ 11 → Shows view a (bytes_of (link_word first second) 4)
     → ShowsHalf view a (half_of (BranchLink false first)) × ShowsHalf view (a + 2) (half_of (BranchLink true second))

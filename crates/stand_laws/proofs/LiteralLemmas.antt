@@ -11,7 +11,8 @@ use Rattle.asm_model.specs.declared.names.Names.{Names}
 use Rattle.asm_model.specs.declared.values.Value.{Value}
 use Rattle.asm_model.specs.declared.values.Value.TheVariants.{Number, Truth, Words, Place}
 use Rattle.asm_model.specs.Grammar.{Tree, Leaf, Between}
-use Rattle.asm_model.specs.Meaning.{named_in, stands_at, less, moved_place, distance, between_places, as_number, as_place, binary, value_of, on_both, meaning}
+use Rattle.asm_model.specs.Meaning.{named_in, stands_at, less, moved_place, distance, between_places, as_number, as_place, binary, value_of, meaning}
+use Rattle.asm_model.specs.Readings.{then_both}
 use Rattle.asm_model.proofs.LineLemmas.{number_more}
 use Rattle.layout_laws.proofs.RoundLemmas.{ResultIs}
 use Rattle.layout_laws.proofs.SettledLemmas.{HoldsConstant}
@@ -61,19 +62,19 @@ moves names op s p n x h = absurd (cc)
 
 -- a number is added to anything in either order
 pub added_turns : (names : Names) (n : ℕ) (r : Result Value LineKind)
-    → on_both r (Ok (Number n)) (binary names Add) ≡ on_both (Ok (Number n)) r (binary names Add)
+    → then_both r (Ok (Number n)) (binary names Add) ≡ then_both (Ok (Number n)) r (binary names Add)
 added_turns names n (Ok (Number k)) = ap (λ z. Ok (Number z)) (omega arith)
 added_turns names n (Ok v) = refl
 added_turns names n (Err k) = refl
 
 pub plus_moved : (names : Names) (op : BinaryOp) (s : List ℕ) (p n : ℕ) (x : Value) (m : Moves names op s p n x) (f : Value) (r q : Result Value LineKind)
-    → q ≡ Ok (Number n) → Plus f p r → Plus f m.number (on_both r q (binary names op))
+    → q ≡ Ok (Number n) → Plus f p r → Plus f m.number (then_both r q (binary names op))
 plus_moved names op s p n x m (Number z) r q e h =
     let a = m.plain h.0 z h.2 in
-    (a.0, ap (λ y. on_both y q (binary names op)) h.1 ∙ ap (λ y. on_both (Ok (Number h.0)) y (binary names op)) e ∙ a.1, a.2)
+    (a.0, ap (λ y. then_both y q (binary names op)) h.1 ∙ ap (λ y. then_both (Ok (Number h.0)) y (binary names op)) e ∙ a.1, a.2)
 plus_moved names op s p n x m (Place t z) r q e h =
     let a = m.placed t h.0 z h.2 in
-    (a.0, ap (λ y. on_both y q (binary names op)) h.1 ∙ ap (λ y. on_both (Ok (Place t h.0)) y (binary names op)) e ∙ a.1, a.2)
+    (a.0, ap (λ y. then_both y q (binary names op)) h.1 ∙ ap (λ y. then_both (Ok (Place t h.0)) y (binary names op)) e ∙ a.1, a.2)
 plus_moved names op s p n x m (Truth b) r q e h = tt
 plus_moved names op s p n x m (Words w) r q e h = tt
 
@@ -153,15 +154,16 @@ place_kept s final Own later (c ∷ cs) p r lies h =
 abbrev pub constants : BinaryOp → Value → Value → Tree
 constants op v w = Between op (Leaf (item.Constant v)) (Leaf (item.Constant w))
 
-pub places_kept : (s final : Names) (Own : List ℕ → Type 0) → Later s final Own → (op : BinaryOp) (a b : List ℕ) (p q : ℕ) (x : Value) (r u : Result Value LineKind)
-    → binary s op (Place a p) (Place b q) ≡ Ok x → Loads final (Place a p) r → Loads final (Place b q) u → on_both r u (binary final op) ≡ Ok x
+pub places_kept : (s final : Names) (Own : List ℕ → Type 0) → Later s final Own
+    → (op : BinaryOp) (a b : List ℕ) (p q : ℕ) (x : Value) (r u : Result Value LineKind)
+    → binary s op (Place a p) (Place b q) ≡ Ok x → Loads final (Place a p) r → Loads final (Place b q) u → then_both r u (binary final op) ≡ Ok x
 places_kept s final Own later op a b p q x r u h g i =
     let d = some_number (between_places s op a p b q) x h in
     let lies = between_lies s op a b p q d.0 d.1 in
     let first = place_kept s final Own later a p r lies.0 g in
     let second = place_kept s final Own later b q u lies.1 i in
-    ap (λ z. on_both z u (binary final op)) first.1
-    ∙ ap (λ z. on_both (Ok (Place a first.0)) z (binary final op)) second.1
+    ap (λ z. then_both z u (binary final op)) first.1
+    ∙ ap (λ z. then_both (Ok (Place a first.0)) z (binary final op)) second.1
     ∙ number_more (between_places final op a p b q) (between_places final op a first.0 b second.0) x
     (λ n. between_same final op a b p q first.0 second.0 n first.2 second.2) (later.known (constants op (Place a p) (Place b q)) x h)
 

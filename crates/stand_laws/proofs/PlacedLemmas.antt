@@ -51,7 +51,8 @@ place_most n (m ∷ ms) = by_test (same n m) (place_most n ms)
 areas_are : (ss : List Statement) (o : Object) → IsObject ss o → length (areas_behind (statements_of (laid ss))) ≡ length o.areas
 areas_are ss o obj = ap (λ z. length (areas_behind z)) (statements_kept (declared_names ss) ss) ∙ sym obj.count
 
-facts_of : (ss : List Statement) (o : Object) → IsFaultless ss → IsObject ss o → length o.areas < 2 ^ 24 → length o.symbols < 2 ^ 24 → (area : ℕ) → Facts ss area
+facts_of : (ss : List Statement) (o : Object) → IsFaultless ss → IsObject ss o → length o.areas < 2 ^ 24 → length o.symbols < 2 ^ 24 → (area : ℕ)
+    → Facts ss area
 facts_of ss o faultless obj few_areas few_symbols area =
     let count = areas_are ss o obj in
     let few : length (areas_behind (statements_of (laid ss))) ≤ 2 ^ 24 = omega arith in
@@ -107,7 +108,8 @@ kept_there ss o area f values view veneers kept unmarked shows =
 
 -- ---- the law
 
-module _ (ss : List Statement) (o : Object) (faultless : IsFaultless ss) (obj : IsObject ss o) (few_areas : length o.areas < 2 ^ 24) (few_symbols : length o.symbols < 2 ^ 24)
+module _ (ss : List Statement) (o : Object) (faultless : IsFaultless ss) (obj : IsObject ss o) (few_areas : length o.areas < 2 ^ 24)
+    (few_symbols : length o.symbols < 2 ^ 24)
     (own : ℕ) (values : Values) (area_at : ℕ → ℕ → ℕ) (view : View) (region : ℕ → Range32) (veneers : ℕ → Veneers)
     (placed : IsPlaced own o values area_at) (shown : ShowsObject view o values area_at region veneers) where
   thing_there : (area : ℕ) (p : Piece) → StandsIn (source_of ss) area p → IsShown (source_of ss) values view (region area) (values.base area) p

@@ -12,7 +12,7 @@ use Rattle.arm_isa.specs.declared.instr.Operation.TheVariants.{Add, Sub, Mov}
 use Rattle.asm_model.specs.declared.exprs.Expr.{Expr}
 use Rattle.asm_model.specs.declared.statements.PseudoLine.{PseudoLine}
 use Rattle.asm_model.specs.declared.statements.PseudoLine.TheVariants as pseudo
-use Rattle.asm_model.specs.Says.{mapped}
+use Rattle.asm_model.specs.Readings.{mapped}
 use Rattle.source_model.specs.Contexts.{value_of, number_in, register, own_offset, offset_below, from_pc as away_from}
 use Rattle.source_model.specs.Immediates.{immediate, negated, data_immediate}
 use Rattle.source_model.specs.Objects.{units_from}

@@ -69,7 +69,8 @@ pub record RelocIs (r : Reloc) (at : ℕ) (kind : Kind) (relative by_symbol : Bo
   pub by_symbol_is : is_by_symbol r ≡ by_symbol
   pub number : number_named r ≡ n
 
-parts_are : (r : Reloc) (at type relative by_symbol n : ℕ) (kind : Kind) → bits r.word 24 2 ≡ type → bit r.word 26 ≡ relative → bit r.word 27 ≡ by_symbol → r.word % 2 ^ 24 ≡ n
+parts_are : (r : Reloc) (at type relative by_symbol n : ℕ) (kind : Kind) → bits r.word 24 2 ≡ type → bit r.word 26 ≡ relative → bit r.word 27 ≡ by_symbol
+    → r.word % 2 ^ 24 ≡ n
     → place_by type r.offset ≡ at → kind_by type (r.offset % 2 == 1) ≡ kind → RelocIs r at kind (relative == 1) (by_symbol == 1) n
 parts_are r at type relative by_symbol n kind e f g h place is = record {
   place = ap (λ t. place_by t r.offset) e ∙ place;
@@ -85,16 +86,21 @@ by_area at n h =
 
 pub by_symbol : (at n : ℕ) → n < 2 ^ 24 → RelocIs (record { offset = at; word = 2 ^ 31 + 2 ^ 27 + 2 * 2 ^ 24 + n }) at Word false true n
 by_symbol at n h =
-    parts_are (record { offset = at; word = 2 ^ 31 + 2 ^ 27 + 2 * 2 ^ 24 + n }) at 2 0 1 n Word (omega arith) (omega arith) (omega arith) (omega arith) refl refl
+    parts_are (record { offset = at; word = 2 ^ 31 + 2 ^ 27 + 2 * 2 ^ 24 + n }) at 2 0 1 n Word (omega arith) (omega arith) (omega arith) (omega arith) refl
+    refl
 
-pub of_branch : (at n : ℕ) → n < 2 ^ 24 → at % 4 ≡ 0 → RelocIs (record { offset = at; word = 2 ^ 31 + 2 ^ 27 + 2 ^ 26 + 3 * 2 ^ 24 + n }) at (Branch false) true true n
+pub of_branch : (at n : ℕ) → n < 2 ^ 24 → at % 4 ≡ 0 → RelocIs (record { offset = at; word = 2 ^ 31 + 2 ^ 27 + 2 ^ 26 + 3 * 2 ^ 24 + n }) at (Branch false) true
+    true n
 of_branch at n h aligned =
     let even : at % 2 ≡ 0 = omega arith in
-    parts_are (record { offset = at; word = 2 ^ 31 + 2 ^ 27 + 2 ^ 26 + 3 * 2 ^ 24 + n }) at 3 1 1 n (Branch false) (omega arith) (omega arith) (omega arith) (omega arith)
+    parts_are (record { offset = at; word = 2 ^ 31 + 2 ^ 27 + 2 ^ 26 + 3 * 2 ^ 24 + n }) at 3 1 1 n (Branch false) (omega arith) (omega arith) (omega arith)
+    (omega arith)
     (omega arith) (ap (λ m. Branch (m == 1)) even)
 
-pub of_pair : (at n : ℕ) → n < 2 ^ 24 → at % 2 ≡ 0 → RelocIs (record { offset = at + 1; word = 2 ^ 31 + 2 ^ 27 + 2 ^ 26 + 3 * 2 ^ 24 + n }) at (Branch true) true true n
+pub of_pair : (at n : ℕ) → n < 2 ^ 24 → at % 2 ≡ 0 → RelocIs (record { offset = at + 1; word = 2 ^ 31 + 2 ^ 27 + 2 ^ 26 + 3 * 2 ^ 24 + n }) at (Branch true)
+    true true n
 of_pair at n h even =
     let odd : (at + 1) % 2 ≡ 1 = omega arith in
-    parts_are (record { offset = at + 1; word = 2 ^ 31 + 2 ^ 27 + 2 ^ 26 + 3 * 2 ^ 24 + n }) at 3 1 1 n (Branch true) (omega arith) (omega arith) (omega arith) (omega arith)
+    parts_are (record { offset = at + 1; word = 2 ^ 31 + 2 ^ 27 + 2 ^ 26 + 3 * 2 ^ 24 + n }) at 3 1 1 n (Branch true) (omega arith) (omega arith) (omega arith)
+    (omega arith)
     (omega arith) (ap (λ m. Branch (m == 1)) odd)

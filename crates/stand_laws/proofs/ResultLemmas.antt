@@ -2,8 +2,7 @@
 use Rattle.std.proofs.Common.{◌≡◌, refl}
 use Rattle.std.specs.Prelude.{Result, Ok, Err}
 use Rattle.sdt_fault.specs.declared.kinds.LineKind.{LineKind}
-use Rattle.asm_model.specs.Says.{on_both, mapped}
-use Rattle.source_model.specs.Contexts.{and_then}
+use Rattle.asm_model.specs.Readings.{and_then, mapped, on_both}
 
 abbrev pub ok_or : {A : Type 0} → A → Result A LineKind → A
 ok_or a (Ok x) = x

@@ -6,7 +6,7 @@ use Rattle.asm_model.specs.declared.exprs.Part.{Part}
 use Rattle.asm_model.specs.declared.exprs.Part.TheVariants as part
 use Rattle.asm_model.specs.PlacedLines.{IsName}
 use Rattle.asm_model.specs.Grammar.{Tree, Leaf, operand, tighter}
-use Rattle.said_model.specs.Said.{IsRead}
+use Rattle.asm_model.specs.Said.{IsRead}
 use Rattle.stand_model.proofs.SourceRows.{branch_source}
 use Rattle.stand_laws.specs.Laws.{IsFaultless}
 
@@ -18,7 +18,8 @@ name_is_read name named =
     record {
       parts = ps;
       tree = t;
-      spelled = tighter 5 ps t (tighter 4 ps t (tighter 3 ps t (tighter 2 ps t (tighter 1 ps t (tighter 0 ps t (operand (part.Operand (item.Name name)) (item.Name name) refl))))));
+      spelled = tighter 5 ps t (tighter 4 ps t (tighter 3 ps t (tighter 2 ps t
+          (tighter 1 ps t (tighter 0 ps t (operand (part.Operand (item.Name name)) (item.Name name) refl))))));
       items = refl;
       plain = (tt, tt);
       named = (named, tt);

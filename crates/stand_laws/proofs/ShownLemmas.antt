@@ -21,7 +21,7 @@ use Rattle.patch_model.specs.Reaches.{View, Shows, ShowsWord, VeneersStand, Reac
 use Rattle.patch_model.proofs.BranchLemmas.{branch_law}
 use Rattle.patch_model.proofs.PatchLemmas.{outside_law, word_law, reach_law, part_lt, shows_part}
 use Rattle.source_model.specs.Objects.{Piece, half_of, link_word, unit_bytes, source_of, StandsIn, HoldsBytes, symbol_number, word_relocs, relocs_of, IsRelocOf, HasRelocs}
-use Rattle.source_model.specs.Units.{Bytes, Word, Instruction, Half, LinkPair, Stored, Target, Nothing, ByArea, BySymbol}
+use Rattle.source_model.specs.Units.{Bytes, Word, Instruction, Half, LinkPair, Stored, RelocationTarget, Nothing, ByArea, BySymbol}
 use Rattle.asm_instructions.proofs.WordLemmas.{fitting_are_written}
 use Rattle.asm_instructions.proofs.ThumbFitLemmas.{codes_are_written}
 use Rattle.stand_model.specs.Shown.{meant_by, added_by, LinkedBranch, LinkedPair, InstructionShown, PairShown, IsShown}
@@ -51,7 +51,8 @@ own_base base less h = omega arith
 bare : (a b : ℕ) → a ≡ b + 0 → a ≡ b
 bare a b h = omega arith
 
-module _ (ss : List Statement) (area : ℕ) (a : Area) (values : Values) (view : View) (veneers : Veneers) (out : List ℕ) (facts : Facts ss area) (there : IsThere ss area a values view veneers out) where
+module _ (ss : List Statement) (area : ℕ) (a : Area) (values : Values) (view : View) (veneers : Veneers) (out : List ℕ) (facts : Facts ss area)
+    (there : IsThere ss area a values view veneers out) where
   within : (p : Piece) → StandsIn (source_of ss) area p → p.0 + length (unit_bytes p.1) ≤ length out
   within p x =
       let inside = facts.inside p x in
@@ -62,7 +63,8 @@ module _ (ss : List Statement) (area : ℕ) (a : Area) (values : Values) (view :
   unchanged : (p : Piece) → StandsIn (source_of ss) area p → relocs_of (source_of ss) p ≡ [] → Shows view (values.base area + p.0) (unit_bytes p.1)
   unchanged p x none =
       let n = length (unit_bytes p.1) in
-      let same = outside_law a.relocs a.bytes (values.base area) values veneers out p.0 n there.patched (outside_thing ss area a.relocs facts there.relocs p x none) in
+      let same =
+      outside_law a.relocs a.bytes (values.base area) values veneers out p.0 n there.patched (outside_thing ss area a.relocs facts there.relocs p x none) in
       subst (λ (l : List ℕ). Shows view (values.base area + p.0) l) (same ∙ there.holds.standing p x)
       (shows_there view (values.base area) out n p.0 (within p x) there.shows)
 
@@ -87,7 +89,7 @@ module _ (ss : List Statement) (area : ℕ) (a : Area) (values : Values) (view :
       subst (λ (v : ℕ). ShowsWord view (values.base area + at) v) (new_word at w by n r x i is ∙ ap (λ v. (w.number + v) % 2 ^ 32) m)
       (shows_part view (values.base area) out 4 at (within (at, Word w) x) there.patched.bytes there.shows)
 
-  word_thing : (at : ℕ) (w : Stored) (t : Target) → StandsIn (source_of ss) area (at, Word w) → w.target ≡ t
+  word_thing : (at : ℕ) (w : Stored) (t : RelocationTarget) → StandsIn (source_of ss) area (at, Word w) → w.target ≡ t
       → ShowsWord view (values.base area + at) ((w.number + added_by (source_of ss) values t) % 2 ^ 32)
   word_thing at w Nothing x e =
       let same : w.number ≡ w.number + 0 = omega arith in
@@ -95,38 +97,44 @@ module _ (ss : List Statement) (area : ℕ) (a : Area) (values : Values) (view :
       (unchanged (at, Word w) x (ap (word_relocs (source_of ss) at) e))
   word_thing at w (ByArea k) x e =
       let r : Reloc = record { offset = at; word = 2 ^ 31 + 2 * 2 ^ 24 + k } in
-      let i = there.relocs.all (at, Word w) r x (subst (λ (t : Target). IsRelocOf (word_relocs (source_of ss) at t) r) (sym e) (inl refl)) in
+      let i = there.relocs.all (at, Word w) r x (subst (λ (t : RelocationTarget). IsRelocOf (word_relocs (source_of ss) at t) r) (sym e) (inl refl)) in
       let is = by_area at k (subst (TargetBelow (2 ^ 24)) e (facts.below (at, Word w) x)) in
-      word_shown at w false k r (values.base k) x i is (bare (added values (r ∷ [])) (values.base k) (adds values (values.base area) r WordField false false k is))
+      word_shown at w false k r (values.base k) x i is (bare (added values (r ∷ [])) (values.base k)
+      (adds values (values.base area) r WordField false false k is))
   word_thing at w (BySymbol name) x e =
       let n = symbol_number (source_of ss) name in
       let m = meant_by (source_of ss) values name in
       let r : Reloc = record { offset = at; word = 2 ^ 31 + 2 ^ 27 + 2 * 2 ^ 24 + n } in
-      let i = there.relocs.all (at, Word w) r x (subst (λ (t : Target). IsRelocOf (word_relocs (source_of ss) at t) r) (sym e) (inl refl)) in
+      let i = there.relocs.all (at, Word w) r x (subst (λ (t : RelocationTarget). IsRelocOf (word_relocs (source_of ss) at t) r) (sym e) (inl refl)) in
       let is = by_symbol at n (facts.symbols name) in
       word_shown at w true n r (m.number + flag (is_thumb_label m)) x i is (adds values (values.base area) r WordField false true n is)
 
   -- ---- branches
 
-  module _ (region : Range32) (area_at : ℕ → ℕ → ℕ) (stand : VeneersStand view region area_at veneers) (homes : (k : ℕ) → StandsAt area_at (values.symbol k) (values.symbol k).home) where
+  module _ (region : Range32) (area_at : ℕ → ℕ → ℕ) (stand : VeneersStand view region area_at veneers)
+      (homes : (k : ℕ) → StandsAt area_at (values.symbol k) (values.symbol k).home) where
     branch_reaches : (thumb : Bool) (at n : ℕ) (r : Reloc) → IsRelocOf a.relocs r → RelocIs r at (BranchField thumb) true true n
         → Reaches view region thumb (values.base area + at)
-        (total (values.base area + at + pc_offset thumb + biased_displacement thumb (word_in a.bytes at)) (added values (r ∷ [])) (bias thumb + taken (values.base area) (r ∷ [])))
+        (total (values.base area + at + pc_offset thumb + biased_displacement thumb (word_in a.bytes at)) (added values (r ∷ []))
+        (bias thumb + taken (values.base area) (r ∷ [])))
         (state_of thumb (values.symbol n) (values.symbol n).home)
     branch_reaches thumb at n r i is =
         let k = reloc_place a.relocs r i in
         let To : ℕ → List Reloc → Type 0 = λ p ds.
         Reaches view region thumb (values.base area + p)
-        (total (values.base area + p + pc_offset thumb + biased_displacement thumb (word_in a.bytes p)) (added values ds) (bias thumb + taken (values.base area) ds))
+        (total (values.base area + p + pc_offset thumb + biased_displacement thumb (word_in a.bytes p)) (added values ds)
+        (bias thumb + taken (values.base area) ds))
         (state_to thumb values (first_symbol ds)) in
-        let law = reach_law a.relocs a.bytes (values.base area) values veneers out k.0 r thumb view region area_at there.patched k.1 is.kind_is there.shows stand
+        let law =
+        reach_law a.relocs a.bytes (values.base area) values veneers out k.0 r thumb view region area_at there.patched k.1 is.kind_is there.shows stand
         (stands_to area_at values homes (first_symbol (directives a.relocs (field_of r)))) in
         let ds = own_directives a.relocs r there.relocs.order (places_rise ss area a.relocs facts there.relocs) i in
         let here = subst (λ (l : List Reloc). To at l) ds (subst (λ (p : ℕ). To p (directives a.relocs (field_of r))) is.place law) in
         let symbol : first_symbol (r ∷ []) ≡ Some n =
         ap (λ b. cond b (Some (number_named r)) None) is.by_symbol_is ∙ ap Some is.number in
         subst (λ (o : Option ℕ). Reaches view region thumb (values.base area + at)
-        (total (values.base area + at + pc_offset thumb + biased_displacement thumb (word_in a.bytes at)) (added values (r ∷ [])) (bias thumb + taken (values.base area) (r ∷ [])))
+        (total (values.base area + at + pc_offset thumb + biased_displacement thumb (word_in a.bytes at)) (added values (r ∷ []))
+        (bias thumb + taken (values.base area) (r ∷ [])))
         (state_to thumb values o)) symbol here
 
     linked : (at : ℕ) (c : Condition) (link : Bool) (d : ℕ) (name : List ℕ) → StandsIn (source_of ss) area (at, Instruction (instr.Branch c link d) (Some name))
@@ -159,7 +167,8 @@ module _ (ss : List Statement) (area : ℕ) (a : Area) (values : Values) (view :
             let displacement_is = subst (λ v. (0 + sign_extended d 24 * 4 + 2 ^ 25) % 2 ^ 32 ≡ (0 + biased_displacement false v) % 2 ^ 32) (sym same) sum in
             let more = bare (added values (r ∷ [])) (values.symbol n).number (adds values (values.base area) r (BranchField false) true true n is) in
             let less = own_base (values.base area) (taken (values.base area) (r ∷ [])) (takes values (values.base area) r (BranchField false) true true n is) in
-            let target = target_sum (values.base area) at (biased_displacement false (word_in a.bytes at)) (added values (r ∷ [])) (taken (values.base area) (r ∷ []))
+            let target =
+            target_sum (values.base area) at (biased_displacement false (word_in a.bytes at)) (added values (r ∷ [])) (taken (values.base area) (r ∷ []))
             (values.symbol n).number (sign_extended d 24) displacement_is more less in
             record {
               field = word_in out at % 2 ^ 24;
@@ -199,10 +208,12 @@ module _ (ss : List Statement) (area : ℕ) (a : Area) (values : Values) (view :
             let halves = halves_shown view (values.base area + at) new (shows_part view (values.base area) out 4 at room there.patched.bytes there.shows) in
             let law = branch_law.pair_displacement 0 w in
             let named = subst (λ (v : ℕ). (0 + sign_extended v 22 * 2 + 2 ^ 22) % 2 ^ 32 ≡ (0 + biased_displacement true w) % 2 ^ 32) p.field law in
-            let displacement_is = subst (λ v. (0 + sign_extended (first * 2 ^ 11 + second) 22 * 2 + 2 ^ 22) % 2 ^ 32 ≡ (0 + biased_displacement true v) % 2 ^ 32) (sym same) named in
+            let displacement_is = subst (λ v. (0 + sign_extended (first * 2 ^ 11 + second) 22 * 2 + 2 ^ 22) % 2 ^ 32 ≡ (0 + biased_displacement true v) % 2
+            ^ 32) (sym same) named in
             let more = bare (added values (r ∷ [])) (values.symbol n).number (adds values (values.base area) r (BranchField true) true true n is) in
             let less = own_base (values.base area) (taken (values.base area) (r ∷ [])) (takes values (values.base area) r (BranchField true) true true n is) in
-            let target = pair_target (values.base area) at (biased_displacement true (word_in a.bytes at)) (added values (r ∷ [])) (taken (values.base area) (r ∷ []))
+            let target =
+            pair_target (values.base area) at (biased_displacement true (word_in a.bytes at)) (added values (r ∷ [])) (taken (values.base area) (r ∷ []))
             (values.symbol n).number (sign_extended (first * 2 ^ 11 + second) 22) displacement_is more less in
             record {
               high = bits new 0 11;

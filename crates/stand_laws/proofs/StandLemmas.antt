@@ -30,7 +30,7 @@ use Rattle.object_laws.proofs.SizeLemmas.{line_small}
 use Rattle.object_laws.proofs.TargetLemmas.{Fewer, arm_listed, lines_listed, thumb_listed}
 use Rattle.patch_model.specs.Fields.{Values}
 use Rattle.patch_model.specs.Reaches.{View}
-use Rattle.said_model.proofs.SharedLemmas.{are_plain}
+use Rattle.asm_model.proofs.SaidLemmas.{are_plain}
 use Rattle.source_model.specs.Contexts.{value_of}
 use Rattle.source_model.specs.Objects.{source_of, units_from, or_none, IsAmong, IsObject}
 use Rattle.source_model.specs.Units.{linked_symbol}

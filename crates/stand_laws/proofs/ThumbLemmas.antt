@@ -18,14 +18,14 @@ use Rattle.asm_model.specs.declared.values.Value.{Value}
 use Rattle.asm_model.specs.declared.values.Value.TheVariants.{Number, Truth, Words, Place}
 use Rattle.asm_model.specs.Meaning.{named_in, in_area, stands_at}
 use Rattle.asm_model.specs.Placing.{address_at, address_of}
-use Rattle.asm_model.specs.Says.{mapped}
+use Rattle.asm_model.specs.Readings.{and_then, both, mapped}
 use Rattle.asm_model.specs.Symbols.{keeps_state}
 use Rattle.patch_model.specs.Fields.{Meant}
 use Rattle.patch_model.specs.Laws.{state_of}
 use Rattle.patch_model.specs.Reaches.{Reaches}
 use Rattle.source_model.specs.ArmForms.{has_symbol, is_settled, offset_at}
-use Rattle.source_model.specs.Contexts.{sees, value_of, register, and_then, own_offset}
-use Rattle.source_model.specs.ThumbForms.{both, branch_by, from_word_pc, half_words, is_low, low, low_number, pair_fields, thumb_displacement, thumb_from, thumb_instruction, thumb_pseudo, units_below, word_offset, words_to}
+use Rattle.source_model.specs.Contexts.{sees, value_of, register, own_offset}
+use Rattle.source_model.specs.ThumbForms.{branch_by, from_word_pc, half_words, is_low, low, low_number, pair_fields, thumb_displacement, thumb_from, thumb_instruction, thumb_pseudo, units_below, word_offset, words_to}
 use Rattle.source_model.specs.Units.{LinkPair, code_unit, link_symbol, linked_symbol}
 use Rattle.source_model.specs.declared.codes.ThumbCode.{ThumbCode}
 use Rattle.source_model.specs.declared.codes.ThumbCode.TheVariants.{One, Pair}
@@ -67,7 +67,8 @@ settled_there : (k : Setting) (area at : ℕ) → Ready k area at → (e : Expr)
     → is_settled k.context (y ∷ ys) ≡ true → d ≡ thumb_from k.context (y ∷ ys) n → Settled k at e d
 settled_there k area at ready e y ys n d v t h =
     let q : List ℕ = y ∷ ys in
-    let p = settled_in k.context.line.area (stands_at (sees k.context) q) area (keeps_state k.context.line.thumb (named_in q (sees k.context).list)) ready.own t in
+    let p =
+    settled_in k.context.line.area (stands_at (sees k.context) q) area (keeps_state k.context.line.thumb (named_in q (sees k.context).list)) ready.own t in
     let o : ℕ = p.0 + n in
     record {
       offset = o;
@@ -93,7 +94,8 @@ settled_of k area at ready e (Err j) d v h = absurd (cc)
 
 -- a branch whose field holds so many half-words
 short_stands : (k : Setting) (area at a : ℕ) → Ready k area at → a ≡ k.base + at → (limit size : ℕ) → IsWidth limit size → (make : ℕ → ThumbInstr)
-    → ((f target : ℕ) → ReadsHalfAt k.view a (make f) → (a + 4 + sign_extended f size * 2) % 2 ^ 32 ≡ target % 2 ^ 32 → Reaches k.view k.region true a target true)
+    → ((f target : ℕ) → ReadsHalfAt k.view a (make f) → (a + 4 + sign_extended f size * 2) % 2 ^ 32 ≡ target % 2 ^ 32
+    → Reaches k.view k.region true a target true)
     → (e : Expr) (code : ThumbCode) → mapped (λ i. One i) (mapped make (branch_by k.context limit e)) ≡ Ok code → Shown k (at, code_unit None code)
     → ShortBranchStands (lookup k) a make e
 short_stands k area at a ready x limit size width make reaches e code h s =
@@ -193,7 +195,8 @@ link_of : (k : Setting) (area at a : ℕ) → Ready k area at → a ≡ k.base +
     → value_of k.context e ≡ r → thumb_displacement true k.context r ≡ Ok d → half_words (2 ^ 22) d ≡ Ok f
     → Shown k (at, code_unit (linked_symbol k.context r) (pair_fields f)) → SymbolMeets k r → LinkStands (lookup k) a e
 link_of k area at a ready x e (Ok (Place [] n)) d f v h field s meets =
-    link_settled k area at a ready x e d f field (settled_start k area at ready e n d v (displaced true (thumb_from k.context [] n) d h)) (code_shown k at a (pair_fields f) x s)
+    link_settled k area at a ready x e d f field (settled_start k area at ready e n d v (displaced true (thumb_from k.context [] n) d h))
+    (code_shown k at a (pair_fields f) x s)
     (ap (target_state true (lookup k)) v)
 link_of k area at a ready x e (Ok (Place (y ∷ ys) n)) d f v h field s meets =
     link_to k area at a ready x e y ys n d f v (displaced (has_symbol k.context (y ∷ ys)) (thumb_from k.context (y ∷ ys) n) d h) field s meets
@@ -221,7 +224,8 @@ low_is r n h = by_test (is_low r) h
     by_test false k = absurd (cc)
 
 -- an instruction with a low register and a distance in words
-counts : (k : Setting) (area at a : ℕ) → Ready k area at → a ≡ k.base + at → (make : ℕ → ℕ → ThumbInstr) (rd : Register) (to : Result ℕ LineKind) (o : ℕ) (i : ThumbInstr)
+counts : (k : Setting) (area at a : ℕ) → Ready k area at → a ≡ k.base + at
+    → (make : ℕ → ℕ → ThumbInstr) (rd : Register) (to : Result ℕ LineKind) (o : ℕ) (i : ThumbInstr)
     → to ≡ Ok o → mapped (λ (p : ℕ × ℕ). make p.0 p.1) (both (low k.context rd) (words_to k.context to)) ≡ Ok i → ReadsHalfAt k.view a i
     → CountsTo k.view a (make (register k.context rd)) ((k.base + o) % 2 ^ 32)
 counts k area at a ready x make rd to o i e h s =
@@ -242,7 +246,8 @@ counts k area at a ready x make rd to o i e h s =
 
 -- to a label of the statement's own area
 label_counted : (k : Setting) (area at a : ℕ) → Ready k area at → a ≡ k.base + at → (make : ℕ → ℕ → ThumbInstr) (rd : Register) (e : Expr) (i : ThumbInstr)
-    → mapped (λ (p : ℕ × ℕ). make p.0 p.1) (both (low k.context rd) (words_to k.context (own_offset k.context (value_of k.context e)))) ≡ Ok i → ReadsHalfAt k.view a i
+    → mapped (λ (p : ℕ × ℕ). make p.0 p.1) (both (low k.context rd) (words_to k.context (own_offset k.context (value_of k.context e)))) ≡ Ok i
+    → ReadsHalfAt k.view a i
     → LabelCounted (lookup k) a (make (register k.context rd)) e
 label_counted k area at a ready x make rd e i h s =
     let to = own_offset k.context (value_of k.context e) in
@@ -261,7 +266,8 @@ abbrev pub LinkMeets : Setting → ThumbLine → Type 0
 LinkMeets k (thumb.BranchLink e) = SymbolMeets k (value_of k.context e)
 LinkMeets k l = Unit {0}
 
-plain_thumb : (k : Setting) (at a : ℕ) → a ≡ k.base + at → (l : ThumbLine) (i : ThumbCode) → thumb_instruction k.context l ≡ Ok i → Shown k (at, code_unit None i)
+plain_thumb : (k : Setting) (at a : ℕ) → a ≡ k.base + at → (l : ThumbLine) (i : ThumbCode) → thumb_instruction k.context l ≡ Ok i
+    → Shown k (at, code_unit None i)
     → ThumbInstructionStands (lookup k) a l
 plain_thumb k at a x l i h s = record { code = i; says = h; reads = code_shown k at a i x s }
 

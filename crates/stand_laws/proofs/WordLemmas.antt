@@ -17,12 +17,13 @@ use Rattle.asm_model.specs.declared.values.Value.{Value}
 use Rattle.asm_model.specs.declared.values.Value.TheVariants.{Number, Truth, Words, Place}
 use Rattle.asm_model.specs.AtLine.{with_names, kept_names, literal_or}
 use Rattle.asm_model.specs.Grammar.{Tree}
-use Rattle.asm_model.specs.Meaning.{named_in, entry_stands_at, stands_at, binary, value_of as entry_value, on_both, meaning}
+use Rattle.asm_model.specs.Meaning.{named_in, entry_stands_at, stands_at, binary, value_of as entry_value, meaning}
 use Rattle.asm_model.specs.Extents.{Extent, Block, Loading, is_moved, loading, tree_literal, literal_there, extent_of}
 use Rattle.asm_model.specs.Laid.{LaidLine, taken, pieces_of, laid, final_names}
 use Rattle.asm_model.specs.Marks.{datum_names}
 use Rattle.asm_model.specs.Offsets.{Piece as LaidPiece, literal_word}
 use Rattle.asm_model.specs.Placing.{HaveSymbols}
+use Rattle.asm_model.specs.Readings.{then_both}
 use Rattle.asm_model.specs.Symbols.{literal_value}
 use Rattle.asm_model.specs.Trees.{tree_of}
 use Rattle.asm_model.specs.Sound.{IsSound, HaveNoPlaces, ArePlain}
@@ -33,7 +34,7 @@ use Rattle.object_laws.proofs.FaultLemmas.{literal_known}
 use Rattle.object_laws.proofs.OriginLemmas.{IsOwn, tree_to, names_own, anything, any_tree}
 use Rattle.patch_model.specs.Fields.{Values}
 use Rattle.patch_model.specs.Reaches.{View, ShowsWord}
-use Rattle.said_model.specs.Said.{WhatSaid, AllSaid}
+use Rattle.asm_model.specs.Said.{WhatSaid, AllSaid}
 use Rattle.source_model.specs.Contexts.{Context, sees, value_of}
 use Rattle.source_model.specs.Objects.{in_order, source_of, StandsIn}
 use Rattle.source_model.specs.SourceFaults.{word_of}
@@ -46,7 +47,7 @@ use Rattle.source_laws.proofs.AgreeLemmas.{literal_stored_there}
 use Rattle.source_laws.proofs.PoolLemmas.{Loads as LineLoads, literal_stands}
 use Rattle.source_laws.proofs.ThingLemmas.{known_extent}
 use Rattle.stand_model.specs.Stands.{WordStands}
-use Rattle.said_model.specs.Named.{AllItemsNamed}
+use Rattle.asm_model.specs.Named.{AllItemsNamed}
 use Rattle.stand_laws.specs.Laws.{IsFaultless}
 use Rattle.stand_laws.proofs.DataLemmas.{total_of, word_stands}
 use Rattle.stand_laws.proofs.GoodLemmas.{lines_said}
@@ -57,7 +58,7 @@ use Rattle.stand_laws.proofs.PseudoLemmas.{LiteralHolds}
 use Rattle.stand_laws.proofs.ResultLemmas.{mapped_ok}
 use Rattle.stand_laws.proofs.ValueLemmas.{Setting, lookup, ThingsShown, setting}
 use Rattle.asm_model.specs.declared.names.LaidName.{LaidName}
-use Rattle.said_model.proofs.SharedLemmas.{are_plain}
+use Rattle.asm_model.proofs.SaidLemmas.{are_plain}
 
 -- ---- one word
 
@@ -81,7 +82,7 @@ mod_same k m n h = omega (arith, h)
 
 -- a name's value plus the number
 pub sum_stored : (k : Setting) (n : ℕ) (f r : Result Value LineKind) (st : Stored) → ((v : Value) → f ≡ Ok v → Plus v n r)
-    → stored k.context (datum_names k.source.statements) (on_both f (Ok (Number n)) (binary (sees k.context) Add)) ≡ Ok st → StoresSame k r st
+    → stored k.context (datum_names k.source.statements) (then_both f (Ok (Number n)) (binary (sees k.context) Add)) ≡ Ok st → StoresSame k r st
 sum_stored k n (Ok (Number m)) r st plus h =
     let p = plus (Number m) refl in
     let w : Stored = record { number = p.0; target = Nothing } in
@@ -198,7 +199,8 @@ pub word_holds : (k : Setting) (a : ℕ) (e : Expr) (st : Stored) → HaveSymbol
 word_holds k a e st here s h = word_stands k a e (value_of k.context e) s.0 here refl s.1 (subst (ShowsWord k.view a) (sym s.2) h)
 
 -- the word of a line's literal, where memory shows what stands in the area
-pub literal_holds : (ss : List Statement) → IsFaultless ss → (values : Values) (view : View) (region : Range32) (area : ℕ) (after before : List LaidLine) (l : LaidLine)
+pub literal_holds : (ss : List Statement) → IsFaultless ss → (values : Values) (view : View) (region : Range32) (area : ℕ) (after before : List LaidLine)
+    (l : LaidLine)
     → laid ss ≡ after ++ l ∷ before → l.area ≡ Some area → HaveSymbols (sees (context_behind ss l before))
     → ThingsShown (setting ss values view region area l before) area
     → (condition : Condition) (rd : Register) (x : Expr) → l.statement.what ≡ what.Pseudo (pseudo.LoadConstant condition rd x)

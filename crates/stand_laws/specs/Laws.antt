@@ -3,7 +3,7 @@ use Rattle.std.specs.Prelude.{◌≡◌, ◌^◌, ◌<◌, List, length, None}
 use Rattle.aof_object.specs.declared.records.Object.{Object}
 use Rattle.asm_model.specs.declared.statements.Statement.{Statement}
 use Rattle.asm_model.specs.PlacedLines.{AllNamed}
-use Rattle.said_model.specs.Said.{AllSaid}
+use Rattle.asm_model.specs.Said.{AllSaid}
 use Rattle.source_model.specs.Objects.{source_of, IsObject}
 use Rattle.source_model.specs.SourceFaults.{layout_faults, value_faults}
 use Rattle.stand_model.specs.Placed.{HoldsWherePlaced}

@@ -31,10 +31,12 @@ pub record IsWord (s : Source) (p : Piece) (word reloc : ℕ) : Type 0 where
   pub bytes : unit_bytes p.1 ≡ bytes_of word 4
   pub relocs : relocs_of s p ≡ at_start reloc ∷ []
 
-holds_bytes : (s : Source) (p : Piece) (word reloc : ℕ) → HasOne s p → IsWord s p word reloc → 4 ≡ area_size 0 (pieces_of s.lines) → HoldsBytes s 0 (bytes_of word 4)
+holds_bytes : (s : Source) (p : Piece) (word reloc : ℕ) → HasOne s p → IsWord s p word reloc → 4 ≡ area_size 0 (pieces_of s.lines)
+    → HoldsBytes s 0 (bytes_of word 4)
 holds_bytes s p word reloc one is size = record {
   size = size;
-  standing = λ q stands. subst (λ x. take (length (unit_bytes x.1)) (drop x.0 (bytes_of word 4)) ≡ unit_bytes x.1) (sym (nothing_else s p one q stands)) (rw (is.start, is.bytes) refl);
+  standing = λ q stands. subst (λ x. take (length (unit_bytes x.1)) (drop x.0 (bytes_of word 4)) ≡ unit_bytes x.1) (sym (nothing_else s p one q stands))
+      (rw (is.start, is.bytes) refl);
   others = λ i out. outside i (out p (it_stands s p one));
 }
   where

@@ -49,7 +49,8 @@ abbrev pub values_by : ℕ → Meant → Values
 values_by base m = record { base = λ _. base; symbol = λ _. m }
 
 -- a placed object, and memory that shows it
-pub record IsPlacedAndShown (own : ℕ) (o : Object) (values : Values) (area_at : ℕ → ℕ → ℕ) (view : View) (region : ℕ → Range32) (veneers : ℕ → Veneers) : Type 0 where
+pub record IsPlacedAndShown (own : ℕ) (o : Object) (values : Values) (area_at : ℕ → ℕ → ℕ) (view : View) (region : ℕ → Range32) (veneers : ℕ → Veneers) : Type
+    0 where
   pub placed : IsPlaced own o values area_at
   pub shown : ShowsObject view o values area_at region veneers
 
@@ -119,7 +120,8 @@ placed_and_shown own base attributes old reloc new y m area_at view region venee
     addresses = addresses;
   };
   shown = record {
-    areas = only_one (word_area attributes old reloc) (λ area a. ShowsArea view (object (word_area attributes old reloc) y) area a (values_by base m) (veneers area))
+    areas = only_one (word_area attributes old reloc) (λ area a. ShowsArea view (object (word_area attributes old reloc) y) area a (values_by base m)
+        (veneers area))
         (rw kept (bytes_of new 4, area_patched (at_start reloc) old new base (values_by base m) (veneers 0) of_word patched, shows));
     veneers_stand = stand;
   };

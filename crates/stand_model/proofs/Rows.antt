@@ -41,7 +41,8 @@ pub own_label : (own base : ℕ) (region : ℕ → Range32) → base % 4 ≡ 0 �
     → IsPlacedAndShown own of_own_label (values_by base (meant_here own base)) (λ _ _. base) (memory base (bytes_of base 4)) region none
 own_label own base region aligned ends =
     placed_and_shown own base 2 0 0x82000000 base here (meant_here own base) (λ _ _. base) (memory base (bytes_of base 4)) region none aligned ends
-    (here_is_meant own base) (omega arith) (λ area. refl) refl (record { start = refl; whole = refl }) (number_kept base ∙ omega arith) (memory_shows base (bytes_of base 4))
+    (here_is_meant own base) (omega arith) (λ area. refl) refl (record { start = refl; whole = refl }) (number_kept base ∙ omega arith)
+    (memory_shows base (bytes_of base 4))
     (none_stand (memory base (bytes_of base 4)) region (λ _ _. base))
 
 -- any memory that shows the object shows that word
@@ -68,7 +69,8 @@ pub imported_word : (own base value : ℕ) (region : ℕ → Range32) → base %
     → IsPlacedAndShown own of_imported_word (values_by base (valued value)) (λ _ _. base) (memory base (bytes_of (value + 4) 4)) region none
 imported_word own base value region aligned ends =
     placed_and_shown own base 2 4 0x8A000000 (value + 4) far (valued value) (λ _ _. base) (memory base (bytes_of (value + 4) 4)) region none aligned ends
-    (λ e. absurd (omega arith)) tt (λ area. refl) refl (record { start = refl; whole = refl }) (number_kept (value + 4) ∙ omega arith) (memory_shows base (bytes_of (value + 4) 4))
+    (λ e. absurd (omega arith)) tt (λ area. refl) refl (record { start = refl; whole = refl }) (number_kept (value + 4) ∙ omega arith)
+    (memory_shows base (bytes_of (value + 4) 4))
     (none_stand (memory base (bytes_of (value + 4) 4)) region (λ _ _. base))
 
 -- ---- far is code of object 1, of Thumb state where true
@@ -89,11 +91,13 @@ abbrev pub of_branch : Object
 of_branch = object (word_area 0x2202 0xEAFFFFFE 0x8F000000) far
 
 pub near_branch : (base words : ℕ) (region : ℕ → Range32) → base % 4 ≡ 0 → base + 4 ≤ 2 ^ 32 → words < 2 ^ 23
-    → IsPlacedAndShown 0 of_branch (values_by base (code_at false (base + 4 * words))) (areas_at base (base + 4 * words)) (memory base (bytes_of (branch_over words) 4)) region none
+    → IsPlacedAndShown 0 of_branch (values_by base (code_at false (base + 4 * words))) (areas_at base (base + 4 * words))
+    (memory base (bytes_of (branch_over words) 4)) region none
 near_branch base words region aligned ends reach =
     let new : number_of (bytes_of (branch_over words) 4) ≡ branch_over words = number_kept (branch_over words) ∙ omega arith in
     placed_and_shown 0 base 0x2202 0xEAFFFFFE 0x8F000000 (branch_over words) far (code_at false (base + 4 * words)) (areas_at base (base + 4 * words))
-    (memory base (bytes_of (branch_over words) 4)) region none aligned ends (λ e. absurd (omega arith)) (omega arith) (λ area. refl) refl (record { start = refl; whole = refl })
+    (memory base (bytes_of (branch_over words) 4)) region none aligned ends (λ e. absurd (omega arith)) (omega arith) (λ area. refl) refl
+    (record { start = refl; whole = refl })
     (record { branch = (lit< tt, refl); rest = omega (arith, new); leads = omega (arith, new, reach) }) (memory_shows base (bytes_of (branch_over words) 4))
     (none_stand (memory base (bytes_of (branch_over words) 4)) region (areas_at base (base + 4 * words)))
 
@@ -115,7 +119,8 @@ abbrev pub around : (base : ℕ) → base + 16 ≤ 2 ^ 32 → ℕ → Range32
 around base ends area = record { base = base; size = 16; in_space = ends }
 
 parts : (base target : ℕ) → Shows (with_veneer base target) base (bytes_of 0xEBFFFFFF 4) × Shows (with_veneer base target) (base + 4) (veneer target)
-parts base target = shows_parts (with_veneer base target) base (bytes_of 0xEBFFFFFF 4) (veneer target) (memory_shows base (bytes_of 0xEBFFFFFF 4 ++ veneer target))
+parts base target =
+    shows_parts (with_veneer base target) base (bytes_of 0xEBFFFFFF 4) (veneer target) (memory_shows base (bytes_of 0xEBFFFFFF 4 ++ veneer target))
 
 veneer_leads : (base target address : ℕ) → address ≡ target → LeadsAt false (base + 0 + 8) 0xEBFFFFFF (veneer_to base target address)
 veneer_leads base target address e = let same : address == target ≡ true = grind arith in rw same (omega arith)
@@ -124,7 +129,8 @@ veneer_stands : (base target : ℕ) (ends : base + 16 ≤ 2 ^ 32) → target % 2
     → VeneersStand (with_veneer base target) (around base ends area) (areas_at base target) (veneers_to base target area)
 veneer_stands base target ends even area home false v e = absurd (cc)
 veneer_stands base target ends even area home true v e =
-    by_test ((areas_at base target home.object home.area + home.offset) % 2 ^ 32) (((areas_at base target home.object home.area + home.offset) % 2 ^ 32) == target) refl e
+    by_test ((areas_at base target home.object home.area + home.offset) % 2 ^ 32)
+    (((areas_at base target home.object home.area + home.offset) % 2 ^ 32) == target) refl e
   where
     there : IsVeneer (with_veneer base target) (base + 4) target true
     there = veneer_law.reads (with_veneer base target) (base + 4) target true (veneer target) (parts base target).1 (record { even = even; contents = refl })
@@ -143,10 +149,13 @@ abbrev pub of_call : Object
 of_call = object (word_area 0x2202 0xEBFFFFFE 0x8F000000) far
 
 pub call_by_veneer : (base target : ℕ) → base % 4 ≡ 0 → (ends : base + 16 ≤ 2 ^ 32) → target % 2 ≡ 0 → target < 2 ^ 32
-    → IsPlacedAndShown 0 of_call (values_by base (code_at true target)) (areas_at base target) (with_veneer base target) (around base ends) (veneers_to base target)
+    → IsPlacedAndShown 0 of_call (values_by base (code_at true target)) (areas_at base target) (with_veneer base target) (around base ends)
+    (veneers_to base target)
 call_by_veneer base target aligned ends even small =
-    let named : ℕ = (target + total (0 + total (base + 0 + 8 + biased_displacement false 0xEBFFFFFE) 0 (bias false)) (target + 0 + 0) (base * 1 + 0 + target)) % 2 ^ 32 in
-    placed_and_shown 0 base 0x2202 0xEBFFFFFE 0x8F000000 0xEBFFFFFF far (code_at true target) (areas_at base target) (with_veneer base target) (around base ends)
+    let named : ℕ =
+    (target + total (0 + total (base + 0 + 8 + biased_displacement false 0xEBFFFFFE) 0 (bias false)) (target + 0 + 0) (base * 1 + 0 + target)) % 2 ^ 32 in
+    placed_and_shown 0 base 0x2202 0xEBFFFFFE 0x8F000000 0xEBFFFFFF far (code_at true target) (areas_at base target) (with_veneer base target)
+    (around base ends)
     (veneers_to base target) aligned (omega arith) (λ e. absurd (omega arith)) (omega arith) (λ area. refl) refl (record { start = refl; whole = refl })
     (record { branch = (lit< tt, refl); rest = refl; leads = veneer_leads base target named (omega arith) }) (parts base target).0
     (veneer_stands base target ends even)

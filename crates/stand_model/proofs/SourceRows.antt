@@ -6,6 +6,7 @@ use Rattle.arm_isa.specs.declared.instr.ArmInstr.TheVariants as instr
 use Rattle.asm_model.specs.declared.arm_lines.ArmLine.TheVariants as arm
 use Rattle.asm_model.specs.declared.directives.Contents.{Contents}
 use Rattle.asm_model.specs.declared.directives.Contents.TheVariants as contents
+use Rattle.asm_model.specs.declared.directives.DataItem.TheVariants as datum
 use Rattle.asm_model.specs.declared.directives.DirectiveLine.TheVariants as line
 use Rattle.asm_model.specs.declared.exprs.BinaryOp.TheVariants.{Add}
 use Rattle.asm_model.specs.declared.exprs.Expr.{Expr}
@@ -49,14 +50,14 @@ abbrev export_here : Statement
 export_here = says 2 None (what.Directive (line.Export (codes "here")))
 
 abbrev dcd_here : Statement
-dcd_here = says 3 (Some (codes "here")) (what.Directive (line.Dcd (items (item.Name (codes "here") ∷ []) ∷ [])))
+dcd_here = says 3 (Some (codes "here")) (what.Directive (line.Constants datum.Word (items (item.Name (codes "here") ∷ []) ∷ [])))
 
 -- AREA words, DATA; EXPORT here; here DCD here
 abbrev pub own_label_source : List Statement
 own_label_source = dcd_here ∷ export_here ∷ area contents.Data ∷ []
 
 abbrev dcd_far : Statement
-dcd_far = says 3 None (what.Directive (line.Dcd (items (item.Name (codes "far") ∷ item.Constant (Number 4) ∷ item.Binary Add ∷ []) ∷ [])))
+dcd_far = says 3 None (what.Directive (line.Constants datum.Word (items (item.Name (codes "far") ∷ item.Constant (Number 4) ∷ item.Binary Add ∷ []) ∷ [])))
 
 -- AREA words, DATA; IMPORT far; DCD far + 4
 abbrev pub imported_word_source : List Statement
@@ -89,7 +90,8 @@ imported_word_one = refl
 
 pub imported_word_object : IsObject imported_word_source of_imported_word
 imported_word_object =
-    is_object imported_word_source far_word 2 4 0x8A000000 far imported_word_one (record { start = refl; bytes = refl; relocs = refl }) refl refl refl refl refl refl
+    is_object imported_word_source far_word 2 4 0x8A000000 far imported_word_one (record { start = refl; bytes = refl; relocs = refl }) refl refl refl refl refl
+    refl
 
 abbrev far_branch : Bool → Piece
 far_branch link = (0, Instruction (instr.Branch Al link 0xFFFFFE) (Some (codes "far")))
@@ -99,11 +101,13 @@ branch_one link = refl
 
 pub branch_object : IsObject (branch_source false) of_branch
 branch_object =
-    is_object (branch_source false) (far_branch false) 0x2202 0xEAFFFFFE 0x8F000000 far (branch_one false) (record { start = refl; bytes = refl; relocs = refl }) refl refl refl refl refl refl
+    is_object (branch_source false) (far_branch false) 0x2202 0xEAFFFFFE 0x8F000000 far (branch_one false)
+    (record { start = refl; bytes = refl; relocs = refl }) refl refl refl refl refl refl
 
 pub call_object : IsObject (branch_source true) of_call
 call_object =
-    is_object (branch_source true) (far_branch true) 0x2202 0xEBFFFFFE 0x8F000000 far (branch_one true) (record { start = refl; bytes = refl; relocs = refl }) refl refl refl refl refl refl
+    is_object (branch_source true) (far_branch true) 0x2202 0xEBFFFFFE 0x8F000000 far (branch_one true) (record { start = refl; bytes = refl; relocs = refl })
+    refl refl refl refl refl refl
 
 -- ---- and the sources have no faults
 

@@ -55,7 +55,8 @@ abbrev pub ShowsArea : View → Object → ℕ → Area → Values → Veneers �
 ShowsArea view o area a values veneers = ShowsBy (bit a.attributes 12 == 1) view o area a values veneers
 
 -- memory shows all areas, and in the region of each the veneers that its branches go by
-pub record ShowsObject (view : View) (o : Object) (values : Values) (area_at : ℕ → ℕ → ℕ) (region : ℕ → Range32) (veneers : ℕ → Veneers) : Type 0 where
+pub record ShowsObject (view : View) (o : Object) (values : Values) (area_at : ℕ → ℕ → ℕ) (region : ℕ → Range32)
+    (veneers : ℕ → Veneers) : Type 0 where
   pub areas : (area : ℕ) (a : Area) → slice_get o.areas area ≡ Some a → ShowsArea view o area a values (veneers area)
   pub veneers_stand : (area : ℕ) → VeneersStand view (region area) area_at (veneers area)
 

@@ -10,20 +10,21 @@ use Rattle.patch_model.specs.Laws.{state_of}
 use Rattle.patch_model.specs.Reaches.{View, Shows, ShowsWord, Reaches}
 use Rattle.source_model.specs.declared.codes.ThumbCode.TheVariants.{Pair}
 use Rattle.source_model.specs.Objects.{Piece, Source, symbol_number}
-use Rattle.source_model.specs.Units.{Target, Nothing, ByArea, BySymbol, Bytes, Word, Instruction, Half, LinkPair}
+use Rattle.source_model.specs.Units.{RelocationTarget, Nothing, ByArea, BySymbol, Bytes, Word, Instruction, Half, LinkPair}
 use Rattle.stand_model.specs.Stands.{CodeReadsAt, ReadsAt, ReadsHalfAt}
 
 abbrev pub meant_by : Source → Values → List ℕ → Meant
 meant_by s values name = values.symbol (symbol_number s name)
 
 -- what is added to a word
-abbrev pub added_by : Source → Values → Target → ℕ
+abbrev pub added_by : Source → Values → RelocationTarget → ℕ
 added_by s values Nothing = 0
 added_by s values (ByArea area) = values.base area
 added_by s values (BySymbol name) = (meant_by s values name).number + flag (is_thumb_label (meant_by s values name))
 
 -- a branch that is left to the linker, at an address that lies so far behind its area's base
-pub record LinkedBranch (view : View) (region : Range32) (a offset : ℕ) (condition : Condition) (link : Bool) (old : ℕ) (m : Meant) : Type 0 where
+pub record LinkedBranch (view : View) (region : Range32) (a offset : ℕ) (condition : Condition) (link : Bool) (old : ℕ) (m : Meant) : Type
+    0 where
   pub field : ℕ
   pub reads : ReadsAt view a (instr.Branch condition link field)
   pub reaches : Reaches view region false a ((offset + 8 + sign_extended old 24 * 4 + m.number) % 2 ^ 32) (state_of false m m.home)
@@ -41,7 +42,8 @@ pub record LinkedPair (view : View) (region : Range32) (a offset first second : 
   pub high : ℕ
   pub low : ℕ
   pub reads : CodeReadsAt view a (Pair high low)
-  pub reaches : Reaches view region true a ((offset + 4 + sign_extended (first * 2 ^ 11 + second) 22 * 2 + m.number) % 2 ^ 32) (state_of true m m.home)
+  pub reaches : Reaches view region true a ((offset + 4 + sign_extended (first * 2 ^ 11 + second) 22 * 2 + m.number) % 2 ^ 32)
+      (state_of true m m.home)
 
 abbrev pub PairShown : Source → Values → View → Range32 → ℕ → ℕ → ℕ → ℕ → Option (List ℕ) → Type 0
 PairShown s values view region a offset first second None = CodeReadsAt view a (Pair first second)

@@ -24,7 +24,8 @@ use Rattle.thumb_isa.specs.declared.instr.ThumbInstr.TheVariants as half
 use Rattle.asm_model.specs.declared.arm_lines.ArmLine.{ArmLine}
 use Rattle.asm_model.specs.declared.arm_lines.ArmLine.TheVariants as arm
 use Rattle.asm_model.specs.declared.directives.DirectiveLine.{DirectiveLine}
-use Rattle.asm_model.specs.declared.directives.DirectiveLine.TheVariants as line
+use Rattle.asm_model.specs.declared.directives.Held.{Held}
+use Rattle.asm_model.specs.declared.directives.Held.TheVariants as held
 use Rattle.asm_model.specs.declared.exprs.Expr.{Expr}
 use Rattle.asm_model.specs.declared.operands.Address.TheVariants as address
 use Rattle.asm_model.specs.declared.operands.LiteralAddress.TheVariants as literal
@@ -36,10 +37,12 @@ use Rattle.asm_model.specs.declared.statements.What.{What}
 use Rattle.asm_model.specs.declared.statements.What.TheVariants as what
 use Rattle.asm_model.specs.declared.values.Value.{Value}
 use Rattle.asm_model.specs.declared.values.Value.TheVariants.{Number, Words, Place}
+use Rattle.asm_model.specs.DataItems.{held_by}
 use Rattle.asm_model.specs.Grammar.{Tree}
 use Rattle.asm_model.specs.Meaning.{stands_at}
 use Rattle.asm_model.specs.Laid.{LaidLine, pieces_of}
 use Rattle.asm_model.specs.Marks.{counts_one, thumb_bit, datum_names}
+use Rattle.asm_model.specs.Occupied.{Occupied, Unplaced, Opening, Marking, Entering, Items, Zeroes, UpTo, Literals, occupied}
 use Rattle.asm_model.specs.Offsets.{area_size}
 use Rattle.asm_model.specs.Placing.{Placing, placed_meaning}
 use Rattle.asm_model.specs.Trees.{tree_of}
@@ -100,14 +103,15 @@ abbrev pub WordsStand : Lookup → ℕ → List Expr → Type 0
 WordsStand s a [] = Unit {0}
 WordsStand s a (e ∷ es) = WordStands s a e × WordsStand s (a + 4) es
 
-pub record HalfStands (s : Lookup) (a : ℕ) (e : Expr) : Type 0 where
+-- a number in so many bytes
+pub record NumberStands (s : Lookup) (a width : ℕ) (e : Expr) : Type 0 where
   pub number : ℕ
   pub means : IsNumber s e number
-  pub shows : Shows s.view a (bytes_of (number % 2 ^ 16) 2)
+  pub shows : Shows s.view a (bytes_of (number % 2 ^ (8 * width)) width)
 
-abbrev pub HalvesStand : Lookup → ℕ → List Expr → Type 0
-HalvesStand s a [] = Unit {0}
-HalvesStand s a (e ∷ es) = HalfStands s a e × HalvesStand s (a + 2) es
+abbrev pub NumbersStand : Lookup → ℕ → ℕ → List Expr → Type 0
+NumbersStand s a width [] = Unit {0}
+NumbersStand s a width (e ∷ es) = NumberStands s a width e × NumbersStand s (a + width) width es
 
 -- an operand of DCB: a string, or the low byte of a number
 abbrev pub AreBytesOf : Lookup → Expr → List ℕ → Type 0
@@ -117,14 +121,24 @@ abbrev pub BytesStand : Lookup → ℕ → List Expr → Type 0
 BytesStand s a [] = Unit {0}
 BytesStand s a (e ∷ es) = (bytes : List ℕ) × AreBytesOf s e bytes × Shows s.view a bytes × BytesStand s (a + length bytes) es
 
+-- values that are held so
+abbrev pub HeldStand : Lookup → ℕ → Held → List Expr → Type 0
+HeldStand s a held.Relocatable es = WordsStand s a es
+HeldStand s a (held.Fixed width) es = NumbersStand s a width es
+HeldStand s a held.Strings es = BytesStand s a es
+
+abbrev pub OccupiedStands : Lookup → ℕ → ℕ → Occupied → Type 0
+OccupiedStands s a size Unplaced = Unit {0}
+OccupiedStands s a size (Opening attributes) = Unit {0}
+OccupiedStands s a size Marking = Unit {0}
+OccupiedStands s a size Entering = Unit {0}
+OccupiedStands s a size (Items item es) = HeldStand s a (held_by item) es
+OccupiedStands s a size (Zeroes e) = ShowsZeros s.view a size
+OccupiedStands s a size (UpTo b) = ShowsZeros s.view a size
+OccupiedStands s a size Literals = Unit {0}
+
 abbrev pub DirectiveStands : Lookup → ℕ → ℕ → DirectiveLine → Type 0
-DirectiveStands s a size (line.Dcd es) = WordsStand s a es
-DirectiveStands s a size (line.Dcdu es) = WordsStand s a es
-DirectiveStands s a size (line.Dcw es) = HalvesStand s a es
-DirectiveStands s a size (line.Dcb es) = BytesStand s a es
-DirectiveStands s a size (line.Space e) = ShowsZeros s.view a size
-DirectiveStands s a size (line.Align b) = ShowsZeros s.view a size
-DirectiveStands s a size _ = Unit {0}
+DirectiveStands s a size l = OccupiedStands s a size (occupied l)
 
 -- ---- instructions of ARM state
 
@@ -166,9 +180,34 @@ pub record InstructionStands (s : Lookup) (a : ℕ) (l : ArmLine) : Type 0 where
   pub reads : ReadsAt s.view a instruction
 
 abbrev pub ArmStands : Lookup → ℕ → ArmLine → Type 0
+ArmStands s a (arm.DataImmediate condition operation set_flags rd rn e) =
+    InstructionStands s a (arm.DataImmediate condition operation set_flags rd rn e)
+ArmStands s a (arm.DataShifted condition operation set_flags rd rn rm by) =
+    InstructionStands s a (arm.DataShifted condition operation set_flags rd rn rm by)
+ArmStands s a (arm.DataRegisterShifted condition operation set_flags rd rn rm kind rs) =
+    InstructionStands s a (arm.DataRegisterShifted condition operation set_flags rd rn rm kind rs)
+ArmStands s a (arm.Multiply condition accumulate set_flags rd rm rs rn) =
+    InstructionStands s a (arm.Multiply condition accumulate set_flags rd rm rs rn)
+ArmStands s a (arm.MultiplyLong condition signed accumulate set_flags low high rm rs) =
+    InstructionStands s a (arm.MultiplyLong condition signed accumulate set_flags low high rm rs)
+ArmStands s a (arm.Swap condition byte rd rm rn) = InstructionStands s a (arm.Swap condition byte rd rm rn)
+ArmStands s a (arm.BranchExchange condition rm) = InstructionStands s a (arm.BranchExchange condition rm)
+ArmStands s a (arm.ReadStatus condition saved rd) = InstructionStands s a (arm.ReadStatus condition saved rd)
+ArmStands s a (arm.WriteStatus condition saved fields rm) = InstructionStands s a (arm.WriteStatus condition saved fields rm)
+ArmStands s a (arm.WriteStatusImmediate condition saved fields e) =
+    InstructionStands s a (arm.WriteStatusImmediate condition saved fields e)
+ArmStands s a (arm.TransferImmediate condition load byte rd (address.Based rn indexing e)) =
+    InstructionStands s a (arm.TransferImmediate condition load byte rd (address.Based rn indexing e))
+ArmStands s a (arm.TransferImmediate condition load byte rd (address.Label e)) =
+    TransferStands s a condition load byte (register s.context rd) e
+ArmStands s a (arm.TransferShifted condition load byte rd rn indexing subtract rm by) =
+    InstructionStands s a (arm.TransferShifted condition load byte rd rn indexing subtract rm by)
+ArmStands s a (arm.TransferHalf condition load kind rd rn indexing o) =
+    InstructionStands s a (arm.TransferHalf condition load kind rd rn indexing o)
+ArmStands s a (arm.TransferBlock condition load mode rn write_back list user) =
+    InstructionStands s a (arm.TransferBlock condition load mode rn write_back list user)
 ArmStands s a (arm.Branch condition link e) = BranchStands s a condition link e
-ArmStands s a (arm.TransferImmediate condition load byte rd (address.Label e)) = TransferStands s a condition load byte (register s.context rd) e
-ArmStands s a l = InstructionStands s a l
+ArmStands s a (arm.SoftwareInterrupt condition e) = InstructionStands s a (arm.SoftwareInterrupt condition e)
 
 -- ---- instructions of Thumb state
 
@@ -180,7 +219,8 @@ pub record ReadsHalfAt (view : View) (a : ℕ) (i : ThumbInstr) : Type 0 where
 -- the half-word of an instruction, or both halves of BL
 abbrev pub CodeReadsAt : View → ℕ → ThumbCode → Type 0
 CodeReadsAt view a (One i) = ReadsHalfAt view a i
-CodeReadsAt view a (Pair first second) = ReadsHalfAt view a (half.BranchLink false first) × ReadsHalfAt view (a + 2) (half.BranchLink true second)
+CodeReadsAt view a (Pair first second) =
+    ReadsHalfAt view a (half.BranchLink false first) × ReadsHalfAt view (a + 2) (half.BranchLink true second)
 
 -- B, and B with a condition
 pub record ShortBranchStands (s : Lookup) (a : ℕ) (instruction : ℕ → ThumbInstr) (e : Expr) : Type 0 where
@@ -222,11 +262,26 @@ pub record ThumbInstructionStands (s : Lookup) (a : ℕ) (l : ThumbLine) : Type 
   pub reads : CodeReadsAt s.view a code
 
 abbrev pub ThumbStands : Lookup → ℕ → ThumbLine → Type 0
+ThumbStands s a (thumb.ShiftImmediate by rd rs e) = ThumbInstructionStands s a (thumb.ShiftImmediate by rd rs e)
+ThumbStands s a (thumb.AddSubtract subtract rd rs o) = ThumbInstructionStands s a (thumb.AddSubtract subtract rd rs o)
+ThumbStands s a (thumb.DataImmediate operation rd e) = ThumbInstructionStands s a (thumb.DataImmediate operation rd e)
+ThumbStands s a (thumb.DataRegister operation rd rs) = ThumbInstructionStands s a (thumb.DataRegister operation rd rs)
+ThumbStands s a (thumb.HighRegister operation rd rs) = ThumbInstructionStands s a (thumb.HighRegister operation rd rs)
+ThumbStands s a (thumb.LoadLiteral rd (literal.Offset e)) = ThumbInstructionStands s a (thumb.LoadLiteral rd (literal.Offset e))
 ThumbStands s a (thumb.LoadLiteral rd (literal.Label e)) = LabelCounted s a (half.LoadLiteral (register s.context rd)) e
+ThumbStands s a (thumb.TransferRegister load byte rd rn ro) = ThumbInstructionStands s a (thumb.TransferRegister load byte rd rn ro)
+ThumbStands s a (thumb.TransferSigned kind rd rn ro) = ThumbInstructionStands s a (thumb.TransferSigned kind rd rn ro)
+ThumbStands s a (thumb.TransferImmediate load byte rd rn e) = ThumbInstructionStands s a (thumb.TransferImmediate load byte rd rn e)
+ThumbStands s a (thumb.TransferHalf load rd rn e) = ThumbInstructionStands s a (thumb.TransferHalf load rd rn e)
+ThumbStands s a (thumb.TransferStack load rd e) = ThumbInstructionStands s a (thumb.TransferStack load rd e)
+ThumbStands s a (thumb.LoadAddress stack rd e) = ThumbInstructionStands s a (thumb.LoadAddress stack rd e)
+ThumbStands s a (thumb.AdjustStack subtract e) = ThumbInstructionStands s a (thumb.AdjustStack subtract e)
+ThumbStands s a (thumb.PushPop load list) = ThumbInstructionStands s a (thumb.PushPop load list)
+ThumbStands s a (thumb.TransferMultiple load rn list) = ThumbInstructionStands s a (thumb.TransferMultiple load rn list)
 ThumbStands s a (thumb.BranchConditional condition e) = ShortBranchStands s a (half.BranchConditional condition) e
+ThumbStands s a (thumb.SoftwareInterrupt e) = ThumbInstructionStands s a (thumb.SoftwareInterrupt e)
 ThumbStands s a (thumb.Branch e) = ShortBranchStands s a half.Branch e
 ThumbStands s a (thumb.BranchLink e) = LinkStands s a e
-ThumbStands s a l = ThumbInstructionStands s a l
 
 -- ---- pseudo-instructions of ARM state
 
@@ -342,5 +397,6 @@ IsGap s area i = (p : Piece) → StandsIn s area p → (i < p.0) ⊎ (p.0 + leng
 -- each statement stands at its offset behind its area's base, and where nothing stands is zero
 pub record AllStand (s : Source) (values : Values) (view : View) (region : ℕ → Range32) : Type 0 where
   pub lines : (l : LaidLine) (at : At s l) (area : ℕ) → l.area ≡ Some area
-      → Stands (lookup_at s l at view (region area) values) (values.base area + l.offset) l.size (address_behind (values.base area) (word_at s l at)) l.statement.what
+      → Stands (lookup_at s l at view (region area) values) (values.base area + l.offset) l.size
+      (address_behind (values.base area) (word_at s l at)) l.statement.what
   pub gaps : (area i : ℕ) → i < area_size area (pieces_of s.lines) → IsGap s area i → view (values.base area + i) ≡ Some 0

@@ -62,7 +62,8 @@ line_value w r a n c data_names sizes s word e h = rw e (h.no_kinds c data_names
 valued_none : (all : List LaidLine) (statements : List Statement) (before ls : List LaidLine) → AreCalm ls → first_valued all statements before ls ≡ None
 valued_none all statements before [] h = refl
 valued_none all statements before (l ∷ ls) h =
-    none_else _ _ _ (line_value l.statement.what l.extent h.0.block.0 h.0.block.1 _ _ _ _ _ h.0.block.2 h.0.calm) (valued_none all statements (l ∷ before) ls h.1)
+    none_else _ _ _ (line_value l.statement.what l.extent h.0.block.0 h.0.block.1 _ _ _ _ _ h.0.block.2 h.0.calm)
+    (valued_none all statements (l ∷ before) ls h.1)
 
 pub calm_have_no_fault : CalmHaveNoFault
 calm_have_no_fault ss h = valued_none (laid ss) ss [] (reversed (laid ss) []) (calm_reversed (laid ss) [] (calm_laid _ ss h) tt)
@@ -101,4 +102,5 @@ late_none all before (l ∷ ls) h k =
     none_else _ _ _ (both_none _ _ k.0 (loading_none l.area l.extent h.0.block.0 h.0.block.1 _ _ h.0.block.2)) (late_none all (l ∷ before) ls h.1 k.1)
 
 pub calm_late : (ss : List Statement) → AllCalm ss → AllEnter (laid ss) (laid ss) → first_late (laid ss) [] (reversed (laid ss) []) ≡ None
-calm_late ss h k = late_none (laid ss) [] (reversed (laid ss) []) (calm_reversed (laid ss) [] (calm_laid _ ss h) tt) (enter_reversed (laid ss) (laid ss) [] k tt)
+calm_late ss h k =
+    late_none (laid ss) [] (reversed (laid ss) []) (calm_reversed (laid ss) [] (calm_laid _ ss h) tt) (enter_reversed (laid ss) (laid ss) [] k tt)

@@ -91,7 +91,8 @@ pub all_none : (a b c e f g h i j k : List LineKind) → a ≡ [] → b ≡ [] �
     → a ++ b ++ c ++ e ++ f ++ g ++ h ++ i ++ j ++ k ≡ []
 all_none a b c e f g h i j k ea eb ec ee ef eg eh ei ej ek = rw (ea, eb, ec, ee, ef, eg, eh, ei, ej, ek) refl
 
-pub word_kinds : (d : List LaidName) (registers names_settled : List (List ℕ)) (all : List Statement) (names : List (List ℕ)) (a : ℕ) (c : Contents) (E : ℕ → ℕ) (s : Statement) (ss : List Statement)
+pub word_kinds : (d : List LaidName) (registers names_settled : List (List ℕ)) (all : List Statement) (names : List (List ℕ)) (a : ℕ) (c : Contents) (E : ℕ → ℕ)
+    (s : Statement) (ss : List Statement)
     → IsCodeOrData c → TakesWord s.what → s.is_long ≡ false → Stand d names a c E ss
     → name_kinds s ss ≡ [] → 4 * (E a + 1) ≤ 2 ^ 24
     → layout_kinds names_settled all (laid_behind d s (laid_of d ss)) (laid_of d ss) ≡ []
@@ -102,7 +103,8 @@ word_kinds d registers names_settled all names a c E s ss cd w short h fresh fit
     let thumb : thumb_behind (statements_of (laid_of d ss)) ≡ false = rw same h.thumb in
     let contents : contents_behind (s ∷ statements_of (laid_of d ss)) ≡ Some c = rw same (w.contents (contents_behind ss) ∙ h.contents) in
     let ends : nat_lt area_bytes ((laid_behind d s (laid_of d ss)).offset + (laid_behind d s (laid_of d ss)).size) ≡ false =
-    rw (extent, here, w.aligns (thumb_behind (statements_of (laid_of d ss))) (waiting a (pieces_of (laid_of d ss))), h.ends a, fours (E a)) (le-ltb area_bytes (4 * E a + 4) (omega arith)) in
+    rw (extent, here, w.aligns (thumb_behind (statements_of (laid_of d ss))) (waiting a (pieces_of (laid_of d ss))), h.ends a, fours (E a))
+    (le-ltb area_bytes (4 * E a + 4) (omega arith)) in
     all_none _ _ _ _ _ _ _ _ _ _
     (rw extent refl)
     (w.no_map _)
@@ -124,7 +126,12 @@ word_registers : (d : List LaidName) (registers : List (List ℕ)) (s : Statemen
 word_registers d registers s ss w h =
     let thumb : thumb_behind (statements_of (laid_of d ss)) ≡ false = rw (same_statements d ss) h in
     let l = laid_behind d s (laid_of d ss) in
-    rw (given_none l.seen s.label s.what w, w.registers registers l.seen.list (registers_behind (laid_of d ss)), thumb, w.operands (registers_behind (laid_of d ss))) refl
+    rw (
+      given_none l.seen s.label s.what w,
+      w.registers registers l.seen.list (registers_behind (laid_of d ss)),
+      thumb,
+      w.operands (registers_behind (laid_of d ss)),
+    ) refl
 
 fresh_none : (s : Statement) (ss : List Statement) → TakesWord s.what → is_repeated (names_behind ss) (names_in s) ≡ false → name_kinds s ss ≡ []
 fresh_none s ss w h = rw (h, w.no_entry) refl
@@ -149,7 +156,8 @@ words_have_no_fault d registers names_settled all names a c E (s ∷ ss) before 
     let F = more a (length ss) E in
     let own = more_same a (length ss) E in
     let none =
-    word_kinds d registers names_settled all names a c (more a (length ss) E) s (ss ++ before) cd words.0 words.1 inner.stand (fresh_none s (ss ++ before) words.0 fresh.0) (omega arith) in
+    word_kinds d registers names_settled all names a c (more a (length ss) E) s (ss ++ before) cd words.0 words.1 inner.stand
+    (fresh_none s (ss ++ before) words.0 fresh.0) (omega arith) in
     let registers_none = word_registers d registers s (ss ++ before) words.0 inner.stand.thumb in
     let e : length ss + 1 ≡ length (s ∷ ss) = omega arith in
     record {

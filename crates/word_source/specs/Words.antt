@@ -27,7 +27,8 @@ use Rattle.source_model.specs.ValueKinds.{value_kinds}
 -- a statement that has no fault of values, whatever it sees, and takes up a block
 pub record IsCalm (w : What) : Type 0 where
   pub block : (s : Names) → (a : ℕ) × (n : ℕ) × (extent_of s w ≡ Ok (Block a n))
-  pub no_kinds : (c : Context) (data_names : List (List ℕ)) (sizes : ℕ → ℕ) (s : Names) (a n : ℕ) (word : Option ℕ) → value_kinds c data_names sizes s (Block a n) word w ≡ []
+  pub no_kinds : (c : Context) (data_names : List (List ℕ)) (sizes : ℕ → ℕ) (s : Names) (a n : ℕ) (word : Option ℕ)
+      → value_kinds c data_names sizes s (Block a n) word w ≡ []
   pub state : (thumb : Bool) → state_behind w thumb ≡ thumb
 
 abbrev pub AllCalm : List Statement → Type 0
@@ -79,15 +80,19 @@ pub record Stand (d : List LaidName) (names : List (List ℕ)) (a : ℕ) (c : Co
   pub contents : contents_behind ss ≡ Some c
   pub thumb : thumb_behind ss ≡ false
   pub ends : (b : ℕ) → end_behind b (pieces_of (laid_of d ss)) ≡ 4 * E b
-  pub unlike : (name : List ℕ) → list_any (same name) names ≡ false → (s : Names) (x : AreaAttributes) → is_named_otherwise name s x (laid_of d ss) ≡ false
+  pub unlike : (name : List ℕ) → list_any (same name) names ≡ false → (s : Names) (x : AreaAttributes)
+      → is_named_otherwise name s x (laid_of d ss) ≡ false
 
-pub record AreLaid (d : List LaidName) (registers settled : List (List ℕ)) (all : List Statement) (names : List (List ℕ)) (a : ℕ) (c : Contents) (E : ℕ → ℕ) (ss : List Statement) : Type 0 where
+pub record AreLaid (d : List LaidName) (registers settled : List (List ℕ)) (all : List Statement) (names : List (List ℕ)) (a : ℕ)
+    (c : Contents) (E : ℕ → ℕ) (ss : List Statement) : Type 0 where
   pub stand : Stand d names a c E ss
   pub faultless : first_laid registers settled all (laid_of d ss) ≡ None
 
 abbrev pub WordsHaveNoFault : Type 0
 WordsHaveNoFault =
-    (d : List LaidName) (registers settled : List (List ℕ)) (all : List Statement) (names : List (List ℕ)) (a : ℕ) (c : Contents) (E : ℕ → ℕ)
+    (d : List LaidName) (registers settled : List (List ℕ)) (all : List Statement) (names : List (List ℕ)) (a : ℕ) (c : Contents)
+    (E : ℕ → ℕ)
     (ws before : List Statement)
-    → IsCodeOrData c → AreLaid d registers settled all names a c E before → AllWords ws → AllFresh ws before → 4 * (E a + length ws) ≤ 2 ^ 24
+    → IsCodeOrData c → AreLaid d registers settled all names a c E before → AllWords ws → AllFresh ws before
+    → 4 * (E a + length ws) ≤ 2 ^ 24
     → AreLaid d registers settled all names a c (more a (length ws) E) (ws ++ before)

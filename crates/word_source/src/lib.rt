@@ -1,4 +1,6 @@
-//! Laws of statements that take up a word each, and of statements without a fault of values. There is no engine.
+//! Laws of statements that take up a word each, and of statements without a fault of values, over the definitions of
+//! `source_model`. This project's; there is no engine. The proofs of `big_faults` cite both for the source that
+//! `make-big` makes.
 #![tactic(auto)]
 
 ghost use Rattle.word_source.specs.Words.{CalmHaveNoFault, WordsHaveNoFault};

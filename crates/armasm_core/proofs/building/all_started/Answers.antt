@@ -29,7 +29,8 @@ areas-preserved c =
     let at = slice_get_read areas (length areas) c.areas.area-index a refl c.areas-test.true c.area-item.is in
     let one : c.areas.area-index + 1 ≡ suc c.areas.area-index = omega arith in
     let more : take (c.areas.area-index + 1) areas ≡ take c.areas.area-index areas ++ a ∷ [] =
-    ap (λ n. take n areas) one ∙ take-suc areas c.areas.area-index a c.areas-test.true ∙ ap (λ (x : LaidArea). take c.areas.area-index areas ++ x ∷ []) (sym c.area-item.is) in
+    ap (λ n. take n areas) one ∙ take-suc areas c.areas.area-index a c.areas-test.true
+    ∙ ap (λ (x : LaidArea). take c.areas.area-index areas ++ x ∷ []) (sym c.area-item.is) in
     let long = length-append gs (y ∷ []) in
     let pushed = ap length c.in_ok-push.ensures.items in (
       ap frames c.in_ok-push.ensures.items

@@ -6,7 +6,8 @@ use Rattle.armasm_core.proofs.building.put_line.Goals as goal
 
 pub returns-in_default-clause-more : goal.returns-in_default-clause-more
 returns-in_default-clause-more c = λ held old apart.
-    builders_same c.args.symbols.now held c.args.builds.now.items c.args.place.now.area (pieces_put c.args.place.now.offset c.args.units.now) c.in_default.is old
+    builders_same c.args.symbols.now held c.args.builds.now.items c.args.place.now.area (pieces_put c.args.place.now.offset c.args.units.now) c.in_default.is
+    old
 
 pub index_mut-requires : goal.index_mut-requires
 index_mut-requires c =

@@ -6,7 +6,7 @@ use Rattle.asm_layout.specs.declared.laid.LaidStatement.{LaidStatement}
 use Rattle.source_model.specs.Objects.{source_of}
 use Rattle.source_model.specs.Registers.{register_in}
 use Rattle.armasm_core.specs.Gathered.{AllLaidSaid}
-use Rattle.armasm_core.specs.Whole.{IsHere}
+use Rattle.armasm_core.specs.SourceTables.{IsHere}
 use Rattle.armasm_core.proofs.SetLemmas.{said_first}
 use Rattle.armasm_core.specs.Building.{frame_of, frames, pieces_put}
 use Rattle.armasm_core.specs.Emission.{IsEmittable, IsGrown, things_so_far}
@@ -71,7 +71,8 @@ put_line-requires-clause-stand c =
     c.lines.invariant.1 u c.as_slice.result.now c.as_slice.ensures.value
     (λ before rest line here.
     c.in_ok-units-in-len1-up.ensures g.source.source.statements before rest line
-    (subst (λ (areas : List LaidArea). IsHere g.source.source.statements areas w c.lines.registers before rest line c.line-item.result) (sym c.as_slice-areas.ensures) here))
+    (subst (λ (areas : List LaidArea). IsHere g.source.source.statements areas w c.lines.registers before rest line c.line-item.result)
+    (sym c.as_slice-areas.ensures) here))
 
 pub lines-preserved : goal.lines-preserved
 lines-preserved c =
@@ -87,16 +88,16 @@ lines-preserved c =
     let us = c.as_slice.result.now in
     let g = c.lines.invariant.3 in
     let step : (statements : List Statement) → IsEmittable statements l w → IsGrown statements names left known gs
-    → IsGrown statements names more c.give.new.known c.put_line.new.builds.items = λ statements j k.
+    → IsGrown statements names more c.define_register.new.known c.put_line.new.builds.items = λ statements j k.
     let n = next_there statements l w names x left known gs c.in-len1-up.len_at_least c.line-item.is j k in
     let put = c.in_ok-units-in-len1-up.ensures statements n.before n.rest n.line
     (subst (λ (areas : List LaidArea). IsHere statements areas w known n.before n.rest n.line x) (sym c.as_slice-areas.ensures) n.here) in
     let pieces = put_there statements l w names x more known gs n u us c.as_slice.ensures.value put in
     let apart = apart_there c.sources_stand_apart.ensures statements j.sound j.states n.before n.rest n.line x.place.area
     (pieces_put x.place.offset us) n.here.parts n.here.line.place.area pieces in
-    grown_more statements l w names x more known c.give.new.known gs c.put_line.new.builds.items n u us c.as_slice.ensures.value put
+    grown_more statements l w names x more known c.define_register.new.known gs c.put_line.new.builds.items n u us c.as_slice.ensures.value put
     (c.in_ok-put_line-in-len1-up.ensures.more (things_so_far (source_of statements) n.before (n.line ∷ n.rest)) n.builders apart)
-    c.in_ok-give-in-len1-up.ensures in (
+    c.in_ok-define_register-in-len1-up.ensures in (
       (said_first left x c.lines.invariant.0 c.in-len1-up.len_at_least c.line-item.is).1,
       c.put_line.ensures.frames ∙ c.lines.invariant.1,
       λ statements j. step statements j (c.lines.invariant.2 statements j),

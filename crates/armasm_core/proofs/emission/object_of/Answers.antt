@@ -31,7 +31,8 @@ returns-clause-emitted c = λ statements layout said sound states.
       grown.0,
       record {
         count = count_there statements l.areas gs areas layout.areas c.in_ok-builds.ensures.frames c.in_ok-areas.ensures;
-        areas = areas_there statements c.in_ok-needed.needed l.areas gs areas sound layout.areas listed c.in_ok-builds.ensures.frames grown.1 c.in_ok-areas.ensures;
+        areas =
+            areas_there statements c.in_ok-needed.needed l.areas gs areas sound layout.areas listed c.in_ok-builds.ensures.frames grown.1 c.in_ok-areas.ensures;
         symbols = c.in_ok-symbols.ensures.records statements layout sound whole listed;
         entry = c.entry_of.ensures statements layout;
       },

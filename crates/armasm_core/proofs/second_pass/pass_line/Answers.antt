@@ -1,7 +1,7 @@
 use Rattle.asm_model.specs.Laid.{laid, pieces_of, taken}
 use Rattle.asm_model.specs.Marks.{datum_names}
 use Rattle.asm_model.specs.Offsets.{area_size}
-use Rattle.armasm_core.specs.Whole.{context_there, word_there}
+use Rattle.armasm_core.specs.SourceTables.{context_there, word_there}
 use Rattle.armasm_core.proofs.PutLemmas.{LinesFit, put_there, told_there}
 use Rattle.armasm_core.proofs.second_pass.pass_line.Goals as goal
 

@@ -1,6 +1,6 @@
 use Rattle.std.proofs.Common.{◌≡◌, ◌++◌, length}
 use Rattle.asm_model.specs.Operands.{operands_at}
-use Rattle.asm_model.specs.Says.{on_both}
+use Rattle.asm_model.specs.Readings.{on_both}
 use Rattle.asm_arm.specs.Lists.{items}
 use Rattle.asm_arm.proofs.lists.items.Given as goal
 

@@ -18,11 +18,19 @@ returns-clause-says c =
     sym (c.call_fault.ensures ∙ ap (λ (p : Prototype). told_kind (call_kinds p w ++ depth_kinds d)) c.as_ref-prototype.ensures) ∙ c.in_default.is in
     let of_prototype =
     subst
-    (λ (p : Prototype). HasScope c.in_ok-scope.scope (Some (record { arguments = label_rows p.label c.args.words.label.now ++ argument_rows p.parameters c.as_slice.result.now; locals = [] })))
+    (λ (p : Prototype). HasScope c.in_ok-scope.scope (Some (record {
+      arguments =
+          label_rows p.label c.args.words.label.now ++ argument_rows p.parameters c.as_slice.result.now;
+      locals = [];
+    })))
     c.as_ref-prototype.ensures c.in_ok-scope.ensures in
     let of_texts =
     subst
-    (λ (ts : List (List ℕ)). HasScope c.in_ok-scope.scope (Some (record { arguments = label_rows c.args.called.prototype.value.label c.args.words.label.now ++ argument_rows c.args.called.prototype.value.parameters ts; locals = [] })))
+    (λ (ts : List (List ℕ)). HasScope c.in_ok-scope.scope (Some (record {
+      arguments =
+          label_rows c.args.called.prototype.value.label c.args.words.label.now ++ argument_rows c.args.called.prototype.value.parameters ts;
+      locals = [];
+    })))
     (c.as_slice.ensures.value ∙ c.in_ok-texts.ensures) of_prototype in
     let entered = c.enter-outer.ensures.state s (Some (scope_of c.args.called.prototype.value w)) r of_texts in
     rw told ((entered.1, c.past.ensures ∙ ap (λ (xs : List Line). drop 1 xs) a), entered.0, c.in_ok-body.ensures)

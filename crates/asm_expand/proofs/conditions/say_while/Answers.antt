@@ -13,6 +13,8 @@ returns-in-Err-clause-says c =
     λ sources s l ls h r.
     let same = c.truth_of-truth.ensures ∙ ap truth (c.in_ok-value.ensures s r) in
     let e =
-    valued_bad l (label_kinds (words_shown c.args.words) ++ depth_kinds (depth_of c.args.depth) ++ long_kinds c.args.operand.now) (truth (value_of s c.args.operand.now)) (loop l s ls)
+    valued_bad l (label_kinds (words_shown c.args.words) ++ depth_kinds (depth_of c.args.depth) ++ long_kinds c.args.operand.now)
+    (truth (value_of s c.args.operand.now)) (loop l s ls)
     c.opening_fault-told.result c.truth_of-truth.result c.in-Err.kind c.opening_fault-told.ensures same c.in-Err.ensures in
-    subst (λ (m : model.Next). Shows sources c.args.state.now (next.Bad c.args.at c.in-Err.kind) m) (sym e) (shows_bad sources c.args.state.now c.args.at c.in-Err.kind l ls h)
+    subst (λ (m : model.Next). Shows sources c.args.state.now (next.Bad c.args.at c.in-Err.kind) m) (sym e)
+    (shows_bad sources c.args.state.now c.args.at c.in-Err.kind l ls h)

@@ -1,7 +1,7 @@
 use Rattle.std.proofs.Common.{List, ap, drop, take, ◌∙◌}
 use Rattle.asm_model.specs.declared.lines.Line.{Line}
 use Rattle.expand_model.specs.declared.macros.Macro.{Macro}
-use Rattle.asm_expand.specs.Places.{place_lines}
+use Rattle.asm_expand.specs.LineCursors.{cursor_lines}
 use Rattle.asm_expand.proofs.DefiningLemmas.{whole_defined}
 use Rattle.asm_expand.proofs.definitions.defined.Goals as goal
 
@@ -10,7 +10,7 @@ returns-in_ok-define-in-Whole-clause-says c =
     λ sources s l first r.
     let body_of : List Line → Macro = λ xs. record { prototype = c.args.prototype; body = take c.in-Whole.count xs } in
     whole_defined sources c.args.state.now c.define.new.self c.pass.new.self c.pass-in-Whole.new.self c.args.prototype l s
-    c.rest.result.now (place_lines c.args.body) c.in-Whole.count c.in_ok-definition-in-Whole.definition c.past-in-Whole-2.result r
+    c.rest.result.now (cursor_lines c.args.body) c.in-Whole.count c.in_ok-definition-in-Whole.definition c.past-in-Whole-2.result r
     c.rest.ensures c.in-Whole.ensures (c.in_ok-definition-in-Whole.ensures ∙ ap body_of c.rest-in-Whole.ensures)
     c.in_ok-define-in-Whole.ensures.state c.pass.ensures.state c.pass-in-Whole.ensures.state
     (c.past-in-Whole-2.ensures ∙ ap (λ (xs : List Line). drop 1 xs) c.past-in-Whole.ensures)

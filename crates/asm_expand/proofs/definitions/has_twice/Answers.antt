@@ -17,5 +17,6 @@ loop-i-preserved c =
           (sym (c.loop-i.invariant.1 p.name) ∙ n.0) c.loop-i.invariant.0,
       λ q.
           n.1 q
-          ∙ seen_more c.args.parameters.now c.loop-i.i p q (has_name c.loop-i.seen q) c.loop-i-test.true c.loop-i.auto.i c.index-parameters-i.is (c.loop-i.invariant.1 q),
+          ∙ seen_more c.args.parameters.now c.loop-i.i p q (has_name c.loop-i.seen q) c.loop-i-test.true c.loop-i.auto.i c.index-parameters-i.is
+          (c.loop-i.invariant.1 q),
     )

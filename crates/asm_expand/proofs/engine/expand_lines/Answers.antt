@@ -10,7 +10,7 @@ use Rattle.asm_expand.specs.declared.engine.Engine.{Engine}
 use Rattle.asm_expand.specs.declared.steps.Next.{Next}
 use Rattle.asm_expand.specs.declared.steps.Next.TheVariants as next
 use Rattle.asm_expand.specs.Leading.{IsLed, LedOn, OfFiles, ReadsAlike, RunsTo}
-use Rattle.asm_expand.specs.Places.{place_lines}
+use Rattle.asm_expand.specs.LineCursors.{cursor_lines}
 use Rattle.asm_expand.proofs.AnswerLemmas.{few_started, led_start, of_files}
 use Rattle.asm_expand.proofs.GetLemmas.{led_next, led_without, read_failed}
 use Rattle.asm_expand.proofs.engine.expand_lines.Goals as goal
@@ -31,7 +31,8 @@ led_last (Some files) start g h n on led = on (content files) start (alike n (co
 pub steps-init : goal.steps-init
 steps-init g c = record {
   led = of_files (g.S.Store.files c.args.store.now) _ (λ sources. led_start sources c.started-engine.result c.args.first c.started-engine.ensures);
-  without = of_files (g.S.Store.files c.args.store.now) _ (λ sources file. inr (led_start (without file sources) c.started-engine.result c.args.first c.started-engine.ensures));
+  without = of_files (g.S.Store.files c.args.store.now) _ (λ sources file. inr
+      (led_start (without file sources) c.started-engine.result c.args.first c.started-engine.ensures));
   few = few_started c.started-engine.result c.started-engine.ensures;
   files = refl;
   reads = search rules;
@@ -40,13 +41,13 @@ steps-init g c = record {
 
 pub returns-in-Err-clause-read : goal.returns-in-Err-clause-read
 returns-in-Err-clause-read g c =
-    read_failed (g.S.Store.files c.args.store.now) (Go (started visit_limit) (place_lines c.args.first)) c.steps.engine c.steps.next c.in-Err.fault
+    read_failed (g.S.Store.files c.args.store.now) (Go (started visit_limit) (cursor_lines c.args.first)) c.steps.engine c.steps.next c.in-Err.fault
     c.in-Err.ensures.read c.steps.invariant.without
 
 pub returns-in-Ok-None-clause-flats : goal.returns-in-Ok-None-clause-flats
 returns-in-Ok-None-clause-flats g c =
     let told = g.S.Store.files c.args.store.now in
-    let start = Go (started visit_limit) (place_lines c.args.first) in
+    let start = Go (started visit_limit) (cursor_lines c.args.first) in
     let before = c.steps.invariant in
     let on = rw (before.files, c.in-Ok-None.field-0-is) at c.in-Ok-None.ensures.led in
     led_last told start c.steps.engine c.step.new.engine c.steps.next on before.led
@@ -54,7 +55,7 @@ returns-in-Ok-None-clause-flats g c =
 pub steps-preserved : goal.steps-preserved
 steps-preserved g c =
     let told = g.S.Store.files c.args.store.now in
-    let start = Go (started visit_limit) (place_lines c.args.first) in
+    let start = Go (started visit_limit) (cursor_lines c.args.first) in
     let before = c.steps.invariant in
     let on = rw (before.files, c.in-Ok-Some.field-0-is) at c.in-Ok-Some.ensures.led in
     record {

@@ -3,7 +3,8 @@ use Rattle.std.specs.Prelude.{Result}
 use Rattle.sdt_fault.specs.declared.kinds.LineKind.{LineKind}
 use Rattle.asm_model.specs.declared.exprs.Expr.{Expr}
 use Rattle.asm_model.specs.Operands.{operands_at}
-use Rattle.asm_model.specs.Says.{Expressions, on_both}
+use Rattle.asm_model.specs.Readings.{on_both}
+use Rattle.asm_model.specs.Says.{Expressions}
 use Rattle.asm_expr.proofs.readings.some_expressions.Given as goal
 use Rattle.std.proofs.Common.{List}
 

@@ -1,7 +1,7 @@
 use Rattle.std.proofs.Common.{◌≡◌, ◌≤◌, ◌+◌, ◌++◌, length}
 use Rattle.std.specs.Prelude.{min}
 use Rattle.asm_model.specs.Extents.{byte_counts}
-use Rattle.said_model.specs.Said.{AllRead}
+use Rattle.asm_model.specs.Said.{AllRead}
 use Rattle.asm_expr.specs.Seeing.{seen_names}
 use Rattle.asm_laying.specs.Reading.{most_bytes, marks}
 use Rattle.asm_laying.proofs.extents.byte_counts.Given as goal

@@ -8,7 +8,8 @@ use Rattle.asm_laying.proofs.finding.find.Goals as goal
 
 pub equal_there-requires : goal.equal_there-requires
 equal_there-requires c =
-    subst (λ (x : Defined). DefinedRead x) (sym c.defined_by-defines.ensures) (defined_read c.args.statement.now.label c.args.statement.now.what c.requires.read)
+    subst (λ (x : Defined). DefinedRead x) (sym c.defined_by-defines.ensures)
+    (defined_read c.args.statement.now.label c.args.statement.now.what c.requires.read)
 
 pub returns : goal.returns
 returns c = λ before at known owned.

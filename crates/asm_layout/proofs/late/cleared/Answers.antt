@@ -9,7 +9,8 @@ pub lines-init : goal.lines-init
 lines-init c = λ all w h. first_left all c.args.laid.now h
 
 pub returns-in-empty : goal.returns-in-empty
-returns-in-empty c = λ all w h. none_left all (subst (λ (xs : List LaidStatement). IsLeft all xs) (nothing c.lines.left.now c.in-empty.len_below) (c.lines.invariant all w h))
+returns-in-empty c =
+    λ all w h. none_left all (subst (λ (xs : List LaidStatement). IsLeft all xs) (nothing c.lines.left.now c.in-empty.len_below) (c.lines.invariant all w h))
   where
     nothing : (xs : List LaidStatement) → length xs < 1 → xs ≡ []
     nothing [] less = refl
@@ -19,7 +20,8 @@ pub returns-in-Some : goal.returns-in-Some
 returns-in-Some c = λ all w h.
     let x = c.line-item.result in
     let more = take (length c.lines.left.now - 1) (drop 1 c.lines.left.now) in
-    let n = next_of all x more (subst (λ (xs : List LaidStatement). IsLeft all xs) (rest_of c.lines.left.now x c.in-len1-up.len_at_least c.line-item.is) (c.lines.invariant all w h)) in
+    let n = next_of all x more (subst (λ (xs : List LaidStatement). IsLeft all xs) (rest_of c.lines.left.now x c.in-len1-up.len_at_least c.line-item.is)
+    (c.lines.invariant all w h)) in
     told_here all x more n c.in-Some.kind c.told_of.result
     (sym c.in-Some.is ∙ c.late_kind.ensures all n.before n.rest n.l w (rw c.position_of.ensures (stands all x more n))) c.told_of.ensures
 
@@ -27,5 +29,6 @@ pub lines-preserved : goal.lines-preserved
 lines-preserved c = λ all w h.
     let x = c.line-item.result in
     let more = take (length c.lines.left.now - 1) (drop 1 c.lines.left.now) in
-    let n = next_of all x more (subst (λ (xs : List LaidStatement). IsLeft all xs) (rest_of c.lines.left.now x c.in-len1-up.len_at_least c.line-item.is) (c.lines.invariant all w h)) in
+    let n = next_of all x more (subst (λ (xs : List LaidStatement). IsLeft all xs) (rest_of c.lines.left.now x c.in-len1-up.len_at_least c.line-item.is)
+    (c.lines.invariant all w h)) in
     none_here all x more n (sym c.in_default.is ∙ c.late_kind.ensures all n.before n.rest n.l w (rw c.position_of.ensures (stands all x more n)))

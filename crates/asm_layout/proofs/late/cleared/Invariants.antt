@@ -1,6 +1,6 @@
 use Rattle.std.proofs.Common.{List, length}
 use Rattle.asm_model.specs.Laid.{LaidLine}
-use Rattle.asm_areas.specs.Late.{AreWhole}
+use Rattle.asm_checks.specs.Late.{AreWhole}
 use Rattle.asm_layout.specs.Layout.{AreStatements}
 use Rattle.asm_layout.specs.Late.{IsLeft}
 use Rattle.asm_layout.proofs.late.cleared.Given as goal

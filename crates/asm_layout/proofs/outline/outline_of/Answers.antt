@@ -7,5 +7,6 @@ pub returns : goal.returns
 returns c = record {
   names = c.in_ok-names.ensures.names;
   states = c.in_ok-states.ensures;
-  marks = c.in_ok-circular.ensures ∙ rw (c.as_slice.ensures.value, c.as_slice-2.ensures.value) (marks_are c.in_ok-names.field-0 (reversed c.args.statements.now []) c.in_ok-names.ensures);
+  marks = c.in_ok-circular.ensures ∙ rw (c.as_slice.ensures.value, c.as_slice-2.ensures.value)
+      (marks_are c.in_ok-names.field-0 (reversed c.args.statements.now []) c.in_ok-names.ensures);
 }

@@ -8,7 +8,8 @@ returns-in_default-clause-value c = empty_best_of c.args.rest.now c.in_default.e
 
 pub returns-then-is_letter-clause-value : goal.returns-then-is_letter-clause-value
 returns-then-is_letter-clause-value c =
-    letter_best_of c.args.rest.now c.in-Some.first.now c.in-Some.field-0-1.now c.run_len.result c.in-Some.ensures.cases.0 (sym c.is_letter.ensures ∙ c.if-is_letter.true)
+    letter_best_of c.args.rest.now c.in-Some.first.now c.in-Some.field-0-1.now c.run_len.result c.in-Some.ensures.cases.0
+    (sym c.is_letter.ensures ∙ c.if-is_letter.true)
     c.run_len.ensures.run
 
 pub returns-then-is_digit-clause-value : goal.returns-then-is_digit-clause-value

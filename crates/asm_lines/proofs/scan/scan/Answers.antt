@@ -17,4 +17,5 @@ tokens-preserved c =
     at_token c.args.text.now c.tokens.list.items c.tokens.due c.tokens.place c.behind-rest.result.now c.is_end.result
     c.tokens.invariant c.behind-rest.ensures c.is_end.ensures c.if-is_end.false c.run_len-blanks.result c.run_len-blanks.ensures.run
     c.behind-front.result.now c.behind-front.ensures c.token_at.result c.token_at.ensures
-    c.in-Some.kind c.in-Some.len c.begin.result.now c.due_behind-due.result c.push.new.self.items c.in-Some.is c.begin.ensures c.due_behind-due.ensures c.in_ok-push.ensures.items
+    c.in-Some.kind c.in-Some.len c.begin.result.now c.due_behind-due.result c.push.new.self.items c.in-Some.is c.begin.ensures c.due_behind-due.ensures
+    c.in_ok-push.ensures.items

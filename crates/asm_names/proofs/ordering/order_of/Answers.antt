@@ -17,11 +17,13 @@ pub returns-clause-settled : goal.returns-clause-settled
 returns-clause-settled c =
     c.in_ok-settled.ensures ∙ ap (λ (l : List Bool). map (λ (e : Equal). is_known c.in_ok-index.index l e.name.now) c.args.equals.now) c.as_slice.ensures.value
     ∙ marks_settled (pairs_of c.args.equals.now) c.in_ok-index.index c.in_ok-progress.progress.known.items
-    (known_settled (pairs_of c.args.equals.now) c.in_ok-index.index c.in_ok-progress.progress.known.items c.in_ok-progress.progress.waits.items c.in_ok-progress.progress.places.items
+    (known_settled (pairs_of c.args.equals.now) c.in_ok-index.index c.in_ok-progress.progress.known.items c.in_ok-progress.progress.waits.items
+    c.in_ok-progress.progress.places.items
     c.in_ok-progress.progress.done c.in_ok-progress.ensures.kept c.in_ok-progress.ensures.done)
     c.args.equals.now
 
 pub returns-clause-places : goal.returns-clause-places
 returns-clause-places c =
-    is_order (pairs_of c.args.equals.now) c.in_ok-index.index c.in_ok-progress.progress.known.items c.in_ok-progress.progress.waits.items c.in_ok-progress.progress.places.items
+    is_order (pairs_of c.args.equals.now) c.in_ok-index.index c.in_ok-progress.progress.known.items c.in_ok-progress.progress.waits.items
+    c.in_ok-progress.progress.places.items
     c.in_ok-progress.progress.done c.in_ok-progress.ensures.kept c.in_ok-progress.ensures.done

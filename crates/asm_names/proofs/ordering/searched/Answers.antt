@@ -10,9 +10,11 @@ nearer n m done now places e fit next more = omega arith
 pub places-smaller : goal.places-smaller
 places-smaller c =
     let h = c.places.invariant in
-    let fit = places_fit (pairs_of c.args.equals.now) c.args.index.now c.places.progress.known.items c.places.progress.waits.items c.places.progress.places.items c.places.progress.done [] h in
+    let fit = places_fit (pairs_of c.args.equals.now) c.args.index.now c.places.progress.known.items c.places.progress.waits.items
+    c.places.progress.places.items c.places.progress.done [] h in
     let ok = c.places.progress.places.ok in
     let test = c.places-test.true in
     let len = c.len.ensures in
-    nearer (length c.args.equals.now) (length (pairs_of c.args.equals.now)) c.places.progress.done c.settle_next.new.progress.done (length c.places.progress.places.items)
+    nearer (length c.args.equals.now) (length (pairs_of c.args.equals.now)) c.places.progress.done c.settle_next.new.progress.done
+    (length c.places.progress.places.items)
     (length-map c.args.equals.now pair_of) fit (omega (arith, test, len, ok)) c.in_ok-settle_next.ensures.done

@@ -16,13 +16,17 @@ look_at-requires-clause-within c =
 
 pub look_at-requires-clause-waiting : goal.look_at-requires-clause-waiting
 look_at-requires-clause-waiting c =
-    let reached = IsReached (pairs_of c.args.equals.now) (known_names (pairs_of c.args.equals.now) c.loop-waiting.progress.done c.loop-waiting.progress.places.items) in
-    (all_back reached c.pop.new.self.items (c.in-Some.waiting ∷ []) (subst (λ (l : List Waiting). AllByRecursion reached l) c.in-Some.ensures.items c.loop-waiting.invariant.0.reached)).0.can
+    let reached =
+    IsReached (pairs_of c.args.equals.now) (known_names (pairs_of c.args.equals.now) c.loop-waiting.progress.done c.loop-waiting.progress.places.items) in
+    (all_back reached c.pop.new.self.items (c.in-Some.waiting ∷ []) (subst (λ (l : List Waiting). AllByRecursion reached l) c.in-Some.ensures.items
+    c.loop-waiting.invariant.0.reached)).0.can
 
 pub loop-waiting-preserved : goal.loop-waiting-preserved
 loop-waiting-preserved c = (
-  looked (pairs_of c.args.equals.now) c.args.index.now c.loop-waiting.progress.known.items c.loop-waiting.progress.waits.items c.look_at.new.waits.items c.loop-waiting.progress.places.items
-      c.look_at.new.places.items c.loop-waiting.progress.done c.loop-waiting.hand.items c.pop.new.self.items c.in-Some.waiting c.loop-waiting.invariant.0 c.in-Some.ensures.items
+  looked (pairs_of c.args.equals.now) c.args.index.now c.loop-waiting.progress.known.items c.loop-waiting.progress.waits.items c.look_at.new.waits.items
+      c.loop-waiting.progress.places.items
+      c.look_at.new.places.items c.loop-waiting.progress.done c.loop-waiting.hand.items c.pop.new.self.items c.in-Some.waiting c.loop-waiting.invariant.0
+      c.in-Some.ensures.items
       (rw c.as_slice.ensures.value at c.in_ok-look_at.ensures),
   c.loop-waiting.invariant.1,
 )

@@ -2,7 +2,7 @@ use Rattle.std.proofs.Common.{◌≡◌, ap, ◌∙◌}
 use Rattle.asm_model.specs.AtLine.{with_names}
 use Rattle.asm_model.specs.Entries.{equal_entry}
 use Rattle.asm_model.specs.Meaning.{meaning}
-use Rattle.asm_names.specs.Lines.{line_of}
+use Rattle.asm_names.specs.PlacedLines.{line_of}
 use Rattle.asm_names.specs.Owing.{owed_of}
 use Rattle.asm_names.specs.Source.{IsEntryOf}
 use Rattle.asm_names.proofs.CallLemmas.{if_ok_more}

@@ -5,7 +5,8 @@ use Rattle.asm_names.proofs.values.literal_at.Goals as goal
 
 pub returns-then-is_settled : goal.returns-then-is_settled
 returns-then-is_settled c =
-    sees_settled (seen_names c.args.seen.now) c.args.e.now.items c.value_seen-value.result c.value_seen-value.ensures (sym c.is_settled.ensures ∙ c.if-is_settled.true)
+    sees_settled (seen_names c.args.seen.now) c.args.e.now.items c.value_seen-value.result c.value_seen-value.ensures
+    (sym c.is_settled.ensures ∙ c.if-is_settled.true)
 
 pub returns : goal.returns
 returns c =

@@ -4,5 +4,6 @@ use Rattle.asm_reading.proofs.says.with_operation.Goals as goal
 
 pub returns : goal.returns
 returns c =
-    operation_said (ReadsBy c.args.thumb) c.args.line.now c.args.label c.args.operation c.args.tokens.now c.as_slice-text.result.now c.in_ok-label.label c.in_ok-what.what
+    operation_said (ReadsBy c.args.thumb) c.args.line.now c.args.label c.args.operation c.args.tokens.now c.as_slice-text.result.now c.in_ok-label.label
+    c.in_ok-what.what
     c.both.result c.statement.result c.as_slice-text.ensures c.in_ok-label.ensures c.in_ok-what.ensures c.both.ensures c.statement.ensures

@@ -1,7 +1,7 @@
 use Rattle.std.proofs.Common.{◌≡◌, length}
 use Rattle.asm_model.specs.Symbols.{listed_behind, words_symbols}
-use Rattle.said_model.specs.Said.{AllRead}
-use Rattle.asm_names.specs.Lines.{line_of}
+use Rattle.asm_model.specs.Said.{AllRead}
+use Rattle.asm_names.specs.PlacedLines.{line_of}
 use Rattle.asm_units.proofs.needs.add_words.Given as goal
 
 abbrev pub invariant-operands : goal.invariant-operands

@@ -7,8 +7,11 @@ lines-init c = rw c.new-outer.ensures.items (begun c.args.opening c.args.visits 
 
 pub returns-then-at-visits : goal.returns-then-at-visits
 returns-then-at-visits c =
-    let l = c.index-lines-at in
-    (l.result, line_at _ _ _ _ _ _ c.lines.invariant l.result c.lines-test.true l.is, too_many _ _ _ _ _ _ c.lines.invariant l.result c.lines-test.true l.is c.if-at-visits.true)
+    let l = c.index-lines-at in (
+      l.result,
+      line_at _ _ _ _ _ _ c.lines.invariant l.result c.lines-test.true l.is,
+      too_many _ _ _ _ _ _ c.lines.invariant l.result c.lines-test.true l.is c.if-at-visits.true,
+    )
 
 pub returns-in-Turns : goal.returns-in-Turns
 returns-in-Turns c =
@@ -25,14 +28,19 @@ returns-in-Closes c =
 pub returns-in-Unpaired : goal.returns-in-Unpaired
 returns-in-Unpaired c =
     let l = c.index-lines-at in
-    let left = c.lines.invariant.left in
-    (l.result, line_at _ _ _ _ _ _ c.lines.invariant l.result c.lines-test.true l.is, unpaired _ _ _ _ _ _ c.lines.invariant l.result c.lines-test.true l.is (omega (arith, left, c.if-at-visits.false)) (rw c.in-Unpaired.is at c.in_ok-pass.ensures))
+    let left = c.lines.invariant.left in (
+      l.result,
+      line_at _ _ _ _ _ _ c.lines.invariant l.result c.lines-test.true l.is,
+      unpaired _ _ _ _ _ _ c.lines.invariant l.result c.lines-test.true l.is (omega (arith, left, c.if-at-visits.false))
+          (rw c.in-Unpaired.is at c.in_ok-pass.ensures),
+    )
 
 pub lines-preserved : goal.lines-preserved
 lines-preserved c =
     let l = c.index-lines-at in
     let left = c.lines.invariant.left in
-    stays _ _ _ _ _ _ c.lines.invariant l.result c.lines-test.true l.is (omega (arith, left, c.if-at-visits.false)) _ _ (rw c.in-Stays.is at c.in_ok-pass.ensures)
+    stays _ _ _ _ _ _ c.lines.invariant l.result c.lines-test.true l.is (omega (arith, left, c.if-at-visits.false)) _ _
+    (rw c.in-Stays.is at c.in_ok-pass.ensures)
 
 pub returns : goal.returns
 returns c = endless _ _ _ _ _ _ c.lines.invariant c.lines-test.false

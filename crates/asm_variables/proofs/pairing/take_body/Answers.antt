@@ -7,26 +7,35 @@ lines-init c = begun c.args.visits c.args.lines.now
 
 pub returns-then-at-visits : goal.returns-then-at-visits
 returns-then-at-visits c =
-    let l = c.index-lines-at in
-    (l.result, line_at _ _ _ c.lines.invariant l.result c.lines-test.true l.is, too_many _ _ _ c.lines.invariant l.result c.lines-test.true l.is c.if-at-visits.true)
+    let l = c.index-lines-at in (
+      l.result,
+      line_at _ _ _ c.lines.invariant l.result c.lines-test.true l.is,
+      too_many _ _ _ c.lines.invariant l.result c.lines-test.true l.is c.if-at-visits.true,
+    )
 
 pub returns-in-Ends : goal.returns-in-Ends
 returns-in-Ends c =
     let l = c.index-lines-at in
     let left = c.lines.invariant.left in
-    whole _ _ _ c.lines.invariant l.result c.lines-test.true l.is (omega (arith, left, c.if-at-visits.false)) c.part_of.result (c.part_of.ensures l.result _ _ _) c.in-Ends.is
+    whole _ _ _ c.lines.invariant l.result c.lines-test.true l.is (omega (arith, left, c.if-at-visits.false)) c.part_of.result
+    (c.part_of.ensures l.result _ _ _) c.in-Ends.is
 
 pub returns-in-Nested : goal.returns-in-Nested
 returns-in-Nested c =
     let l = c.index-lines-at in
-    let left = c.lines.invariant.left in
-    (l.result, line_at _ _ _ c.lines.invariant l.result c.lines-test.true l.is, nested _ _ _ c.lines.invariant l.result c.lines-test.true l.is (omega (arith, left, c.if-at-visits.false)) c.part_of.result (c.part_of.ensures l.result _ _ _) c.in-Nested.is)
+    let left = c.lines.invariant.left in (
+      l.result,
+      line_at _ _ _ c.lines.invariant l.result c.lines-test.true l.is,
+      nested _ _ _ c.lines.invariant l.result c.lines-test.true l.is (omega (arith, left, c.if-at-visits.false)) c.part_of.result
+          (c.part_of.ensures l.result _ _ _) c.in-Nested.is,
+    )
 
 pub lines-preserved : goal.lines-preserved
 lines-preserved c =
     let l = c.index-lines-at in
     let left = c.lines.invariant.left in
-    stays _ _ _ c.lines.invariant l.result c.lines-test.true l.is (omega (arith, left, c.if-at-visits.false)) c.part_of.result (c.part_of.ensures l.result _ _ _) c.in-Stays.is
+    stays _ _ _ c.lines.invariant l.result c.lines-test.true l.is (omega (arith, left, c.if-at-visits.false)) c.part_of.result
+    (c.part_of.ensures l.result _ _ _) c.in-Stays.is
 
 pub returns : goal.returns
 returns c = endless _ _ _ c.lines.invariant c.lines-test.false

@@ -8,4 +8,5 @@ returns-then-dropped-eq0 c = rw c.if-dropped-eq0.true c.put.ensures
 
 pub returns : goal.returns
 returns c =
-    λ s bs has p. dropped_byte (text_named s) c.args.dropped (c.args.dropped - 1) (c.args.first, c.args.standing) bs c.args.out.now.items (omega (arith, c.if-dropped-eq0.false))
+    λ s bs has p. dropped_byte (text_named s) c.args.dropped (c.args.dropped - 1) (c.args.first, c.args.standing) bs c.args.out.now.items
+    (omega (arith, c.if-dropped-eq0.false))

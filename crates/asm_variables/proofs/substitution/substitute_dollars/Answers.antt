@@ -25,5 +25,6 @@ bytes-preserved c =
       inside_one _ _ _ _ c.in-Some.ensures,
       λ s has.
           passed_line s _ _ _ _ _ _ (c.bytes.invariant.1 s has) c.in-Some.first rest c.in-Some.ensures at.0 at.1 c.standing_at-begun.ensures
-          c.in_ok-taken.field-0 c.in-Some-2.taken c.pass.new.out.items c.in-Some-2.is (c.in_ok-taken.ensures s (standing_from at.0 at.1 rest) has (plain_standing at.0 at.1 rest)),
+          c.in_ok-taken.field-0 c.in-Some-2.taken c.pass.new.out.items c.in-Some-2.is
+          (c.in_ok-taken.ensures s (standing_from at.0 at.1 rest) has (plain_standing at.0 at.1 rest)),
     )

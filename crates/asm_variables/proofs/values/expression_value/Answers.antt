@@ -20,6 +20,7 @@ returns c =
     (λ s r.
     let meant =
     value_of_items c.args.visible s c.args.e.now c.requires _
-    (sym c.in_default.is ∙ c.items_fault.ensures s r ∙ ap (λ (is : List ExprItem). told_kind (items_kinds (entries_in c.args.visible s) is)) c.as_slice.ensures) in
+    (sym c.in_default.is ∙ c.items_fault.ensures s r ∙ ap (λ (is : List ExprItem). told_kind (items_kinds (entries_in c.args.visible s) is))
+    c.as_slice.ensures) in
     c.told_value.ensures (value_with s (entries_in c.args.visible s) (Ok c.args.e.now))
     (rw meant (c.value_known.ensures s r c.requires.parts c.requires.tree c.requires.spelled c.requires.are)))

@@ -8,5 +8,6 @@ use Rattle.asm_expr.proofs.known.KnownNames.find.Goals as goal
 pub returns : goal.returns
 returns c =
     c.entry_in.ensures ∙ ap (λ (l : List LaidName). entry l c.copied-place.result) c.as_slice.ensures.value
-    ∙ found_there c.self.inside.entries.items c.self.inside.places c.args.name.now c.copied-place.result c.self.invariant (c.copied-place.ensures ∙ c.get.ensures.value)
+    ∙ found_there c.self.inside.entries.items c.self.inside.places c.args.name.now c.copied-place.result c.self.invariant
+    (c.copied-place.ensures ∙ c.get.ensures.value)
     ∙ ap (named_in c.args.name.now) c.self.view_is

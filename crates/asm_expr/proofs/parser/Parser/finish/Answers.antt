@@ -17,7 +17,8 @@ returns-then-is_empty c =
     let stack = c.settle.new.stack in
     let none : vec_len stack ≡ 0 = eqb-true (vec_len stack) 0 (sym c.is_empty.ensures ∙ c.if-is_empty.true) in
     at_operator c.args.self.due c.args.self.items.items (reverse c.args.self.stack.items) c.in-Operator.is
-    ∙ emptied_some c.settle.new.items.items stack.items (settled 6 c.args.self.items.items (reverse c.args.self.stack.items)) c.in_ok-settle.ensures (omega (arith, stack.ok.0))
+    ∙ emptied_some c.settle.new.items.items stack.items (settled 6 c.args.self.items.items (reverse c.args.self.stack.items)) c.in_ok-settle.ensures
+    (omega (arith, stack.ok.0))
 
 pub returns : goal.returns
 unfolding finished
@@ -25,4 +26,5 @@ returns c =
     let stack = c.settle.new.stack in
     let some = eqb-false (vec_len stack) 0 (sym c.is_empty.ensures ∙ c.if-is_empty.false) in
     at_operator c.args.self.due c.args.self.items.items (reverse c.args.self.stack.items) c.in-Operator.is
-    ∙ emptied_none c.settle.new.items.items stack.items (settled 6 c.args.self.items.items (reverse c.args.self.stack.items)) c.in_ok-settle.ensures (omega (arith, stack.ok.0, some))
+    ∙ emptied_none c.settle.new.items.items stack.items (settled 6 c.args.self.items.items (reverse c.args.self.stack.items)) c.in_ok-settle.ensures
+    (omega (arith, stack.ok.0, some))

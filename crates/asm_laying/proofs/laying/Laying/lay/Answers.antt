@@ -14,7 +14,8 @@ settle-requires-clause-there c =
 pub settle-requires-clause-extent : goal.settle-requires-clause-extent
 settle-requires-clause-extent c =
     let reach = c.in_ok-location.ensures c.args.declared.now c.requires.may.before c.requires.may.laying in
-    fits_all c.extents_are_placeable.ensures (names_behind c.args.declared.now c.args.statement.now c.requires.may.before) c.args.statement.now.what c.in_ok-found.found.extent
+    fits_all c.extents_are_placeable.ensures (names_behind c.args.declared.now c.args.statement.now c.requires.may.before) c.args.statement.now.what
+    c.in_ok-found.found.extent
     (c.in_ok-found.ensures c.requires.may.before reach.location reach.at.names (c.as_ref.ensures.value ∙ c.in_ok-own.ensures)).needed.extent_is
 
 pub returns : goal.returns

@@ -10,7 +10,8 @@ use Rattle.asm_laying.proofs.laying.Laying.settle.Goals as goal
 pub returns-in-Err : goal.returns-in-Err
 returns-in-Err c = λ d before reach found marked owned.
     told_no_extent d c.args.statement.now before c.args.location.now c.in-Err.kind c.args.map c.args.equal
-    (subst (λ (e : Result Extent LineKind). AreNeeded d c.args.location.now (names_behind d c.args.statement.now before) c.args.statement.now e c.args.map c.args.equal) c.in-Err.is found)
+    (subst (λ (e : Result Extent LineKind). AreNeeded d c.args.location.now (names_behind d c.args.statement.now before) c.args.statement.now e c.args.map
+    c.args.equal) c.in-Err.is found)
 
 pub settle_map-requires-clause-extent : goal.settle_map-requires-clause-extent
 settle_map-requires-clause-extent c = subst (λ (e : Result Extent LineKind). OkExtent e) c.in-Ok.is c.requires.extent
@@ -18,4 +19,5 @@ settle_map-requires-clause-extent c = subst (λ (e : Result Extent LineKind). Ok
 pub returns-in-Ok : goal.returns-in-Ok
 returns-in-Ok c = λ d before reach found marked owned.
     c.settle_map.ensures d before reach
-    (subst (λ (e : Result Extent LineKind). AreNeeded d c.args.location.now (names_behind d c.args.statement.now before) c.args.statement.now e c.args.map c.args.equal) c.in-Ok.is found) marked owned
+    (subst (λ (e : Result Extent LineKind). AreNeeded d c.args.location.now (names_behind d c.args.statement.now before) c.args.statement.now e c.args.map
+    c.args.equal) c.in-Ok.is found) marked owned

@@ -21,13 +21,15 @@ returns c = λ names settled all before states h m.
     let t : Tells d l before c.lay.new.self c.in_ok-laid.laid = c.in_ok-laid.ensures before h.lays in
     let n = numbers s.what l c.in_ok-laid.laid.number t.number in
     let marked : HasMark marks c.args.self.now.equals circle = subst (λ k. HasMark marks k circle) (sym h.counted) m.mark in
-    let checks_line : IsChecksLine s c.in_ok-laid.laid.area c.in_ok-laid.laid.thumb c.is_thumb-thumb_area.result c.in_ok-laid.laid.number c.take_mark-circular.result settled all l before = record {
+    let checks_line : IsChecksLine s c.in_ok-laid.laid.area c.in_ok-laid.laid.thumb c.is_thumb-thumb_area.result c.in_ok-laid.laid.number
+    c.take_mark-circular.result settled all l before = record {
       said = refl;
       stands = sym t.area;
       state = sym t.thumb;
       within = c.is_thumb-thumb_area.ensures all states;
       aligned = n.exponent_is;
-      known = mark_is settled marks c.args.self.now.equals (defined_by s) (statements_of before) c.take_mark-circular.result (rw c.as_slice.ensures.value at c.take_mark-circular.ensures.mark) marked;
+      known = mark_is settled marks c.args.self.now.equals (defined_by s) (statements_of before) c.take_mark-circular.result
+          (rw c.as_slice.ensures.value at c.take_mark-circular.ensures.mark) marked;
     } in
     let registers_line : IsRegistersLine s c.in_ok-laid.laid.thumb c.in_ok-laid.laid.number c.args.outline.now.names l = record {
       said = refl;
@@ -40,11 +42,14 @@ returns c = λ names settled all before states h m.
     record {
       tells = t;
       told = c.first_told.ensures ∙ rw (checked, named) refl;
-      checked = λ none. c.in_ok-checked.ensures.behind settled all l before h.checked checks_line (none_first c.in_ok-checked.checked c.in_ok-named.named (sym none ∙ c.first_told.ensures));
-      named = λ none. c.in_ok-named.ensures.behind names l before h.named registers_line (none_second c.in_ok-checked.checked c.in_ok-named.named (sym none ∙ c.first_told.ensures));
+      checked = λ none. c.in_ok-checked.ensures.behind settled all l before h.checked checks_line
+          (none_first c.in_ok-checked.checked c.in_ok-named.named (sym none ∙ c.first_told.ensures));
+      named = λ none. c.in_ok-named.ensures.behind names l before h.named registers_line
+          (none_second c.in_ok-checked.checked c.in_ok-named.named (sym none ∙ c.first_told.ensures));
       within = c.is_thumb-thumb_area.ensures all states ∙ ap (λ (o : Option ℕ). in_thumb_area o all) t.area;
       begun = refl;
       kept = refl;
-      counted = count_is settled marks c.args.self.now.equals c.take_mark-circular.new.equals (defined_by s) (statements_of before) (rw c.as_slice.ensures.value at c.take_mark-circular.ensures.count) marked
+      counted = count_is settled marks c.args.self.now.equals c.take_mark-circular.new.equals (defined_by s) (statements_of before)
+          (rw c.as_slice.ensures.value at c.take_mark-circular.ensures.count) marked
           ∙ ap (λ k. k + length circle) h.counted ∙ sym (length-append (circles_in settled (statements_of before)) circle);
     }

@@ -10,4 +10,5 @@ returns-clause-more g c =
 pub returns-clause-found : goal.returns-clause-found
 returns-clause-found g c =
     rw (← c.self.view_is)
-    (found_more c.self.inside.entries.entries c.insert.new.self.entries c.args.name.now c.in_ok-name.name c.args.value c.in_ok-name.ensures c.in_ok-insert.ensures.updates.0)
+    (found_more c.self.inside.entries.entries c.insert.new.self.entries c.args.name.now c.in_ok-name.name c.args.value c.in_ok-name.ensures
+    c.in_ok-insert.ensures.updates.0)

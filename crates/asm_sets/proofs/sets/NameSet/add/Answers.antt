@@ -12,7 +12,8 @@ returns-clause-fresh c =
 
 pub returns-clause-more : goal.returns-clause-more
 returns-clause-more c =
-    rw (← c.self.view_is) (added c.self.inside.names.keys c.insert.new.self.keys c.args.name.now c.in_ok-name.name c.in_ok-name.ensures c.in_ok-fresh.ensures.keys)
+    rw (← c.self.view_is) (added c.self.inside.names.keys c.insert.new.self.keys c.args.name.now c.in_ok-name.name c.in_ok-name.ensures
+    c.in_ok-fresh.ensures.keys)
 
 pub returns-clause-have : goal.returns-clause-have
 returns-clause-have c = λ q.

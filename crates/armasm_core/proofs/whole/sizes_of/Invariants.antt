@@ -1,6 +1,0 @@
-use Rattle.std.proofs.Common.{◌≡◌, take, map}
-use Rattle.asm_layout.specs.declared.laid.LaidArea.{LaidArea}
-use Rattle.armasm_core.proofs.whole.sizes_of.Given as goal
-
-abbrev pub invariant-areas : goal.invariant-areas
-invariant-areas l = l.sizes.items ≡ map (λ (a : LaidArea). a.size) (take l.area-index l.areas)

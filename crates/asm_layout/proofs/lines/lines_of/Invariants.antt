@@ -1,6 +1,0 @@
-use Rattle.std.proofs.Common.{take}
-use Rattle.asm_layout.specs.Lines.{AreLinesOf}
-use Rattle.asm_layout.proofs.lines.lines_of.Given as goal
-
-abbrev pub invariant-laid : goal.invariant-laid
-invariant-laid l = AreLinesOf (take l.statement-index l.laid) l.lines.items

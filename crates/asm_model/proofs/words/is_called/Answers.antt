@@ -1,5 +1,0 @@
-use Rattle.asm_model.proofs.WordLemmas.{called}
-use Rattle.asm_model.proofs.words.is_called.Goals as goal
-
-pub returns : goal.returns
-returns c = called c.args.name.now c.args.word.now c.eq_ignore_ascii_case.result c.eq_ignore_ascii_case.ensures.test

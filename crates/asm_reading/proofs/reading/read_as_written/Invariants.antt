@@ -1,6 +1,0 @@
-use Rattle.std.proofs.Common.{take}
-use Rattle.asm_reading.proofs.ReadLemmas.{IsWrittenTo}
-use Rattle.asm_reading.proofs.reading.read_as_written.Given as goal
-
-abbrev pub invariant-loop-line : goal.invariant-loop-line
-invariant-loop-line l = IsWrittenTo (take l.line-index l.lines) l.thumb l.reading
