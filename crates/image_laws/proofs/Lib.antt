@@ -11,3 +11,4 @@ pub mod AifMoved
 pub mod Joined
 pub mod Placed
 pub mod Rows
+pub mod AifFileLemmas

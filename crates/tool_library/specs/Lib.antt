@@ -1,3 +1,4 @@
 -- What the clauses of the crate cite.
 pub mod Libraries
 pub mod Linkables
+pub mod Lists

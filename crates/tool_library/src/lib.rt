@@ -6,8 +6,11 @@ pub mod create;
 pub mod ends;
 pub mod extract;
 mod linkables;
+pub mod list;
+pub mod listings;
 pub mod members;
 
 pub use crate::create::create_library;
 pub use crate::extract::{extract_member, list_members};
 pub use crate::linkables::{Linkable, read_linkable};
+pub use crate::list::list_file;

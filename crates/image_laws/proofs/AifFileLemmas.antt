@@ -21,7 +21,7 @@ use Rattle.link_model.specs.declared.images.Image.{Image}
 use Rattle.link_model.specs.declared.placing.Region.{Region}
 use Rattle.aif_image.specs.Files as files
 use Rattle.aif_image.specs.Files.{first_words, header_words, loaded}
-use Rattle.aif_laws.specs.Laws.{FixedFile, IsOfPlan, RelocatableFile}
+use Rattle.image_laws.specs.AifFiles.{FixedFile, IsOfPlan, RelocatableFile}
 
 -- ---- sizes
 

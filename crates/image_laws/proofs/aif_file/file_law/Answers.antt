@@ -1,5 +1,5 @@
-use Rattle.aif_laws.proofs.FileLemmas.{fixed_file, relocatable_file}
-use Rattle.aif_laws.proofs.laws.file_law.Goals as goal
+use Rattle.image_laws.proofs.AifFileLemmas.{fixed_file, relocatable_file}
+use Rattle.image_laws.proofs.aif_file.file_law.Goals as goal
 
 pub returns-clause-fixed : goal.returns-clause-fixed
 returns-clause-fixed c = fixed_file

@@ -2,9 +2,9 @@ use Rattle.std.proofs.Common.{ℕ, List, [], ◌∷◌, Result, Ok, ap, refl}
 use Rattle.sdt_fault.specs.declared.refusal.Refusal.{Refusal}
 use Rattle.chunk_file.specs.Reading.{◌>>=◌}
 use Rattle.tool_answers.specs.Outcomes.{Outcome, OfOne, prints_only}
-use Rattle.tool_listing.specs.Lists.{listing, listing_of}
+use Rattle.tool_library.specs.Lists.{listing, listing_of}
 use Rattle.tool_library.proofs.AnswerLemmas.{one_unread, refused, printed, asked_of_one}
-use Rattle.tool_listing.proofs.list.list_file.Goals as goal
+use Rattle.tool_library.proofs.list.list_file.Goals as goal
 
 outcome : List ℕ → Result Outcome Refusal
 outcome shown = Ok (prints_only shown)

@@ -2,15 +2,15 @@
 
 ghost use Rattle.std.specs.Prelude.{◌≡◌, ◌∷◌, [], ℕ, List as Items};
 ghost use Rattle.tool_answers.specs.Outcomes.{Answers, OfOne};
-ghost use Rattle.tool_listing.specs.Lists.{listing_of, lists};
+ghost use Rattle.tool_library.specs.Lists.{listing_of, lists};
 
+use crate::ends::{end_answer, fault_answer};
 use crate::listings::listing;
 use sdt_fault::Text;
 use sdt_fault::answer::Answer;
 use sdt_outside::{Sink, Store};
 use std::alloc::Global;
 use tool_answers::{print, read_input};
-use tool_library::ends::{end_answer, fault_answer};
 
 /// Prints the listing of an object, of a library, of an ELF executable or of an ARM image file.
 pub fn list_file<S: Store, K: Sink>(

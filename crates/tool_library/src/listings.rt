@@ -2,8 +2,9 @@
 
 ghost use Rattle.std.specs.Prelude.{◌≡◌, ◌<◌, ◌^◌, length};
 ghost use Rattle.chunk_file.specs.Reading.{Gives};
-ghost use Rattle.tool_listing.specs.Lists as lists;
+ghost use Rattle.tool_library.specs.Lists as lists;
 
+use crate::members::named_fault;
 use aif_image::read_aif;
 use alf_archive::{is_library, read_archive};
 use aof_object::read_object;
@@ -13,7 +14,6 @@ use sdt_fault::answer::Fault;
 use sdt_listing::{list_aif, list_archive, list_elf, list_object};
 use sdt_word::word_at;
 use std::alloc::Global;
-use tool_library::members::named_fault;
 
 fn object_listing(alloc: Global, name: &Text, bytes: &[u8]) -> Result<Text, Fault>
     requires { length bytes.now < 2 ^ 32 }

@@ -1,6 +1,6 @@
 //! Laws of the definitions, each proved as the contract of an empty function.
 
-ghost use Rattle.aif_laws.specs.Laws.{FixedFile, RelocatableFile};
+ghost use Rattle.image_laws.specs.AifFiles.{FixedFile, RelocatableFile};
 
 /// Of the image of a plan, as an ARM image file, what is written is the file that the plan has.
 pub fn file_law()

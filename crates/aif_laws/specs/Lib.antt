@@ -1,2 +1,0 @@
--- What the clauses of the crate cite.
-pub mod Laws
