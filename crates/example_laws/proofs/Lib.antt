@@ -1,0 +1,3 @@
+mod AcceptLemmas
+mod FaultLemmas
+mod LineLemmas
