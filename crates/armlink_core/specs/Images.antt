@@ -112,7 +112,8 @@ abbrev pub scatter_linking : List ℕ → Option (List Range32) → List (Named 
 scatter_linking text ram os = described (scatter_of text) ram os
 
 -- the answer of a call is what the linked objects give, or memory was refused
-abbrev pub Links : {A : Type 0} → List (Named Object) → List (Named Archive) → (List (Named Object) → Result A Refusal) → Result A Fault → Type 0
+abbrev pub Links : {A : Type 0} → List (Named Object) → List (Named Archive) → (List (Named Object) → Result A Refusal)
+    → Result A Fault → Type 0
 Links objects archives gives (Ok a) = (os : List (Named Object)) × AreLinked objects archives os × (gives os ≡ Ok a)
 Links objects archives gives (Err fault.NoMemory) = Unit {0}
 Links objects archives gives (Err (fault.Refused r)) = (os : List (Named Object)) × AreLinked objects archives os × (gives os ≡ Err r)

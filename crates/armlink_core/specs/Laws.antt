@@ -17,11 +17,13 @@ pub record IsSized (f : ImageKind) (i : Image) : Type 0 where
   pub regions : AllByRecursion (λ r. r.length + r.zero ≤ 2 ^ 26) i.regions
 
 abbrev pub LinkedSizes : Type 0
-LinkedSizes = (k : Kind) (ram : Option (List Range32)) (os : List (Named Object)) (i : Image) → linking k ram os ≡ Ok i → IsSized (form_of k) i
+LinkedSizes =
+    (k : Kind) (ram : Option (List Range32)) (os : List (Named Object)) (i : Image) → linking k ram os ≡ Ok i → IsSized (form_of k) i
 
 abbrev pub ScatterSizes : Type 0
 ScatterSizes =
-    (text : List ℕ) (ram : Option (List Range32)) (os : List (Named Object)) (i : Image) → scatter_linking text ram os ≡ Ok i → IsSized form.Scatter i
+    (text : List ℕ) (ram : Option (List Range32)) (os : List (Named Object)) (i : Image) → scatter_linking text ram os ≡ Ok i
+    → IsSized form.Scatter i
 
 -- ---- the names that reports call objects by
 

@@ -18,12 +18,12 @@ use Rattle.armsd_core.specs.declared.command.Command.{Command}
 use Rattle.armsd_core.specs.declared.command.Command.TheVariants.{Break, Unbreak, Watch, Unwatch, Step, Go, Regs, Mem, Detach, Quit}
 use Rattle.armsd_core.specs.declared.reason.Reason.{Reason}
 use Rattle.armsd_core.specs.declared.reason.Reason.TheVariants as reason
-use Rattle.armsd_core.specs.Carried.{AreChoked}
+use Rattle.armsd_core.specs.Carried.{AreChoked, Lead}
 use Rattle.armsd_core.specs.Goes.{Goes, IsPause, Passes, Steps, begins, counted, halts, is_hit, passes, pauses}
 use Rattle.armsd_core.specs.Points.{is_point}
 use Rattle.armsd_core.specs.Reasons.{lasting, reason_of}
 use Rattle.armsd_core.specs.SessionLaws.{CutOffIsABeginning, IsBeginning, IsShortened}
-use Rattle.armsd_core.specs.Sessions.{CarriesOut, Desk, Does, Fails, FailsIn, FailsOn, IsCutOff, IsUnsaid, Lead, MovesOn, chokes, line_at, moved, untold}
+use Rattle.armsd_core.specs.Sessions.{CarriesOut, Desk, Does, Fails, FailsIn, FailsOn, IsCutOff, IsUnsaid, MovesOn, chokes, line_at, moved, untold}
 use Rattle.armsd_core.proofs.GoLemmas.{counts}
 use Rattle.armsd_core.proofs.SessionLemmas.{one_more}
 

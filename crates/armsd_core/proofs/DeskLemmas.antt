@@ -10,11 +10,11 @@ use Rattle.armsd_core.specs.declared.command.Command.{Command}
 use Rattle.armsd_core.specs.declared.command.Command.TheVariants.{Break, Unbreak, Watch, Unwatch, Step, Go, Regs, Mem, Detach, Quit}
 use Rattle.armsd_core.specs.declared.desk.Notes.{Notes}
 use Rattle.armsd_core.specs.declared.reason.Reason.{Reason}
-use Rattle.armsd_core.specs.Carried.{Makes}
+use Rattle.armsd_core.specs.Carried.{Lead, Makes}
 use Rattle.armsd_core.specs.Desks.{desk_of}
 use Rattle.armsd_core.specs.Goes.{Goes, Steps}
 use Rattle.armsd_core.specs.Reasons.{lasting}
-use Rattle.armsd_core.specs.Sessions.{Desk, Fails, FailsIn, FailsOn, IsUnsaid, Lead, MovesOn, Says, Sets, chokes, line_at, moved, untold}
+use Rattle.armsd_core.specs.Sessions.{Desk, Fails, FailsIn, FailsOn, IsUnsaid, MovesOn, Says, Sets, chokes, line_at, moved, untold}
 use Rattle.armsd_core.specs.Texts.{memory_text, registers_text, stop_line}
 use Rattle.armsd_core.proofs.GoLemmas.{choked_up}
 

@@ -17,7 +17,8 @@ use Rattle.armsd_core.specs.declared.reason.Reason.TheVariants as reason
 use Rattle.armsd_core.specs.Goes.{Goes, IsPause, Passes, Steps, begins, counted, halts, passes, pauses}
 use Rattle.armsd_core.specs.Reasons.{lasting, reason_of}
 use Rattle.armsd_core.specs.SessionLaws.{DetachEndsARun, IsOneRun, OthersLeaveTheMachine, SessionIsOneRun, is_detach, is_move}
-use Rattle.armsd_core.specs.Sessions.{CarriesOut, Desk, Does, Lead, Moves, MovesOn, moved}
+use Rattle.armsd_core.specs.Carried.{Lead}
+use Rattle.armsd_core.specs.Sessions.{CarriesOut, Desk, Does, Moves, MovesOn, moved}
 use Rattle.armsd_core.proofs.GoLemmas.{counts, no_break, no_watch}
 
 -- ---- runs, one behind another

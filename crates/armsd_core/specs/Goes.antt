@@ -39,7 +39,8 @@ pub data Passes (points : List ℕ) (watch : Option Range32) (core : ArmState) (
       → Passes points watch core s (suc n) (text ++ piece) core2 s2
 
 -- A Go of at most so many: all were made; or it pauses behind one; or the machine stops for good.
-pub data Goes (points : List ℕ) (watch : Option Range32) (core : ArmState) (s : State) (most : ℕ) : Reason → ℕ → List ℕ → ArmState → State → Type 0 where
+pub data Goes (points : List ℕ) (watch : Option Range32) (core : ArmState) (s : State) (most : ℕ)
+    : Reason → ℕ → List ℕ → ArmState → State → Type 0 where
   counted : {text : List ℕ} {core1 : ArmState} {s1 : State}
       → Passes points watch core s most text core1 s1 → Goes points watch core s most reason.Count most text core1 s1
   pauses : {n : ℕ} {text : List ℕ} (piece : List ℕ) {core1 core2 : ArmState} {s1 s2 : State} (why : Reason)

@@ -11,7 +11,7 @@ use Rattle.armsd_core.specs.declared.command.Command.TheVariants.{Break, Unbreak
 use Rattle.armsd_core.specs.declared.reason.Reason.{Reason}
 use Rattle.armsd_core.specs.declared.session.DebugEnd.{DebugEnd}
 use Rattle.armsd_core.specs.declared.session.DebugEnd.TheVariants as end
-use Rattle.armsd_core.specs.Carried.{AreChoked}
+use Rattle.armsd_core.specs.Carried.{AreChoked, Lead}
 use Rattle.armsd_core.specs.Goes.{Goes, Steps}
 use Rattle.armsd_core.specs.Points.{without}
 use Rattle.armsd_core.specs.Reasons.{lasting}
@@ -31,10 +31,6 @@ abbrev pub opened : ArmState → State → Desk
 opened core s = record { core = core; bus = s; steps = 0; points = []; watch = None; ended = None }
 
 -- ---- steps
-
--- where steps of a desk may lead, which end for a reason: at most how many, why, how many count, their text, and where
-abbrev pub Lead : Type 1
-Lead = ℕ → Reason → ℕ → List ℕ → ArmState → State → Type 0
 
 -- the desk behind such steps
 abbrev pub moved : Desk → Reason → ℕ → ArmState → State → Desk
@@ -111,7 +107,8 @@ pub record IsUnsaid (text : List ℕ) (d : Desk) (core : ArmState) (s : State) (
   pub part : GotPart before after text
 
 -- steps were made, their text went out whole, and a beginning of their line
-pub record IsUntold (lead : Lead) (most : ℕ) (d : Desk) (core : ArmState) (s : State) (before after : Option (List ℕ)) (rose : Type 0) : Type 0 where
+pub record IsUntold (lead : Lead) (most : ℕ) (d : Desk) (core : ArmState) (s : State) (before after : Option (List ℕ))
+    (rose : Type 0) : Type 0 where
   pub why : Reason
   pub made : ℕ
   pub text : List ℕ
@@ -121,7 +118,8 @@ pub record IsUntold (lead : Lead) (most : ℕ) (d : Desk) (core : ArmState) (s :
   pub line : IsUnsaid (line_at (moved d why made core s) why) (moved d why made core s) core s middle after rose
 
 -- it failed at the text of a step, which is the last, or at the line
-pub data FailsIn (lead : Lead) (most : ℕ) (d : Desk) (core : ArmState) (s : State) (before after : Option (List ℕ)) (rose : Type 0) : Type 0 where
+pub data FailsIn (lead : Lead) (most : ℕ) (d : Desk) (core : ArmState) (s : State) (before after : Option (List ℕ))
+    (rose : Type 0) : Type 0 where
   chokes : (made : ℕ) → AreChoked lead most made core s before after rose → FailsIn lead most d core s before after rose
   untold : IsUntold lead most d core s before after rose → FailsIn lead most d core s before after rose
 
@@ -138,7 +136,8 @@ Fails (Mem a n) d core s before after rose = IsUnsaid (memory_text d.bus.content
 Fails other d core s before after rose = ⊥
 
 -- commands of the session were carried out, their text went out whole, and the sink failed in the next
-pub record IsCutOff (commands : List Command) (d : Desk) (core : ArmState) (s : State) (before after : Option (List ℕ)) (rose : Type 0) : Type 0 where
+pub record IsCutOff (commands : List Command) (d : Desk) (core : ArmState) (s : State) (before after : Option (List ℕ))
+    (rose : Type 0) : Type 0 where
   pub front : List Command
   pub last : Command
   pub rest : List Command

@@ -1,17 +1,15 @@
 //! What a debugger keeps beside the machine and its bus, and its commands one by one.
 
-ghost use Rattle.std.specs.Prelude.{◌≡◌, ◌≤◌, ◌<◌, ◌+◌, ◌^◌, None, [], OnOk, OnErr};
+ghost use Rattle.std.specs.Prelude.{◌≡◌, ◌≤◌, ◌<◌, ◌+◌, ◌^◌, None, []};
 ghost use Rattle.sdt_outside.specs.Counts.{Rose};
-ghost use Rattle.sdt_outside.specs.Sinks.{Got, GotPart};
 ghost use Rattle.arm7_model.specs.Registers.{IsValid, register};
 ghost use Rattle.arm7_bus.specs.Buses.{after_detach};
 ghost use Rattle.arm7_transfers.specs.Ready.{IsReady};
 ghost use Rattle.arm7_transfers.specs.Views.{state_of};
 ghost use Rattle.armsd_core.specs.declared.command.Command.TheVariants.{Step, Go, Regs, Mem, Detach};
-ghost use Rattle.armsd_core.specs.Desks.{Grows, HasRoom, IsDone, desk_of};
+ghost use Rattle.armsd_core.specs.Desks.{Grows, HasRoom, IsCarriedOut, Prints, desk_of};
 ghost use Rattle.armsd_core.specs.Reasons.{lasting};
 ghost use Rattle.armsd_core.specs.Scripts.{IsInRange};
-ghost use Rattle.armsd_core.specs.Sessions.{Fails, IsUnsaid};
 ghost use Rattle.armsd_core.specs.Texts as texts;
 
 use crate::command::Command;
@@ -51,8 +49,8 @@ impl Notes {
 
     /// Prints where the machine is, the steps so far, and why the last ones ended.
     fn print_end<K: Sink>(&self, m: &Machine, sink: &mut K, why: Reason) -> Result<(), SinkError>
-        ensures ok { OnOk result (Got (K.bytes sink.old) (K.bytes sink.new) (texts.stop_line (register m.now.state 15) self.now.steps why)) }
-        ensures failed { OnErr result (Rose (K.faults sink.old) (K.faults sink.new) × GotPart (K.bytes sink.old) (K.bytes sink.new) (texts.stop_line (register m.now.state 15) self.now.steps why)) }
+        ensures prints { Prints (texts.stop_line (register m.now.state 15) self.now.steps why) (K.bytes sink.old) (K.bytes sink.new)
+            (Rose (K.faults sink.old) (K.faults sink.new)) result }
         ensures faults { K.faults sink.old ≤ K.faults sink.new }
     {
         let line = stop_line(pc_of(m), self.steps, why);
@@ -69,8 +67,8 @@ impl Notes {
     ) -> Result<(), SinkError>
         requires { self.old.steps + made < 2 ^ 128 }
         ensures notes { self.new ≡ record self.old { steps = self.old.steps + made; ended = lasting why } }
-        ensures ok { OnOk result (Got (K.bytes sink.old) (K.bytes sink.new) (texts.stop_line (register m.now.state 15) (self.old.steps + made) why)) }
-        ensures failed { OnErr result (Rose (K.faults sink.old) (K.faults sink.new) × GotPart (K.bytes sink.old) (K.bytes sink.new) (texts.stop_line (register m.now.state 15) (self.old.steps + made) why)) }
+        ensures prints { Prints (texts.stop_line (register m.now.state 15) (self.old.steps + made) why) (K.bytes sink.old) (K.bytes sink.new)
+            (Rose (K.faults sink.old) (K.faults sink.new)) result }
         ensures faults { K.faults sink.old ≤ K.faults sink.new }
     {
         self.steps += u128::from(made);
@@ -90,8 +88,9 @@ fn step<K: Sink>(
     requires valid { IsValid m.old.state }
     requires ready { IsReady (state_of base size state touched bus.old) }
     requires few { notes.old.steps + n < 2 ^ 128 }
-    ensures ok { OnOk result (IsDone (Step n) (desk_of notes.old m.old.state (state_of base size state touched bus.old)) (desk_of notes.new m.new.state (state_of base size state touched bus.new)) (K.bytes sink.old) (K.bytes sink.new)) }
-    ensures failed { OnErr result (Fails (Step n) (desk_of notes.old m.old.state (state_of base size state touched bus.old)) m.new.state (state_of base size state touched bus.new) (K.bytes sink.old) (K.bytes sink.new) (Rose (K.faults sink.old) (K.faults sink.new))) }
+    ensures carried { IsCarriedOut (Step n) (desk_of notes.old m.old.state (state_of base size state touched bus.old))
+        (desk_of notes.new m.new.state (state_of base size state touched bus.new)) (K.bytes sink.old) (K.bytes sink.new)
+        (Rose (K.faults sink.old) (K.faults sink.new)) result }
     ensures points { notes.new.points ≡ notes.old.points }
     ensures steps { notes.new.steps ≤ notes.old.steps + n }
     ensures faults { K.faults sink.old ≤ K.faults sink.new }
@@ -119,8 +118,9 @@ fn go<K: Sink>(
     requires valid { IsValid m.old.state }
     requires ready { IsReady (state_of base size state touched bus.old) }
     requires few { notes.old.steps + n < 2 ^ 128 }
-    ensures ok { OnOk result (IsDone (Go n) (desk_of notes.old m.old.state (state_of base size state touched bus.old)) (desk_of notes.new m.new.state (state_of base size state touched bus.new)) (K.bytes sink.old) (K.bytes sink.new)) }
-    ensures failed { OnErr result (Fails (Go n) (desk_of notes.old m.old.state (state_of base size state touched bus.old)) m.new.state (state_of base size state touched bus.new) (K.bytes sink.old) (K.bytes sink.new) (Rose (K.faults sink.old) (K.faults sink.new))) }
+    ensures carried { IsCarriedOut (Go n) (desk_of notes.old m.old.state (state_of base size state touched bus.old))
+        (desk_of notes.new m.new.state (state_of base size state touched bus.new)) (K.bytes sink.old) (K.bytes sink.new)
+        (Rose (K.faults sink.old) (K.faults sink.new)) result }
     ensures points { notes.new.points ≡ notes.old.points }
     ensures steps { notes.new.steps ≤ notes.old.steps + n }
     ensures faults { K.faults sink.old ≤ K.faults sink.new }
@@ -139,8 +139,8 @@ fn go<K: Sink>(
 
 /// Prints the registers.
 fn print_registers<K: Sink>(m: &Machine, sink: &mut K) -> Result<(), SinkError>
-    ensures ok { OnOk result (Got (K.bytes sink.old) (K.bytes sink.new) (texts.registers_text m.now.state)) }
-    ensures failed { OnErr result (Rose (K.faults sink.old) (K.faults sink.new) × GotPart (K.bytes sink.old) (K.bytes sink.new) (texts.registers_text m.now.state)) }
+    ensures prints { Prints (texts.registers_text m.now.state) (K.bytes sink.old) (K.bytes sink.new)
+        (Rose (K.faults sink.old) (K.faults sink.new)) result }
     ensures faults { K.faults sink.old ≤ K.faults sink.new }
 {
     let lines = registers_text(m);
@@ -151,8 +151,8 @@ fn print_registers<K: Sink>(m: &Machine, sink: &mut K) -> Result<(), SinkError>
 fn print_memory<K: Sink>(bus: &Bus, a: u32, n: u32, sink: &mut K) -> Result<(), SinkError>
     requires ready { IsReady (state_of base size state touched bus.now) }
     requires few { n ≤ 256 }
-    ensures ok { OnOk result (Got (K.bytes sink.old) (K.bytes sink.new) (texts.memory_text (state_of base size state touched bus.now).contents a n)) }
-    ensures failed { OnErr result (Rose (K.faults sink.old) (K.faults sink.new) × GotPart (K.bytes sink.old) (K.bytes sink.new) (texts.memory_text (state_of base size state touched bus.now).contents a n)) }
+    ensures prints { Prints (texts.memory_text (state_of base size state touched bus.now).contents a n) (K.bytes sink.old) (K.bytes sink.new)
+        (Rose (K.faults sink.old) (K.faults sink.new)) result }
     ensures faults { K.faults sink.old ≤ K.faults sink.new }
 {
     let line = memory_text(bus, a, n);
@@ -181,8 +181,9 @@ pub fn carry_out<K: Sink>(
     requires range { IsInRange command }
     requires room { HasRoom command notes.old.points }
     requires few { notes.old.steps + 1000000000 < 2 ^ 128 }
-    ensures ok { OnOk result (IsDone command (desk_of notes.old m.old.state (state_of base size state touched bus.old)) (desk_of notes.new m.new.state (state_of base size state touched bus.new)) (K.bytes sink.old) (K.bytes sink.new)) }
-    ensures failed { OnErr result (Fails command (desk_of notes.old m.old.state (state_of base size state touched bus.old)) m.new.state (state_of base size state touched bus.new) (K.bytes sink.old) (K.bytes sink.new) (Rose (K.faults sink.old) (K.faults sink.new))) }
+    ensures carried { IsCarriedOut command (desk_of notes.old m.old.state (state_of base size state touched bus.old))
+        (desk_of notes.new m.new.state (state_of base size state touched bus.new)) (K.bytes sink.old) (K.bytes sink.new)
+        (Rose (K.faults sink.old) (K.faults sink.new)) result }
     ensures grows { Grows command notes.old notes.new }
     ensures faults { K.faults sink.old ≤ K.faults sink.new }
     ensures valid { IsValid m.new.state }

@@ -25,7 +25,8 @@ fn space(line: &[u8]) -> Option<usize>
 
 /// The first word and what follows the space behind it; None where there is no space.
 fn cut(line: &[u8]) -> Option<(&[u8], &[u8])>
-    ensures { MatchOption result (commands.words_of line.now ≡ line.now ∷ []) (λ p. commands.words_of line.now ≡ p.0.now ∷ commands.words_of p.1.now) }
+    ensures { MatchOption result (commands.words_of line.now ≡ line.now ∷ [])
+        (λ p. commands.words_of line.now ≡ p.0.now ∷ commands.words_of p.1.now) }
 {
     match space(line) {
         None => None,

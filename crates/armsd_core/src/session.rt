@@ -34,7 +34,9 @@ pub fn debug_for<K: Sink>(
     requires valid { IsValid m.old.state }
     requires ready { IsReady (state_of base size state touched bus.old) }
     requires good { AreGood 64 (length (state_of base size state touched bus.old).devices) commands.now }
-    ensures session { IsDebugged commands.now (opened m.old.state (state_of base size state touched bus.old)) result m.new.state (state_of base size state touched bus.new) (K.bytes sink.old) (K.bytes sink.new) (Rose (K.faults sink.old) (K.faults sink.new)) }
+    ensures session { IsDebugged commands.now (opened m.old.state (state_of base size state touched bus.old)) result
+        m.new.state (state_of base size state touched bus.new) (K.bytes sink.old) (K.bytes sink.new)
+        (Rose (K.faults sink.old) (K.faults sink.new)) }
     ensures faults { K.faults sink.old ≤ K.faults sink.new }
     ensures valid { IsValid m.new.state }
     ensures ready { IsReady (state_of base size state touched bus.new) }

@@ -77,7 +77,9 @@ pub fn pause(
 pub fn step_for<K: Sink>(m: &mut Machine, bus: &mut Bus, sink: &mut K, steps: u64) -> Made
     requires valid { IsValid m.old.state }
     requires ready { IsReady (state_of base size state touched bus.old) }
-    ensures makes { Makes (Steps m.old.state (state_of base size state touched bus.old)) steps result.reason result.steps m.new.state (state_of base size state touched bus.new) (K.bytes sink.old) (K.bytes sink.new) (Rose (K.faults sink.old) (K.faults sink.new)) }
+    ensures makes { Makes (Steps m.old.state (state_of base size state touched bus.old)) steps result.reason result.steps
+        m.new.state (state_of base size state touched bus.new) (K.bytes sink.old) (K.bytes sink.new)
+        (Rose (K.faults sink.old) (K.faults sink.new)) }
     ensures few { result.steps ≤ steps }
     ensures faults { K.faults sink.old ≤ K.faults sink.new }
     ensures valid { IsValid m.new.state }
@@ -100,7 +102,9 @@ fn go_on<K: Sink>(
 ) -> Option<Made>
     requires valid { IsValid m.old.state }
     requires ready { IsReady (state_of base size state touched bus.old) }
-    ensures turns { GoTurn points.now watch result m.old.state (state_of base size state touched bus.old) m.new.state (state_of base size state touched bus.new) (K.bytes sink.old) (K.bytes sink.new) (Rose (K.faults sink.old) (K.faults sink.new)) }
+    ensures turns { GoTurn points.now watch result m.old.state (state_of base size state touched bus.old)
+        m.new.state (state_of base size state touched bus.new) (K.bytes sink.old) (K.bytes sink.new)
+        (Rose (K.faults sink.old) (K.faults sink.new)) }
     ensures few { IfSome result (λ end. end.steps ≤ 1) }
     ensures faults { K.faults sink.old ≤ K.faults sink.new }
     ensures valid { IsValid m.new.state }
@@ -130,7 +134,9 @@ pub fn go_for<K: Sink>(
 ) -> Made
     requires valid { IsValid m.old.state }
     requires ready { IsReady (state_of base size state touched bus.old) }
-    ensures makes { Makes (Goes points.now watch m.old.state (state_of base size state touched bus.old)) steps result.reason result.steps m.new.state (state_of base size state touched bus.new) (K.bytes sink.old) (K.bytes sink.new) (Rose (K.faults sink.old) (K.faults sink.new)) }
+    ensures makes { Makes (Goes points.now watch m.old.state (state_of base size state touched bus.old)) steps result.reason result.steps
+        m.new.state (state_of base size state touched bus.new) (K.bytes sink.old) (K.bytes sink.new)
+        (Rose (K.faults sink.old) (K.faults sink.new)) }
     ensures few { result.steps ≤ steps }
     ensures faults { K.faults sink.old ≤ K.faults sink.new }
     ensures valid { IsValid m.new.state }

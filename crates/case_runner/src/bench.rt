@@ -1,7 +1,7 @@
 //! The bench on which the steps of a case are carried out.
 
 use crate::cases::{Action, Case, DeviceKind, Fault, Seat, Setting, Step, Wish, failed};
-use crate::devices::{push_state, states_of};
+use crate::devices::{Left, left_of, push_state};
 use crate::words::{first_difference, line_start, push_shown};
 use sdt_fault::answer::{Answer, status_of};
 use sdt_fault::report::text_of;
@@ -30,8 +30,7 @@ struct Outcome {
     line: usize,
     answer: Answer,
     sink: MemorySink,
-    // in the order of the seats
-    devices: Vec<DeviceState>,
+    devices: Vec<Left>,
     answer_wanted: bool,
     text_wanted: bool,
 }
@@ -116,7 +115,7 @@ fn run<T: Tool>(
     Ok(())
 }
 
-// The answer of a command with new devices on these seats, and their states behind it.
+// The answer of a command with new devices on these seats, and what it left of them.
 fn called<T: Tool>(
     alloc: Global,
     tool: &T,
@@ -124,7 +123,7 @@ fn called<T: Tool>(
     store: &mut MemoryStore,
     sink: &mut MemorySink,
     seats: &[Seat],
-) -> Result<(Answer, Vec<DeviceState>), NoMemory> {
+) -> Result<(Answer, Vec<Left>), NoMemory> {
     let mut devices: Vec<Box<dyn Device>> = Vec::new(alloc);
     for seat in seats {
         match seat.kind {
@@ -138,7 +137,7 @@ fn called<T: Tool>(
         }
     }
     let answer = tool.run(alloc, words, store, sink, &mut devices);
-    Ok((answer, states_of(alloc, &mut devices, seats)?))
+    Ok((answer, left_of(alloc, &mut devices, seats)?))
 }
 
 fn set(alloc: Global, bench: &mut Bench, line: usize, setting: &Setting) -> Result<(), Fault> {
@@ -268,6 +267,7 @@ fn want(alloc: Global, bench: &mut Bench, line: usize, wish: &Wish) -> Result<()
             None => Ok(()),
         },
         Wish::Shows { base, state } => want_state(alloc, bench, line, *base, state),
+        Wish::Gone { base } => want_gone(alloc, bench, line, *base),
     }
 }
 
@@ -278,12 +278,8 @@ fn want_state(
     base: u32,
     wanted: &DeviceState,
 ) -> Result<(), Fault> {
-    let Some(outcome) = &bench.outcome else {
-        return Err(failed(alloc, line, "a run in front of it", "none"));
-    };
-    let seat = bench.seats.iter().position(|seat| seat.base == base);
-    let Some(came) = seat.and_then(|seat| outcome.devices.get(seat)) else {
-        return Err(failed(alloc, line, "a device at this address", "none"));
+    let Some(came) = left_at(alloc, bench, line, base)? else {
+        return Err(failed(alloc, line, "a device at this address", "one that is gone"));
     };
     if came == wanted {
         return Ok(());
@@ -293,6 +289,33 @@ fn want_state(
     let mut shown = String::new(alloc);
     push_state(&mut shown, came)?;
     Err(failed(alloc, line, told.as_str(), shown.as_str()))
+}
+
+fn want_gone(alloc: Global, bench: &Bench, line: usize, base: u32) -> Result<(), Fault> {
+    let Some(came) = left_at(alloc, bench, line, base)? else {
+        return Ok(());
+    };
+    let mut shown = String::new(alloc);
+    push_state(&mut shown, came)?;
+    Err(failed(alloc, line, "a device that is gone", shown.as_str()))
+}
+
+// The state in which the last command left the device at an address, if it left one.
+fn left_at(
+    alloc: Global,
+    bench: &Bench,
+    line: usize,
+    base: u32,
+) -> Result<Option<&DeviceState>, Fault> {
+    let Some(outcome) = &bench.outcome else {
+        return Err(failed(alloc, line, "a run in front of it", "none"));
+    };
+    for left in outcome.devices.iter() {
+        if left.base == base {
+            return Ok(left.state.as_ref());
+        }
+    }
+    Err(failed(alloc, line, "a device at this address", "none"))
 }
 
 fn want_status(

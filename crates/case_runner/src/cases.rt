@@ -51,6 +51,8 @@ pub enum Wish {
     Absent { name: Text },
     /// The device at this address is in this state.
     Shows { base: u32, state: DeviceState },
+    /// The device at this address was taken out.
+    Gone { base: u32 },
 }
 
 #[derive(Drop)]

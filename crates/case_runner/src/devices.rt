@@ -10,17 +10,36 @@ use sdt_outside::{Device, DeviceState};
 use sdt_word::Width;
 use std::alloc::Global;
 
-/// The states of the devices on these seats. It reads them and lets a tick go by, so they are used no more.
-pub fn states_of(
+/// What a command left of the device on a seat: its state, where it wasn't taken out.
+#[derive(Drop)]
+pub struct Left {
+    pub base: u32,
+    pub state: Option<DeviceState>,
+}
+
+/// What is left of the devices on these seats. It reads them and lets a tick go by, so they are used no more.
+pub fn left_of(
     alloc: Global,
     devices: &mut Vec<Box<dyn Device>>,
     seats: &[Seat],
-) -> Result<Vec<DeviceState>, NoMemory> {
-    let mut states = Vec::new(alloc);
-    for (device, seat) in devices.iter_mut().zip(seats) {
-        states.push(state_of(device, seat.kind))?;
+) -> Result<Vec<Left>, NoMemory> {
+    let mut left = Vec::new(alloc);
+    for seat in seats {
+        left.push(Left {
+            base: seat.base,
+            state: state_at(devices, *seat),
+        })?;
     }
-    Ok(states)
+    Ok(left)
+}
+
+fn state_at(devices: &mut Vec<Box<dyn Device>>, seat: Seat) -> Option<DeviceState> {
+    for device in devices.iter_mut() {
+        if device.range().base == seat.base {
+            return Some(state_of(device, seat.kind));
+        }
+    }
+    None
 }
 
 fn state_of(device: &mut Box<dyn Device>, kind: DeviceKind) -> DeviceState {

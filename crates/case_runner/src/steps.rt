@@ -25,6 +25,7 @@ enum Verb {
     Same,
     Absent,
     Shows,
+    Gone,
 }
 
 /// The step of a section, or what its line is wanted to be.
@@ -64,6 +65,7 @@ fn verb_of(words: &[String]) -> Option<Verb> {
         "same" => Some(Verb::Same),
         "absent" => Some(Verb::Absent),
         "shows" => Some(Verb::Shows),
+        "gone" => Some(Verb::Gone),
         _ => None,
     }
 }
@@ -86,6 +88,7 @@ fn form_of(verb: Verb) -> &'static str {
         Verb::Absent => "absent NAME",
         Verb::Shows =>
             "shows timer BASE PERIOD CONTROL COUNT up|down or shows uart BASE LAST NUMBER",
+        Verb::Gone => "gone BASE",
     }
 }
 
@@ -120,6 +123,7 @@ fn read_action(
             section.body.as_slice(),
         )?)),
         Verb::Shows => Ok(Action::Want(read_shows(words)?)),
+        Verb::Gone => Ok(Action::Want(read_gone(words)?)),
     }
 }
 
@@ -237,6 +241,13 @@ fn read_shows(words: &[String]) -> Result<Wish, Unread> {
         }
         _ => Err(Unread::Malformed),
     }
+}
+
+fn read_gone(words: &[String]) -> Result<Wish, Unread> {
+    ends_at(words, 2)?;
+    Ok(Wish::Gone {
+        base: small_at(words, 1)?,
+    })
 }
 
 // Whether a line is up.

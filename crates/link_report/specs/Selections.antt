@@ -11,7 +11,7 @@ use Rattle.place_model.specs.declared.scatter.Kind.TheVariants as kind
 use Rattle.place_model.specs.declared.scatter.ScatterLoad.{ScatterLoad}
 use Rattle.place_model.specs.declared.scatter.ScatterRegion.{ScatterRegion}
 use Rattle.place_model.specs.declared.scatter.Selection.{Selection}
-use Rattle.place_model.specs.Assignment.{Offer, best, matches, offers_of, rank}
+use Rattle.place_model.specs.Assignment.{Offer, best, matches, offers_from, rank}
 use Rattle.place_model.specs.Items.{Item}
 use Rattle.link_model.specs.declared.selection.Named.{Named}
 use Rattle.link_items.specs.LinkedItems.{items_in}
@@ -57,8 +57,12 @@ region_unused taken r = flat_map (unused_text taken r.name) r.selections
 abbrev pub load_unused : (Selection → Bool) → ScatterLoad → List ℕ
 load_unused taken l = flat_map (region_unused taken) l.regions
 
--- in the order of the description; without one there are none
+-- of a description's load regions, in its order
+abbrev pub described_text : List ScatterLoad → List (Named Object) → List ℕ
+described_text loads os = flat_map (load_unused (has_taken (offers_from 0 (flat_map (λ l. l.regions) loads)) (items_in os))) loads
+
+-- without a description there are none
 abbrev pub selections_text : Kind → List (Named Object) → List ℕ
-selections_text (kind.Scatter s) os = flat_map (load_unused (has_taken (offers_of (kind.Scatter s)) (items_in os))) s.loads
+selections_text (kind.Scatter s) os = described_text s.loads os
 selections_text (kind.Plain base) os = []
 selections_text (kind.Aif base relocatable) os = []

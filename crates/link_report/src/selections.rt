@@ -5,7 +5,8 @@ ghost use Rattle.std.specs.List.{flat_map, list_any};
 ghost use Rattle.place_model.specs.Assignment.{Offer, offers_from};
 ghost use Rattle.place_model.specs.Items.{Item};
 ghost use Rattle.link_items.specs.LinkedItems.{item_of, items_in, items_of};
-ghost use Rattle.link_report.specs.Keys.{class_by, choice_in, has_key, home_in, is_alike, is_key, same_key, selection_at, AreSought, AreTaken, NoneBelow};
+ghost use Rattle.link_report.specs.Keys.{class_by, choice_in, has_key, home_in, is_alike, is_key, same_key, selection_at};
+ghost use Rattle.link_report.specs.Keys.{AreSought, AreTaken, NoneBelow};
 ghost use Rattle.place_model.specs.declared.scatter.Choice.TheVariants as chosen;
 ghost use Rattle.link_report.specs.Selections as texts;
 ghost use Rattle.link_report.specs.Selections.{has_taken, takes_area};
@@ -371,8 +372,7 @@ fn push_described(
     loads: &[ScatterLoad],
     objects: &[Named<Object>],
 ) -> Result<(), NoMemory>
-    ensures { OnOk result (out.new.items ≡ out.old.items
-        ++ flat_map (texts.load_unused (has_taken (offers_from 0 (flat_map (λ l. l.regions) loads.now)) (items_in objects.now))) loads.now) }
+    ensures { OnOk result (out.new.items ≡ out.old.items ++ texts.described_text loads.now objects.now) }
 {
     let keys = sought_keys(alloc, loads)?;
     let taken = taken_keys(alloc, &keys, objects)?;

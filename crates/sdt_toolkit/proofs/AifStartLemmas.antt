@@ -32,8 +32,8 @@ use Rattle.image_laws.proofs.AifLemmas.{base_small, header_low, no_length_2, ro,
 use Rattle.image_laws.proofs.ViewLemmas.{bytes_size}
 use Rattle.aif_image.specs.Files.{IsAif, aif_file, can_move, header_words, loaded, mover_bytes, parts_bytes, parts_size, ro_size, rw_size, size_in, zero_size}
 use Rattle.aif_image.proofs.WrittenLemmas.{written as reads_back}
-use Rattle.aif_laws.specs.Laws.{IsOfPlan}
-use Rattle.aif_laws.proofs.FileLemmas.{fixed_file, relocatable_file}
+use Rattle.image_laws.specs.AifFiles.{IsOfPlan}
+use Rattle.image_laws.proofs.AifFileLemmas.{fixed_file, relocatable_file}
 use Rattle.link_model.specs.declared.images.Image.{Image}
 use Rattle.link_model.specs.declared.placing.Assigned.{Assigned}
 use Rattle.link_model.specs.declared.placing.Placement.{Placement}

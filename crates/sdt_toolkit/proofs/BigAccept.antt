@@ -10,7 +10,7 @@ use Rattle.asm_model.specs.declared.statements.Statement.{Statement}
 use Rattle.asm_model.specs.Laid.{reversed}
 use Rattle.expand_model.specs.Expands.{Outcome}
 use Rattle.expand_model.specs.Words.{token_width, words_of}
-use Rattle.asm_reading.specs.declared.reading.Reading.{Reading}
+use Rattle.asm_reading.specs.declared.flat_lines.Reading.{Reading}
 use Rattle.armasm_core.specs.Assembling.{says_area, source_faults, FlatsMake, OutcomeMakes}
 use Rattle.source_model.specs.Objects.{IsObject}
 use Rattle.source_model.specs.SourceFaults.{layout_faults, value_faults}

@@ -118,7 +118,7 @@ module _ (law : ImageIsMade) (name : List ℕ) (n : ℕ) (some : 1 ≤ n) (few :
     unlinked_by x links = unlinked x (given (Err x) links)
 
   pub is_built : BigIsAssembled → AssembledFrom (Some (files_of [])) name (big_text n) (Ok (big_object n)) → IsBigImage name n (big_image name (module_of name) n)
-  is_built assembles told = record { assembled = told; only = λ files made h. assembles files name n made few h; linked = link_is; built = built assembles name n few (big_image name (module_of name) n) link_is }
+  is_built assembles told = record { assembled = told; only = λ files made h. assembles files name n made few h; linked = link_is; placed = refl; built = built assembles name n few (big_image name (module_of name) n) link_is }
 
 -- ---- the image of a run
 
@@ -233,7 +233,8 @@ reported law name n some few valid bytes built o seats left begin why words step
     let rose : Type 0 = Rose o.faults o.faults_now in
     let by_exit : PrintsLine (big_line n words steps sum) o.printed o.prints rose a =
     subst (λ (w : Stop). Reports w (big_line n words steps sum) o.printed o.prints rose a) outcome.exits h in
-    let by_words = subst (λ (k : ℕ). PrintsLine (big_line n k steps sum) o.printed o.prints rose a) are by_exit in
-    let by_steps = subst (λ (k : ℕ). PrintsLine (big_line n (n + 3) k sum) o.printed o.prints rose a) outcome.count by_words in
-    let by_sum = subst (λ (k : ℕ). PrintsLine (big_line n (n + 3) (n + 3) k) o.printed o.prints rose a) outcome.total by_steps in
+    let code : ℕ = first_words (big_object n).areas in
+    let by_words = subst (λ (k : ℕ). PrintsLine (big_line n k steps sum) o.printed o.prints rose a) (are ∙ sym (words_are n)) by_exit in
+    let by_steps = subst (λ (k : ℕ). PrintsLine (big_line n code k sum) o.printed o.prints rose a) outcome.count by_words in
+    let by_sum = subst (λ (k : ℕ). PrintsLine (big_line n code (n + 3) k) o.printed o.prints rose a) outcome.total by_steps in
     told name n o seats left (record { image = big_image name (module_of name) n; is_image = built; ran = outcome.ran; written = written }) a by_sum

@@ -125,7 +125,7 @@ module _ (ends : BigRunEnds) (program : ProgramIsEntered) (one : BusRunIsOne) (o
   boots : CanBoot (map_booting i view)
   boots = map_can i view (record { boots = λ board t can. (big_startup n, within, exact board t can); can = start.can })
 
-  outcome : (left : List Seat) (why : Stop) (steps sum : ℕ) → HasEnded i.start n s why steps sum left → IsBigOutcome n i seats left why steps sum
+  outcome : (left : List Seat) (why : Stop) (steps sum : ℕ) → HasEnded i.start n s why steps sum left → IsBigOutcome n i view seats left why steps sum
   outcome left why steps sum h =
       let most : ℕ = 5 * n + 51 in
       let can = can_start o boots h.core h.reset in
@@ -167,8 +167,6 @@ module _ (ends : BigRunEnds) (program : ProgramIsEntered) (one : BusRunIsOne) (o
         count = h.counted ∙ behind_startup h.made (big_startup n) (length front) n count end.count;
         total = h.added ∙ end.sum;
         ran = record {
-          view = view;
-          most = most;
           started = started;
           count = end.count;
           sum = end.sum;

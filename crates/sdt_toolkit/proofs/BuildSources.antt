@@ -1,16 +1,12 @@
--- Where a build asks for files, `asm` of each of its sources asks for the file of its object, unless that is too long.
-use Rattle.std.proofs.Common.{◌≡◌, ◌⊎◌, inl, inr, ℕ, ◌^◌, nat_lt, List, [], ◌∷◌, Bool, true, false, cond, Option, Some, None, Result, Ok, Err, refl, sym, ap, ◌∙◌, subst}
+-- Where a build asks for files, `asm` of each of its sources asks for the file of its object.
+use Rattle.std.proofs.Common.{◌≡◌, ℕ, List, [], ◌∷◌, Bool, true, Option, Some, None, Result, Ok, Err, refl, sym, ap, ◌∙◌, subst}
 use Rattle.std.specs.List.{AllByRecursion}
-use Rattle.sdt_fault.specs.declared.kinds.Quantity.TheVariants.{FileBytes}
 use Rattle.sdt_fault.specs.declared.refusal.Refusal.{Refusal}
-use Rattle.sdt_fault.specs.declared.refusal.Refusal.TheVariants.{TooLarge}
 use Rattle.sdt_outside.specs.Files.{Files, content}
-use Rattle.chunk_file.specs.declared.records.Chunks.{Chunks}
-use Rattle.chunk_file.specs.Chunks.{file_size}
-use Rattle.chunk_file.specs.Chunks as file
 use Rattle.chunk_file.specs.Reading.{◌>>=◌}
 use Rattle.aof_object.specs.declared.records.Object.{Object}
-use Rattle.aof_object.specs.Spelling.{chunks_of, written}
+use Rattle.aof_object.specs.Spelling.{written}
+use Rattle.armasm_core.specs.Assembling.{AssembledFrom}
 use Rattle.tool_words.specs.declared.command.LinkPlacement.{LinkPlacement}
 use Rattle.tool_words.specs.declared.command.LinkPlacement.TheVariants as placement
 use Rattle.tool_words.specs.declared.command.LinkWords.{LinkWords}
@@ -21,17 +17,10 @@ use Rattle.tool_library.specs.declared.linkables.Linkable.TheVariants as input
 use Rattle.bin_image.specs.declared.records.OutFile.{OutFile}
 use Rattle.sdt_toolkit.specs.Builds.{AsksAlone, EachAsksAlone}
 use Rattle.sdt_toolkit.specs.Inputs.{InputBy, InputsAre, IsSource, is_source_name}
-use Rattle.sdt_toolkit.specs.Links.{FilesAsk as WordsFilesAsk, InputsMake, LinkAsks, ReadAsks, WordsAsk, inputs_in, files_read, read_by, text_in, too_large, writes_all}
+use Rattle.sdt_toolkit.specs.Links.{FilesAsk as WordsFilesAsk, InputsMake, LinkAsks, ReadAsks, WordsAsk, inputs_in, files_read, read_by, text_in, writes_all}
 use Rattle.sdt_toolkit.specs.Reads.{Reads}
-use Rattle.sdt_toolkit.specs.Sources.{FilesAsk, FoundAsks, SourceAsks, Spells, TextAsks}
+use Rattle.sdt_toolkit.specs.Sources.{FilesAsk, FoundAsks, IsObjectOf, SourceAsks, Spells, TextAsks}
 use Rattle.sdt_toolkit.proofs.BuildLaws.{Inputs, came, first_is}
-
--- the one refusal of a spelling
-too_long : (c : Chunks) (r : Refusal) → file.written c ≡ Err r → r ≡ too_large
-too_long c r h = by (nat_lt (file_size c) (2 ^ 32)) h where
-  by : (b : Bool) → cond b (Ok (file.spelled c)) (Err (TooLarge FileBytes 0xFFFFFFFF)) ≡ Err r → r ≡ too_large
-  by true k = absurd (let bad : ◌≡◌ {A = Result (List ℕ) Refusal} (Ok (file.spelled c)) (Err r) = k in cc)
-  by false k = let same : ◌≡◌ {A = Result (List ℕ) Refusal} (Err (TooLarge FileBytes 0xFFFFFFFF)) (Err r) = k in cc
 
 module _ (s : Reads) (files : Files) (told : s.told ≡ Some files) where
   -- what the text under a name asks for, the file does
@@ -49,19 +38,19 @@ module _ (s : Reads) (files : Files) (told : s.told ≡ Some files) where
     spelled = sym (ap (λ (x : Result Object Refusal). x >>= written) is ∙ e);
   }
 
-  alone : (name text : List ℕ) (x : Linkable) → content files name ≡ Some text → IsSource s name text (Ok x) → AsksAlone s name
-  alone name text x is h output =
+  alone : (name text : List ℕ) (x : Linkable) → content files name ≡ Some text → IsSource s name text (Ok x) → AsksAlone s files name
+  alone name text x is h =
       let (o, made, as_input) = came h.object (λ (p : Object). Ok (input.Object p)) x h.as_input in
-      by o made (written o) refl
-    where
-      by : (o : Object) → h.object ≡ Ok o → (bytes : Result (List ℕ) Refusal) → written o ≡ bytes
-          → ((out : Outcome) × SourceAsks s name output (Ok out)) ⊎ SourceAsks s name output (Err too_large)
-      by o made (Ok bytes) e =
-          inl (writes_one output bytes, asked name output text (Ok (writes_one output bytes)) is (record { bytes = Ok bytes; spells = spelled_as name text (Ok x) o (Ok bytes) h made e; outcome = refl }))
-      by o made (Err r) e =
-          let long : r ≡ too_large = too_long (chunks_of o) r e in
-          inr (subst (λ (q : Refusal). SourceAsks s name output (Err q)) long
-          (asked name output text (Err r) is (record { bytes = Err r; spells = spelled_as name text (Ok x) o (Err r) h made e; outcome = refl })))
+      record {
+        text = text;
+        object = o;
+        source = is;
+        assembled = subst (λ (t : Option Files). AssembledFrom t name text (Ok o)) told (subst (λ (m : Result Object Refusal). AssembledFrom s.told name text m) made h.assembled);
+        sound = subst (λ (t : Option Files). IsObjectOf t name text o) told (h.sound o made);
+        asks = λ output.
+            asked name output text (written o >>= λ bytes. Ok (writes_one output bytes)) is
+            (record { bytes = written o; spells = spelled_as name text (Ok x) o (written o) h made refl; outcome = refl });
+      }
 
   -- ---- what is read
 
@@ -83,7 +72,7 @@ module _ (s : Reads) (files : Files) (told : s.told ≡ Some files) where
         record { text = text; rest = rest; there = ex; others = eo; all = cc }
 
   each : (names contents : List (List ℕ)) (xs : Inputs) → inputs_of files names ≡ Ok contents → InputsAre s true names contents (Ok xs)
-      → AllByRecursion (λ name. is_source_name name ≡ true → AsksAlone s name) names
+      → AllByRecursion (λ name. is_source_name name ≡ true → AsksAlone s files name) names
   each [] contents xs read h = tt
   each (name ∷ names) contents xs read h =
       let r = read_first name names contents read in
@@ -101,18 +90,18 @@ module _ (s : Reads) (files : Files) (told : s.told ≡ Some files) where
   under_names (placement.Aif base relocatable) names contents h = h
   under_names (placement.Plain base) names contents h = h
 
-  contents_asked : (w : LinkWords) (contents : List (List ℕ)) (out : Outcome) → inputs_of files (files_read w) ≡ Ok contents → LinkAsks s true w contents (Ok out) → EachAsksAlone s w
+  contents_asked : (w : LinkWords) (contents : List (List ℕ)) (out : Outcome) → inputs_of files (files_read w) ≡ Ok contents → LinkAsks s true w contents (Ok out) → EachAsksAlone s files w
   contents_asked w contents out read h =
       let (fs, made, written_are) = came h.made writes_all out h.outcome in
       by fs h.makes.inputs h.makes.judged (subst (InputsMake w (text_in w.placement contents) h.makes.inputs) made h.makes.files)
     where
       by : (fs : List OutFile) (inputs : Result Inputs Refusal) → InputsAre s true w.names (inputs_in w.placement contents) inputs
-          → InputsMake w (text_in w.placement contents) inputs (Ok fs) → EachAsksAlone s w
+          → InputsMake w (text_in w.placement contents) inputs (Ok fs) → EachAsksAlone s files w
       by fs (Err r) judged make = absurd (let bad : ◌≡◌ {A = Result (List OutFile) Refusal} (Ok fs) (Err r) = make in cc)
       by fs (Ok xs) judged make = each w.names (inputs_in w.placement contents) xs (under_names w.placement w.names contents read) judged
 
-  pub sources_asked : (w : LinkWords) (out : Outcome) → WordsAsk s true w (Ok out) → EachAsksAlone s w
+  pub sources_asked : (w : LinkWords) (out : Outcome) → WordsAsk s true w (Ok out) → EachAsksAlone s files w
   sources_asked w out h = by (inputs_of files (files_read w)) refl (subst (λ t. WordsFilesAsk t s true w (Ok out)) told h) where
-    by : (read : Result (List (List ℕ)) Refusal) → inputs_of files (files_read w) ≡ read → ReadAsks s true w read (Ok out) → EachAsksAlone s w
+    by : (read : Result (List (List ℕ)) Refusal) → inputs_of files (files_read w) ≡ read → ReadAsks s true w read (Ok out) → EachAsksAlone s files w
     by (Ok contents) e k = contents_asked w contents out e k
     by (Err r) e k = absurd (let bad : ◌≡◌ {A = Result Outcome Refusal} (Ok out) (Err r) = k in cc)

@@ -15,8 +15,8 @@ use Rattle.tool_words.specs.Rules.{mode_of, verb_fault}
 use Rattle.tool_words.proofs.GoodLemmas.{good_words}
 use Rattle.tool_answers.specs.Outcomes.{Outside, IsLeft, OfAll, OfOne}
 use Rattle.tool_library.specs.Libraries.{created, creates, listed, lists, extracted, extracts}
-use Rattle.tool_listing.specs.Lists.{listing_of}
-use Rattle.tool_listing.specs.Lists as listing
+use Rattle.tool_library.specs.Lists.{listing_of}
+use Rattle.tool_library.specs.Lists as listing
 use Rattle.arm7_bus.specs.Seats.{Seat}
 use Rattle.tool_library.proofs.AnswerLemmas as answers
 use Rattle.tool_run.proofs.BurnLemmas as burns
@@ -43,6 +43,7 @@ unasked (command.InterruptKit output acknowledge) o seats left = ((left.files, l
 unasked (command.MakeBig count output) o seats left = inl (record { outside = left; devices = refl })
 unasked (command.Burn f file output) o seats left = (burns.no_memory f file output o left, refl)
 unasked (command.Run run) o seats left = no_memory run o seats seats (record { outside = left; devices = refl })
+unasked (command.Debug words) o seats left = record { outside = left; devices = refl }
 
 pub refused : (e : WordsFault) (x : Result Command ℕ) (o : Outside) (seats : List Seat) (a : Answer) → Reads (Err e) x → RefusedBy e a → IsLeft o → Commanded x o seats seats a
 unfolding Commanded

@@ -15,8 +15,8 @@ use Rattle.tool_words.specs.declared.command.RunWords.{RunWords}
 use Rattle.tool_words.specs.Commands.{command_of}
 use Rattle.tool_answers.specs.Outcomes.{Outcome, Outside, Answers, IsAsked, OfAll, OfOne, Says}
 use Rattle.tool_library.specs.Libraries.{created, creates, listed, lists, extracted, extracts}
-use Rattle.tool_listing.specs.Lists.{listing_of}
-use Rattle.tool_listing.specs.Lists as listing
+use Rattle.tool_library.specs.Lists.{listing_of}
+use Rattle.tool_library.specs.Lists as listing
 use Rattle.tool_run.specs.Burns.{BurnAnswers}
 use Rattle.tool_run.specs.Runs.{RunAnswers}
 use Rattle.sdt_toolkit.specs.Commands.{Commanded, Ends, IsFirst, RefusesWords}
@@ -26,6 +26,7 @@ use Rattle.sdt_toolkit.specs.Reads.{reads_of}
 use Rattle.sdt_toolkit.specs.Reports.{ReportAnswers, ReportAsked}
 use Rattle.sdt_toolkit.specs.Sources.{AssemblyAnswers, SourceAsks}
 use Rattle.sdt_toolkit.proofs.BigClauses.{big_ends}
+use Rattle.sdt_toolkit.proofs.DebugClauses.{debug_ends}
 
 module _ (x : Result Command ℕ) (o : Outside) (seats : List Seat) where
   says_ends : (asked : Result Outcome Refusal) (inputs : List (List ℕ)) → ((r : Refusal) → asked ≡ Err r → IsFirst x (reads_of o) seats r)
@@ -141,6 +142,7 @@ command_ends (Ok (command.Build words)) o seats left a h =
 command_ends (Ok (command.Report words)) o seats left a h = still (Ok (command.Report words)) o seats left a h.1 (report_ends words o seats a h.0)
 command_ends (Ok (command.InterruptKit output acknowledge)) o seats left a h =
     still (Ok (command.InterruptKit output acknowledge)) o seats left a h.1 (kit_ends output acknowledge o seats a h.0)
+command_ends (Ok (command.Debug words)) o seats left a h = debug_ends words o seats left a h
 command_ends (Ok (command.MakeBig count output)) o seats left a h = big_ends count output o seats left a h
 command_ends (Ok (command.Burn f file output)) o seats left a h =
     still (Ok (command.Burn f file output)) o seats left a h.1 (burn_ends f file output o seats a h.0)

@@ -18,11 +18,12 @@ use Rattle.tool_words.specs.declared.command.RunWords.{RunWords}
 use Rattle.tool_words.specs.Commands.{command_of}
 use Rattle.tool_answers.specs.Outcomes.{Answers, IsAsked, OfAll, OfOne, Outcome, Outside, Says}
 use Rattle.tool_library.specs.Libraries.{created, creates, extracted, extracts, listed, lists}
-use Rattle.tool_listing.specs.Lists.{listing_of}
-use Rattle.tool_listing.specs.Lists as listing
+use Rattle.tool_library.specs.Lists.{listing_of}
+use Rattle.tool_library.specs.Lists as listing
 use Rattle.tool_run.specs.Burns.{BurnAnswers, BurnSays, asked_by}
 use Rattle.tool_run.specs.Images.{IsRead, image_of}
-use Rattle.tool_run.specs.Runs.{IsRefusal, RunAnswers, RunSays}
+use Rattle.tool_run.specs.Openings.{IsRefusal}
+use Rattle.tool_run.specs.Runs.{RunAnswers, RunSays}
 use Rattle.sdt_toolkit.specs.Commands.{Commanded, Ends, FirstOf, IsFirst, RefusesWords}
 use Rattle.sdt_toolkit.specs.Exact.{Exact, IsAccepted, IsCalm, IsRefusedBy}
 use Rattle.sdt_toolkit.specs.Links.{LinkAnswers, OneLinkAsked, WordsAsk, files_read}
@@ -30,8 +31,9 @@ use Rattle.sdt_toolkit.specs.Reads.{reads_of}
 use Rattle.sdt_toolkit.specs.Reports.{OneReportAsked, ReportAnswers, ReportAsked, report_reads}
 use Rattle.sdt_toolkit.specs.Sources.{AssemblyAnswers, OneAsked, SourceAsks}
 use Rattle.sdt_toolkit.proofs.BigClauses.{big_refused}
+use Rattle.sdt_toolkit.proofs.DebugClauses.{debug_refused}
 use Rattle.sdt_toolkit.proofs.EndsLemmas.{ends_of}
-use Rattle.sdt_toolkit.proofs.RunOnce.{no_refusal, refusal_once}
+use Rattle.sdt_toolkit.proofs.RunOnce.{ran_fine, refusal_once}
 
 -- ---- no first defect
 
@@ -113,16 +115,16 @@ module _ (o : Outside) (files : Files) (told : o.before ≡ Some files) (calm : 
       same : h.read ≡ read
       same = by_files h.read h.read_so ∙ sym (by_files read first.1)
 
-      refusal : IsRefusal run read seats r
+      refusal : IsRefusal run.memory run.rom read seats r
       refusal = first.2
 
       go : (b : Answer) → RunSays run read o seats left b → IsRefusedBy r b
-      go answer.Done k = no_refusal run read o seats left _ r k refusal
-      go (answer.Refused q) k = refusal_once run seats q r read k.0 refusal
+      go answer.Done k = ran_fine run read o seats left _ r k refusal
+      go (answer.Refused q) k = refusal_once run.memory run.rom seats q r read k.0 refusal
       go (answer.ReadFault name) k = absurd (calm.reads k.0)
       go (answer.WriteFault name) k = absurd k
-      go answer.SinkFault k = absurd (no_refusal run read o seats left _ r k refusal)
-      go (answer.Stopped why) k = no_refusal run read o seats left why r k.1 refusal
+      go answer.SinkFault k = absurd (ran_fine run read o seats left _ r k refusal)
+      go (answer.Stopped why) k = ran_fine run read o seats left why r k.1 refusal
       go answer.NoMemory k = tt
 
   burn_refused : (f : BurnForm) (file output : List ℕ) (seats : List Seat) (a : Answer) → BurnAnswers f file output o a
@@ -167,6 +169,7 @@ module _ (o : Outside) (files : Files) (told : o.before ≡ Some files) (calm : 
       answers_refused (extracted library member output) (OfOne (extracts library member output)) (library ∷ []) a h.0 first
   refused one link reported (Ok (command.List file)) seats left a h first = answers_refused (listing_of file) (OfOne (listing.lists file)) (file ∷ []) a h.0 first
   refused one link reported (Ok (command.Run run)) seats left a h first = run_refused run seats left a h first
+  refused one link reported (Ok (command.Debug words)) seats left a h first = debug_refused words o seats left files told calm r first a h
   refused one link reported (Ok (command.Link words)) seats left a h first = link_refused link false words a h.0 first
   refused one link reported (Ok (command.Build words)) seats left a h first = link_refused link true words a h.0 first
   refused one link reported (Ok (command.Report words)) seats left a h first = report_refused reported words a h.0 first

@@ -1,6 +1,9 @@
 pub mod CommandLemmas
 mod ContainerLemmas
 mod ContentLemmas
+mod DebugClauses
+mod DebugLemmas
+mod DebugRuns
 mod KitLemmas
 mod AifStartLemmas
 mod AskLemmas

@@ -29,7 +29,8 @@ use Rattle.tool_words.specs.declared.command.Command.TheVariants as command
 use Rattle.tool_words.specs.declared.command.RunWords.{RunWords}
 use Rattle.tool_words.specs.Commands.{command_of}
 use Rattle.tool_run.specs.Images.{IsRead}
-use Rattle.tool_run.specs.Runs.{AreBanks, HasRun, Ran, RunAnswers, RunSays}
+use Rattle.tool_run.specs.Openings.{AreBanks}
+use Rattle.tool_run.specs.Runs.{HasRun, Ran, RunAnswers, RunSays}
 use Rattle.sdt_toolkit.specs.Commands.{Commanded}
 use Rattle.sdt_toolkit.specs.Runs.{AnswerSteps, IsRunBySteps, LinkedRunsStart, RanBySteps, RunsBySteps, StartsAsLinked}
 use Rattle.sdt_toolkit.proofs.RunOnce.{banks_whole}
@@ -89,7 +90,7 @@ module _ (banks : List MemoryBank) (whole : AreWholeBanks banks) (i : Image) (mo
         );
       }
 
-module _ (w : RunWords) (whole : (banks : List MemoryBank) → AreBanks w banks → AreWholeBanks banks) (o : Outside) (seats left : List Seat) (placed : AreWholeSeats seats) where
+module _ (w : RunWords) (whole : (banks : List MemoryBank) → AreBanks w.memory w.rom banks → AreWholeBanks banks) (o : Outside) (seats left : List Seat) (placed : AreWholeSeats seats) where
   run_by_steps : (read : Result Image Refusal) (why : Stop) → IsRead o.before (Rose o.reads o.reads_now) w.image read → HasRun w read why o seats left → IsRunBySteps w o seats left why
   run_by_steps read why is_read run = record {
     image = run.image;

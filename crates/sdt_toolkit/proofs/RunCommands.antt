@@ -10,14 +10,15 @@ use Rattle.arm7_bus.specs.Seats.{Seat}
 use Rattle.run_opening.specs.declared.image.Image.{Image as RunImage}
 use Rattle.tool_answers.specs.Outcomes.{Outside}
 use Rattle.tool_words.specs.declared.command.RunWords.{RunWords}
-use Rattle.tool_run.specs.Runs.{AreBanks, HasRun, Ran, RunSays}
+use Rattle.tool_run.specs.Openings.{AreBanks}
+use Rattle.tool_run.specs.Runs.{HasRun, Ran, RunSays}
 use Rattle.sdt_toolkit.specs.Runs.{Allow, AnswerStarts, Booting, CanBoot, CommandsStart, HasView, RunsStart, Started}
 
 pub same_image : (a b : RunImage) (read : Result RunImage Refusal) → read ≡ Ok a → read ≡ Ok b → a ≡ b
 same_image a b read e f = let same : ◌≡◌ {A = Result RunImage Refusal} (Ok a) (Ok b) = sym e ∙ f in cc
 
 module _ (law : RunsStart) (b : Booting) (w : RunWords) (o : Outside) (seats left : List Seat) (can : CanBoot b)
-    (suit : (banks : List Bank) → AreBanks w banks → HasView b banks × Allow banks seats b.written) (read : Result RunImage Refusal) (is : read ≡ Ok b.run) where
+    (suit : (banks : List Bank) → AreBanks w.memory w.rom banks → HasView b banks × Allow banks seats b.written) (read : Result RunImage Refusal) (is : read ≡ Ok b.run) where
   started : (why : Stop) → HasRun w read why o seats left → Started b w o seats left why
   started why h =
       let ran : Ran h.banks b.run w.steps why o.printed o.prints (Rose o.faults o.faults_now) seats left =

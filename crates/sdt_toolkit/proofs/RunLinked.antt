@@ -45,7 +45,8 @@ use Rattle.tool_run.specs.Aifs.{aif_at, base_for, loaded_aif, placed_aif}
 use Rattle.tool_run.specs.Elfs.{ElfLoadLaw, elf_image, loaded_elf}
 use Rattle.tool_run.specs.Ends.{named_by}
 use Rattle.tool_run.specs.Images.{IsRead}
-use Rattle.tool_run.specs.Runs.{AreBanks, RunAnswers}
+use Rattle.tool_run.specs.Openings.{AreBanks}
+use Rattle.tool_run.specs.Runs.{RunAnswers}
 use Rattle.sdt_toolkit.specs.Containers.{FilesHold, IsElfFile, IsNamedFile}
 use Rattle.sdt_toolkit.specs.Headline.{IsLinkedInto}
 use Rattle.sdt_toolkit.specs.Links.{IsAskedAs, image_files, outputs, text_in}
@@ -116,7 +117,7 @@ module _ (files_law : FilesAreRead) (elf_law : ElfLaw) (load_law : ElfLoadLaw) (
       subst (λ (x : Named). IsRead (Some (files c)) rose x read) is_named (subst (λ (f : Option Files). IsRead f rose r.image read) are h)
 
   by_map : Reaches i view → w.container ≡ container.LoadFiles → Names container.LoadFiles link.shape w.output link.tables i views r.image b
-      → ((banks : List Bank) → AreBanks r banks → HaveRanges container.LoadFiles b.view banks × Allow banks seats b.written) → AnswerStarts b r o seats left a
+      → ((banks : List Bank) → AreBanks r.memory r.rom banks → HaveRanges container.LoadFiles b.view banks × Allow banks seats b.written) → AnswerStarts b r o seats left a
   by_map reaches is_c (line, some, by, is_b) allow =
       let can = reaches.can in
       let reads : (read : Result RunImage Refusal) → IsRead o.before rose r.image read → read ≡ Ok (run_image i) =
@@ -137,7 +138,7 @@ module _ (files_law : FilesAreRead) (elf_law : ElfLaw) (load_law : ElfLoadLaw) (
   stands true = own_content before w.output (named_file i link.tables)
 
   by_elf : (symbols : Bool) → Reaches i view → w.container ≡ container.Elf symbols → Names (container.Elf symbols) link.shape w.output link.tables i views r.image b
-      → ((banks : List Bank) → AreBanks r banks → HaveRanges (container.Elf symbols) b.view banks × Allow banks seats b.written) → AnswerStarts b r o seats left a
+      → ((banks : List Bank) → AreBanks r.memory r.rom banks → HaveRanges (container.Elf symbols) b.view banks × Allow banks seats b.written) → AnswerStarts b r o seats left a
   by_elf symbols reaches is_c (e, read_so, by, is_b) allow =
       let file = executable symbols i link.tables in
       let h = held symbols is_c in
@@ -163,7 +164,7 @@ module _ (files_law : FilesAreRead) (elf_law : ElfLaw) (load_law : ElfLoadLaw) (
       ∙ ap (λ x. x >>= λ n. Ok (loaded_aif n (aif_record i) (aif_file i))) based
 
   by_aif : (base : ℕ) (relocatable : Bool) → w.placement ≡ placement.Aif base relocatable → w.container ≡ container.ImageFile → Names container.ImageFile link.shape w.output link.tables i views r.image b
-      → ((banks : List Bank) → AreBanks r banks → HaveRanges container.ImageFile b.view banks × Allow banks seats b.written) → AnswerStarts b r o seats left a
+      → ((banks : List Bank) → AreBanks r.memory r.rom banks → HaveRanges container.ImageFile b.view banks × Allow banks seats b.written) → AnswerStarts b r o seats left a
   by_aif base relocatable is_aif is_c (to, fits, by, is_b) allow =
       let k : Kind = kind.Aif base relocatable in
       let asked : IsAskedAs (placement.Aif base relocatable) (text_in w.placement link.contents) w.ram link.shape link.ram =
@@ -184,7 +185,7 @@ module _ (files_law : FilesAreRead) (elf_law : ElfLaw) (load_law : ElfLoadLaw) (
       put to can fits (inr (there, own)) read is_c h = aif_read to None read is_c there can.reads (aif_based base relocatable i views to w.output None can fits (inr (refl, own))) h
 
   by_words : (p : LinkPlacement) (c : Container) → w.placement ≡ p → w.container ≡ c → ComeTogether p c → Names c link.shape w.output link.tables i views r.image b
-      → ((banks : List Bank) → AreBanks r banks → HaveRanges c b.view banks × Allow banks seats b.written) → AnswerStarts b r o seats left a
+      → ((banks : List Bank) → AreBanks r.memory r.rom banks → HaveRanges c b.view banks × Allow banks seats b.written) → AnswerStarts b r o seats left a
   by_words (placement.Scatter d) container.LoadFiles is_p is_c together names allow = by_map (scatter_reaches d is_p) is_c names allow
   by_words (placement.Scatter d) (container.Elf symbols) is_p is_c together names allow = by_elf symbols (scatter_reaches d is_p) is_c names allow
   by_words (placement.Aif base relocatable) container.ImageFile is_p is_c together names allow = by_aif base relocatable is_p is_c names allow

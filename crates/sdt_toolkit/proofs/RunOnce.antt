@@ -58,7 +58,8 @@ use Rattle.tool_run.specs.Burned.{burned_image, form_in, loaded_burn}
 use Rattle.tool_run.specs.Elfs.{elf_image, load_of, loaded_elf}
 use Rattle.tool_run.specs.Ends.{named_by, stop_answer}
 use Rattle.tool_run.specs.Images.{IsRead, all_named, binary_image, files_in, front_of, image_of, lengths_judged, loaded_image, loads_of, map_image, mapped_image, unnamed}
-use Rattle.tool_run.specs.Runs.{AreBanks, AreRanges, HasRun, IsRefusal, IsStopped, IsUntouched, Ran, RunSays}
+use Rattle.tool_run.specs.Openings.{AreBanks, AreRanges, IsRefusal}
+use Rattle.tool_run.specs.Runs.{HasRun, IsStopped, IsUntouched, Ran, RunSays}
 use Rattle.sdt_toolkit.specs.Runs.{HoldBytes, IsDecided, OneRun}
 use Rattle.sdt_toolkit.proofs.CommandLemmas.{good_command}
 use Rattle.sdt_toolkit.proofs.LinkOnce.{first_same, ranges_once}
@@ -137,8 +138,8 @@ image_bytes files hold (image.Map file) i h =
 
 -- ---- the banks are one list, of whole words
 
-banks_once : (w : RunWords) (banks others : List MemoryBank) → AreBanks w banks → AreBanks w others → banks ≡ others
-banks_once w banks others x y =
+banks_once : (told told_rom : List Bank) (banks others : List MemoryBank) → AreBanks told told_rom banks → AreBanks told told_rom others → banks ≡ others
+banks_once told told_rom banks others x y =
     let memory = ranges_once x.memory y.memory (x.memory_told ∙ sym y.memory_told) in
     let rom = ranges_once x.rom y.rom (x.rom_told ∙ sym y.rom_told) in
     x.banks_are ∙ ap (λ (rs : List Range32). banks_of rs x.rom) memory ∙ ap (λ (rs : List Range32). banks_of y.memory rs) rom ∙ sym y.banks_are
@@ -169,7 +170,7 @@ all_whole [] [] a b = ((refl, refl), tt)
 all_whole [] (r ∷ rom) a b = both_whole [] (r ∷ rom) a b
 all_whole (m ∷ memory) rom a b = both_whole (m ∷ memory) rom a b
 
-pub banks_whole : (words : List (List ℕ)) (w : RunWords) (banks : List MemoryBank) → command_of words ≡ Ok (command.Run w) → AreBanks w banks → AreWholeBanks banks
+pub banks_whole : (words : List (List ℕ)) (w : RunWords) (banks : List MemoryBank) → command_of words ≡ Ok (command.Run w) → AreBanks w.memory w.rom banks → AreWholeBanks banks
 banks_whole words w banks h are =
     let (placed, memory, rom) = good_command words (command.Run w) h in
     subst AreWholeBanks (sym are.banks_are) (all_whole are.memory are.rom (told_whole w.memory are.memory are.memory_told memory) (told_whole w.rom are.rom are.rom_told rom))
@@ -328,7 +329,7 @@ record HasEnded (w : RunWords) (read : Result Image Refusal) (o : Outside) (seat
 record IsRefused (w : RunWords) (read : Result Image Refusal) (o : Outside) (seats left : List Seat) (a : Answer) : Type 0 where
   pub refusal : Refusal
   pub is : a ≡ answer.Refused refusal
-  pub says : IsRefusal w read seats refusal
+  pub says : IsRefusal w.memory w.rom read seats refusal
   pub untouched : IsUntouched o seats left
 
 abbrev Decided : RunWords → Result Image Refusal → Outside → List Seat → List Seat → Answer → Type 0
@@ -343,12 +344,20 @@ decided w read o seats left (answer.WriteFault name) d h = absurd d
 decided w read o seats left answer.SinkFault d h = absurd d
 decided w read o seats left answer.NoMemory d h = absurd d
 
-pub refusal_once : (w : RunWords) (seats : List Seat) (p q : Refusal) (read : Result Image Refusal) → IsRefusal w read seats p → IsRefusal w read seats q → p ≡ q
-refusal_once w seats p q (Err told) h k = h ∙ sym k
-refusal_once w seats p q (Ok i) (banks, are, h) (others, are', k) =
-    defect_once banks seats i.needs p q h (subst (λ (bs : List MemoryBank). IsDefect bs seats i.needs q) (banks_once w others banks are' are) k)
+module _ (memory rom : List Bank) (seats : List Seat) where
+  pub refusal_once : (p q : Refusal) (read : Result Image Refusal) → IsRefusal memory rom read seats p → IsRefusal memory rom read seats q → p ≡ q
+  refusal_once p q (Err told) h k = h ∙ sym k
+  refusal_once p q (Ok i) (banks, are, h) (others, are', k) =
+      defect_once banks seats i.needs p q h (subst (λ (bs : List MemoryBank). IsDefect bs seats i.needs q) (banks_once memory rom others banks are' are) k)
 
-module _ (law : BusRunIsOne) (w : RunWords) (whole : (banks : List MemoryBank) → AreBanks w banks → AreWholeBanks banks) (seats : List Seat) (placed : AreWholeSeats seats)
+  -- what has room has no defect
+  pub no_refusal : (banks : List MemoryBank) (i : Image) (r : Refusal) → AreBanks memory rom banks → IsRoomy banks seats i.needs
+      → IsRefusal memory rom (Ok i) seats r → ⊥
+  no_refusal banks i r are roomy (others, are', h) =
+      let here = subst (λ (bs : List MemoryBank). IsDefect bs seats i.needs r) (banks_once memory rom others banks are' are) h in
+      no_defect banks seats i.needs r roomy (kinds banks seats i.needs r here)
+
+module _ (law : BusRunIsOne) (w : RunWords) (whole : (banks : List MemoryBank) → AreBanks w.memory w.rom banks → AreWholeBanks banks) (seats : List Seat) (placed : AreWholeSeats seats)
     (printed : List ℕ) (files : Files) (read : Result Image Refusal) (bytes : (i : Image) → read ≡ Ok i → OfBytes i.loads) (o p : Outside) (left left' : List Seat) (a b : Answer)
     (before : o.before ≡ Some files) (before' : p.before ≡ Some files) (sink : o.printed ≡ Some printed) (sink' : p.printed ≡ Some printed) where
   abbrev Alike : Type 0
@@ -363,27 +372,26 @@ module _ (law : BusRunIsOne) (w : RunWords) (whole : (banks : List MemoryBank) �
       let one = subst (λ (t : Option (List ℕ)). Ran banks i w.steps x.why t o.prints rose seats left) sink x.run.ran in
       let two1 = subst (λ (t : Option (List ℕ)). Ran y.run.banks y.run.image w.steps y.why t p.prints rose' seats left') sink' y.run.ran in
       let two2 = subst (λ (z : Image). Ran y.run.banks z w.steps y.why (Some printed) p.prints rose' seats left') (same_image y.run.image i read y.run.read_so x.run.read_so) two1 in
-      let two3 = subst (λ (bs : List MemoryBank). Ran bs i w.steps y.why (Some printed) p.prints rose' seats left') (banks_once w y.run.banks banks y.run.are_banks x.run.are_banks) two2 in
+      let two3 = subst (λ (bs : List MemoryBank). Ran bs i w.steps y.why (Some printed) p.prints rose' seats left') (banks_once w.memory w.rom y.run.banks banks y.run.are_banks x.run.are_banks) two2 in
       let (why, devices, text) = ran_once law banks (whole banks x.run.are_banks) seats placed i (bytes i x.run.read_so) w.steps printed x.why y.why o.prints p.prints rose rose' left left' x.own y.own one two3 in
       (x.is ∙ ap stop_answer why ∙ sym y.is, devices, text, x.run.files ∙ before ∙ sym (y.run.files ∙ before'))
 
   refused : IsRefused w read o seats left a → IsRefused w read p seats left' b → Alike
   refused x y = (
-    x.is ∙ ap answer.Refused (refusal_once w seats x.refusal y.refusal read x.says y.says) ∙ sym y.is,
+    x.is ∙ ap answer.Refused (refusal_once w.memory w.rom seats x.refusal y.refusal read x.says y.says) ∙ sym y.is,
     x.untouched.devices ∙ sym y.untouched.devices,
     x.untouched.outside.sink ∙ sink ∙ sym (y.untouched.outside.sink ∙ sink'),
     x.untouched.outside.files ∙ before ∙ sym (y.untouched.outside.files ∙ before'),
   )
 
 -- what was run has no defect
-pub no_refusal : (w : RunWords) (read : Result Image Refusal) (o : Outside) (seats left : List Seat) (why : Stop) (r : Refusal) → HasRun w read why o seats left → IsRefusal w read seats r → ⊥
-no_refusal w read o seats left why r run refusal =
-    let (banks, are, h) = subst (λ (x : Result Image Refusal). IsRefusal w x seats r) run.read_so refusal in
-    let here = subst (λ (bs : List MemoryBank). IsDefect bs seats run.image.needs r) (banks_once w banks run.banks are run.are_banks) h in
-    no_defect run.banks seats run.image.needs r run.ran.roomy (kinds run.banks seats run.image.needs r here)
+pub ran_fine : (w : RunWords) (read : Result Image Refusal) (o : Outside) (seats left : List Seat) (why : Stop) (r : Refusal) → HasRun w read why o seats left → IsRefusal w.memory w.rom read seats r → ⊥
+ran_fine w read o seats left why r run refusal =
+    no_refusal w.memory w.rom seats run.banks run.image r run.are_banks run.ran.roomy
+    (subst (λ (x : Result Image Refusal). IsRefusal w.memory w.rom x seats r) run.read_so refusal)
 
 not_both : (w : RunWords) (read : Result Image Refusal) (o p : Outside) (seats left left' : List Seat) (a b : Answer) → HasEnded w read o seats left a → IsRefused w read p seats left' b → ⊥
-not_both w read o p seats left left' a b x y = no_refusal w read o seats left x.why y.refusal x.run y.says
+not_both w read o p seats left left' a b x y = ran_fine w read o seats left x.why y.refusal x.run y.says
 
 pub one_run : BusRunIsOne → OneRun
 one_run law words w files printed o p seats left left' a b asked hold placed before before' sink sink' x y d e =

@@ -1,7 +1,7 @@
 -- The tables of a link are those of the plan by which its image is placed, and a debugger finds each definition in them.
-use Rattle.std.proofs.Common.{◌≡◌, ℕ, ◌+◌, ◌^◌, ◌<◌, Bool, true, false, List, ◌∷◌, ◌++◌, length, Option, Some, None, Result, Ok, refl, sym, ap, ◌∙◌, subst}
+use Rattle.std.proofs.Common.{◌≡◌, ℕ, ◌+◌, ◌*◌, ◌^◌, ◌<◌, ◌≤◌, arith, Bool, true, false, List, ◌∷◌, ◌++◌, length, Option, Some, None, Result, Ok, refl, sym, ap, ◌∙◌, subst}
 use Rattle.std.specs.Prelude.{slice_get}
-use Rattle.std.proofs.lemmas.List.{length-map}
+use Rattle.std.proofs.lemmas.List.{length-append, length-map}
 use Rattle.std.specs.List.{AllByRecursion}
 use Rattle.sdt_word.specs.declared.ranges.Range32.{Range32}
 use Rattle.sdt_fault.specs.declared.refusal.Refusal.{Refusal}
@@ -10,9 +10,10 @@ use Rattle.aof_object.specs.declared.records.Entry.{Entry}
 use Rattle.aof_object.specs.declared.records.Object.{Object}
 use Rattle.aof_object.specs.Validity.{IsValid}
 use Rattle.boot_code.specs.Boots.{ByteMap}
+use Rattle.elf_image.specs.declared.tables.ElfSymbol.{ElfSymbol}
 use Rattle.elf_image.specs.declared.tables.Tables.{Tables}
 use Rattle.elf_image.specs.Tables.{named_file, named_size}
-use Rattle.elf_image.specs.Symbols.{CanName}
+use Rattle.elf_image.specs.Symbols.{CanName, HasSymbols}
 use Rattle.elf_image.proofs.SymbolLemmas.{symbols_law}
 use Rattle.patch_model.specs.Fields.{Values}
 use Rattle.place_model.specs.declared.scatter.Kind.{Kind}
@@ -168,6 +169,12 @@ module _ (k : Kind) (ram : Option (List Range32)) (l : Linked) (a : Assigned) (v
 
 -- ---- by the plan
 
+-- a symbol of the table lies in it
+symbol_within : (size : ℕ) (all before after : List ElfSymbol) (x : ElfSymbol) → size ≡ 16 * (length all + 1) → all ≡ before ++ x ∷ after
+    → 16 * (length before + 1 + 1) ≤ size
+symbol_within size all before after x sized e =
+    let many : length all ≡ length before + length (x ∷ after) = ap length e ∙ length-append before (x ∷ after) in omega arith
+
 module _ (k : Kind) (ram : Option (List Range32)) (os : List (Named Object)) (i : Image) (views : ℕ → ByteMap) (h : IsPlacedAs k ram os i views) where
   loads_count : length i.loads ≡ length (description k)
   loads_count =
@@ -200,10 +207,15 @@ module _ (k : Kind) (ram : Option (List Range32)) (os : List (Named Object)) (i 
       → DefinitionsAreFound (named_file i t) (length t.sections + 1) plan h.link
   definitions_found t is can own number s there defined =
       let found : IsListed h.link h.placement (length i.loads) own number s = definitions_law h.link h.placement (length i.loads) own number s there defined in
+      let table : HasSymbols (named_file i t) (length t.sections + 1) t.symbols = symbols_law i t can in
+      let among : t.symbols ≡ found.before ++ found.symbol ∷ found.after = ap (λ (x : Tables). x.symbols) is ∙ found.there in
       record {
+        kind = table.kind;
         number = length found.before + 1;
         symbol = found.symbol;
-        there = (symbols_law i t can).each found.before found.symbol found.after (ap (λ (x : Tables). x.symbols) is ∙ found.there);
+        behind = omega arith;
+        within = symbol_within _ t.symbols found.before found.after found.symbol table.size among;
+        there = table.each found.before found.symbol found.after among;
         name = found.name;
         value = found.value ∙ ap (λ (v : Values). final_value (v.symbol number)) (values_are own);
         binding = found.binding;

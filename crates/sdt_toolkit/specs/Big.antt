@@ -41,7 +41,7 @@ use Rattle.tool_words.specs.declared.command.Command.TheVariants as command
 use Rattle.tool_words.specs.declared.command.LinkPlacement.TheVariants as placement
 use Rattle.tool_words.specs.declared.command.LinkWords.{LinkWords}
 use Rattle.sdt_toolkit.specs.BigMade.{big_image, big_named}
-use Rattle.sdt_toolkit.specs.BigStarts.{big_startup}
+use Rattle.sdt_toolkit.specs.BigStarts.{big_startup, big_view}
 use Rattle.sdt_toolkit.specs.Headline.{IsLinkedInto}
 use Rattle.sdt_toolkit.specs.Inputs.{is_source_name, module_of}
 use Rattle.sdt_toolkit.specs.RunImages.{needs_of, run_image}
@@ -60,14 +60,15 @@ IsBuilt name n i =
     → IsLinkedInto true w before after made views → made ≡ i
 
 -- Of the source of this name, whatever files there are beside it, the object is this one and nothing is refused; the image is
--- that of this one object and the description.
+-- that of this one object and the description, placed by their plan.
 pub record IsBigImage (name : List ℕ) (n : ℕ) (i : Image) : Type 0 where
   pub assembled : AssembledFrom (Some (files_of [])) name (big_text n) (Ok (big_object n))
   pub only : (files : Files) (made : Result Object Refusal) → AssembledFrom (Some files) name (big_text n) made → made ≡ Ok (big_object n)
   pub linked : scatter_linking big_description None (big_named name (module_of name) n ∷ []) ≡ Ok i
+  pub placed : i ≡ big_image name (module_of name) n
   pub built : IsBuilt name n i
 
--- the words of its area `big`, which is the first one
+-- the words of an object's area `big`, which is the first one
 abbrev pub first_words : List Area → ℕ
 first_words [] = 0
 first_words (a ∷ others) = a.size / 4
@@ -78,12 +79,11 @@ first_words (a ∷ others) = a.size / 4
 abbrev pub default_banks : List Bank
 default_banks = banks_of [] []
 
--- The image was run in the default bank: its first steps are the startup code's, which lead to its entry and touch no device; n + 3
--- steps behind these it ended by SWI 0x11, without a text and with the sum in r4. Devices are as time alone makes them.
-pub record IsBigRun (n : ℕ) (i : Image) (seats left : List Seat) : Type 0 where
-  pub view : ByteMap
-  pub most : ℕ
-  pub started : HasStarted (map_booting i view) default_banks most stop.Exit (Some []) (Some []) (Rose 0 0) seats left
+-- The image was run in the default bank, for at most 5 n + 51 steps: its first steps are the startup code's, which lead to its
+-- entry with memory as the view of its plan, and touch no device; n + 3 steps behind these it ended by SWI 0x11, without a text and
+-- with the sum in r4. Devices are as time alone makes them.
+pub record IsBigRun (n : ℕ) (i : Image) (view : ByteMap) (seats left : List Seat) : Type 0 where
+  pub started : HasStarted (map_booting i view) default_banks (5 * n + 51) stop.Exit (Some []) (Some []) (Rose 0 0) seats left
   pub count : started.ran.is_run.made ≡ length started.steps + (n + 3)
   pub sum : register started.ran.is_run.core' 4 ≡ big_sum n
   pub ticked : left ≡ ticked_for (length started.steps + (n + 3)) seats
@@ -92,11 +92,12 @@ pub record IsBigRun (n : ℕ) (i : Image) (seats left : List Seat) : Type 0 wher
 -- the line that tells words, steps and sum
 abbrev pub big_line : ℕ → ℕ → ℕ → ℕ → List ℕ
 big_line n words steps sum =
-    codes "big " ++ (decimal n ++ (codes " words " ++ (decimal words ++ (codes " steps " ++ (decimal steps ++ (codes " sum " ++ (hexadecimal sum ++ codes "\n")))))))
+    codes "big " ++ (decimal n ++ (codes " words " ++ (decimal words ++ (codes " steps " ++ (decimal steps ++ (codes " sum "
+    ++ (hexadecimal sum ++ codes "\n")))))))
 
--- as many words of code as steps, and the sum
+-- the words of the object's code, the steps behind those of the startup code, and the sum
 abbrev pub big_report : ℕ → List ℕ
-big_report n = big_line n (n + 3) (n + 3) (big_sum n)
+big_report n = big_line n (first_words (big_object n).areas) (n + 3) (big_sum n)
 
 -- ---- answers
 
@@ -104,7 +105,7 @@ big_report n = big_line n (n + 3) (n + 3) (big_sum n)
 pub record HasRunBig (n : ℕ) (output : List ℕ) (o : Outside) (seats left : List Seat) : Type 0 where
   pub image : Image
   pub is_image : IsBigImage output n image
-  pub ran : IsBigRun n image seats left
+  pub ran : IsBigRun n image (big_view output (module_of output) n) seats left
   pub written : IsWritten o.before o.after output (big_text n)
 
 -- the refusal names the least address that the default bank and a device have, or two devices
@@ -170,20 +171,21 @@ Reports other line before after rose a = Unit {0}
 
 -- ---- laws
 
--- of the image: a run of it in the default bank ends by SWI 0x11, with its steps and its sum
-pub record IsBigOutcome (n : ℕ) (i : Image) (seats left : List Seat) (why : Stop) (steps sum : ℕ) : Type 0 where
+-- of an image and a view: a run of it in the default bank ends by SWI 0x11, with its steps and its sum
+pub record IsBigOutcome (n : ℕ) (i : Image) (view : ByteMap) (seats left : List Seat) (why : Stop) (steps sum : ℕ) : Type 0 where
   pub exits : why ≡ stop.Exit
   pub count : steps ≡ n + 3
   pub total : sum ≡ big_sum n
-  pub ran : IsBigRun n i seats left
+  pub ran : IsBigRun n i view seats left
 
 abbrev pub BigImagesRun : Type 0
 BigImagesRun =
     (name home : List ℕ) (n : ℕ) → 1 ≤ n → n ≤ 50000 → IsValid (big_object n) → HasBytes (big_object n)
     → (seats left : List Seat) (begin : State) (why : Stop) (steps sum : ℕ)
-    → IsRoomy default_banks seats (needs_of (big_image name home n)) → IsOpening default_banks (run_image (big_image name home n)) seats begin
-    → IsReady begin → HasEnded (big_image name home n).start n begin why steps sum left
-    → IsBigOutcome n (big_image name home n) seats left why steps sum
+    → IsRoomy default_banks seats (needs_of (big_image name home n))
+    → IsOpening default_banks (run_image (big_image name home n)) seats begin → IsReady begin
+    → HasEnded (big_image name home n).start n begin why steps sum left
+    → IsBigOutcome n (big_image name home n) (big_view name home n) seats left why steps sum
 
 -- and nothing but a meeting refuses it
 abbrev pub BigImagesFit : Type 0

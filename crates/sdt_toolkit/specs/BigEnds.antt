@@ -17,7 +17,8 @@ use Rattle.big_model.specs.Sources.{big_sum}
 use Rattle.big_run.specs.Runs.{IsEntered}
 
 -- by SWI 0x11, with n + 3 steps behind those before it, without a text; r4 is the sum, and devices are as time alone makes them
-pub record IsBigEnd (n : ℕ) (s : State) (front : List Stepped) (why : Stop) (made : ℕ) (text : List ℕ) (core' : ArmState) (s' : State) : Type 0 where
+pub record IsBigEnd (n : ℕ) (s : State) (front : List Stepped) (why : Stop) (made : ℕ) (text : List ℕ) (core' : ArmState)
+    (s' : State) : Type 0 where
   pub exits : why ≡ Exit
   pub count : made ≡ length front + (n + 3)
   pub unprinted : text ≡ []

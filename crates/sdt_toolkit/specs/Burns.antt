@@ -30,7 +30,7 @@ use Rattle.tool_words.specs.declared.command.RunWords.{RunWords}
 use Rattle.tool_run.specs.Burned.{burned_image, loaded_burn}
 use Rattle.tool_run.specs.Burns.{BurnAnswers}
 use Rattle.tool_run.specs.Images.{has_zero}
-use Rattle.tool_run.specs.Runs.{AreBanks}
+use Rattle.tool_run.specs.Openings.{AreBanks}
 use Rattle.sdt_toolkit.specs.Headline.{IsLinkedInto}
 use Rattle.sdt_toolkit.specs.Runs.{AnswerStarts, Booting, TakeView, entry_of}
 use Rattle.sdt_toolkit.specs.Starting.{segments_of, written_in}
@@ -67,7 +67,8 @@ BurnsLinked records file output o =
 
 abbrev pub LinkedBurns : Type 0
 LinkedBurns =
-    (records : BurnForm) (file output : List ℕ) (o : Outside) → BurnAnswers records file output o answer.Done → BurnsLinked records file output o
+    (records : BurnForm) (file output : List ℕ) (o : Outside) → BurnAnswers records file output o answer.Done
+    → BurnsLinked records file output o
 
 -- ---- the clause of the top call
 
@@ -103,7 +104,7 @@ IsStartedByText r o seats left a =
     (records : BurnForm) (name text : List ℕ) (files : Files) → w.placement ≡ placement.Scatter description
     → IsLinkedInto sources w before after i views → (h : IsBurnText records i (views i.start) text)
     → o.before ≡ Some files → content files name ≡ Some text → r.image ≡ image.Burned name → AreWholeSeats seats
-    → ((banks : List Bank) → AreBanks r banks → SuitText i (views i.start) banks)
+    → ((banks : List Bank) → AreBanks r.memory r.rom banks → SuitText i (views i.start) banks)
     → AnswerStarts (burn_booting i (views i.start) h.burn) r o seats left a
 
 abbrev pub StartsAsBurned : Result Command ℕ → Outside → List Seat → List Seat → Answer → Type 0

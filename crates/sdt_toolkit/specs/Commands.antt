@@ -13,6 +13,7 @@ use Rattle.tool_words.specs.declared.command.WordsFault.TheVariants as fault
 use Rattle.run_opening.specs.declared.image.Image.{Image}
 use Rattle.tool_answers.specs.Outcomes.{Outside, IsAsked, IsLeft, Answers, OfAll, OfOne}
 use Rattle.sdt_toolkit.specs.Big.{BigAnswers, IsMeeting}
+use Rattle.sdt_toolkit.specs.Debugging.{DebugAnswers, IsDebugRefusal}
 use Rattle.sdt_toolkit.specs.Kits.{KitAnswers}
 use Rattle.sdt_toolkit.specs.Links.{LinkAnswers, WordsAsk}
 use Rattle.sdt_toolkit.specs.Reads.{Reads, HasFailed, reads_of}
@@ -20,11 +21,12 @@ use Rattle.sdt_toolkit.specs.Reports.{ReportAnswers, ReportAsked}
 use Rattle.sdt_toolkit.specs.Sources.{AssemblyAnswers, SourceAsks}
 use Rattle.tool_library.specs.Libraries.{created, creates, listed, lists, extracted, extracts}
 use Rattle.arm7_bus.specs.Seats.{Seat}
-use Rattle.tool_listing.specs.Lists.{listing_of}
-use Rattle.tool_listing.specs.Lists as listing
+use Rattle.tool_library.specs.Lists.{listing_of}
+use Rattle.tool_library.specs.Lists as listing
 use Rattle.tool_run.specs.Burns.{BurnAnswers, asked_by}
 use Rattle.tool_run.specs.Images.{IsRead}
-use Rattle.tool_run.specs.Runs.{IsRefusal, IsUntouched, RunAnswers}
+use Rattle.tool_run.specs.Openings.{IsFirstRefusal}
+use Rattle.tool_run.specs.Runs.{IsUntouched, RunAnswers}
 
 -- a word breaks a rule
 abbrev pub RefusesWords : ℕ → Outside → Answer → Type 0
@@ -36,15 +38,20 @@ RefusesWords place o answer.SinkFault = ⊥
 RefusesWords place o (answer.Stopped stop) = ⊥
 RefusesWords place o answer.NoMemory = IsLeft o
 
--- the answer to a command, or to words that break a rule, over devices, which are left so; `run` and `make-big` alone touch them
+-- the answer to a command, or to words that break a rule, over devices, which are left so; `run`, `debug` and `make-big` alone touch
+-- them
 unfoldable pub Commanded : Result Command ℕ → Outside → List Seat → List Seat → Answer → Type 0
 Commanded (Err place) o seats left a = RefusesWords place o a × (left ≡ seats)
 Commanded (Ok (command.Assemble source output)) o seats left a = AssemblyAnswers source output o a × (left ≡ seats)
-Commanded (Ok (command.CreateLibrary library objects)) o seats left a = Answers (created library objects) (OfAll (creates library objects) objects) objects o a × (left ≡ seats)
-Commanded (Ok (command.ListMembers library)) o seats left a = Answers (listed library) (OfOne (lists library)) (library ∷ []) o a × (left ≡ seats)
-Commanded (Ok (command.ExtractMember library member output)) o seats left a = Answers (extracted library member output) (OfOne (extracts library member output)) (library ∷ []) o a × (left ≡ seats)
+Commanded (Ok (command.CreateLibrary library objects)) o seats left a =
+    Answers (created library objects) (OfAll (creates library objects) objects) objects o a × (left ≡ seats)
+Commanded (Ok (command.ListMembers library)) o seats left a =
+    Answers (listed library) (OfOne (lists library)) (library ∷ []) o a × (left ≡ seats)
+Commanded (Ok (command.ExtractMember library member output)) o seats left a =
+    Answers (extracted library member output) (OfOne (extracts library member output)) (library ∷ []) o a × (left ≡ seats)
 Commanded (Ok (command.List file)) o seats left a = Answers (listing_of file) (OfOne (listing.lists file)) (file ∷ []) o a × (left ≡ seats)
 Commanded (Ok (command.Run run)) o seats left a = RunAnswers run o seats left a
+Commanded (Ok (command.Debug words)) o seats left a = DebugAnswers words o seats left a
 Commanded (Ok (command.Link words)) o seats left a = LinkAnswers false words o a × (left ≡ seats)
 Commanded (Ok (command.Build words)) o seats left a = LinkAnswers true words o a × (left ≡ seats)
 Commanded (Ok (command.Report words)) o seats left a = ReportAnswers words o a × (left ≡ seats)
@@ -52,18 +59,20 @@ Commanded (Ok (command.InterruptKit output acknowledge)) o seats left a = KitAns
 Commanded (Ok (command.MakeBig count output)) o seats left a = BigAnswers count output o seats left a
 Commanded (Ok (command.Burn f file output)) o seats left a = BurnAnswers f file output o a × (left ≡ seats)
 
--- ---- refusals: the first defect of the words, then of the files and, for a run and `make-big`, of the banks and devices
+-- ---- refusals: the first defect of the words, then of the files and, for a run, a session and `make-big`, of the banks and devices
 
 -- what a command refuses over what the store tells of its files, and over these devices
 abbrev pub FirstOf : Command → Reads → List Seat → Refusal → Type 0
 FirstOf (command.Assemble source output) s seats r = SourceAsks s source output (Err r)
 FirstOf (command.CreateLibrary library objects) s seats r =
     IsAsked (created library objects) (OfAll (creates library objects) objects) s.told objects (HasFailed s) (Err r)
-FirstOf (command.ListMembers library) s seats r = IsAsked (listed library) (OfOne (lists library)) s.told (library ∷ []) (HasFailed s) (Err r)
+FirstOf (command.ListMembers library) s seats r =
+    IsAsked (listed library) (OfOne (lists library)) s.told (library ∷ []) (HasFailed s) (Err r)
 FirstOf (command.ExtractMember library member output) s seats r =
     IsAsked (extracted library member output) (OfOne (extracts library member output)) s.told (library ∷ []) (HasFailed s) (Err r)
 FirstOf (command.List file) s seats r = IsAsked (listing_of file) (OfOne (listing.lists file)) s.told (file ∷ []) (HasFailed s) (Err r)
-FirstOf (command.Run run) s seats r = (read : Result Image Refusal) × IsRead s.told (HasFailed s) run.image read × IsRefusal run read seats r
+FirstOf (command.Run run) s seats r = IsFirstRefusal run.image run.memory run.rom s.told (HasFailed s) seats r
+FirstOf (command.Debug words) s seats r = IsDebugRefusal words s.told (HasFailed s) seats r
 FirstOf (command.Link words) s seats r = WordsAsk s false words (Err r)
 FirstOf (command.Build words) s seats r = WordsAsk s true words (Err r)
 FirstOf (command.Report words) s seats r = ReportAsked s words (Err r)
@@ -76,9 +85,10 @@ abbrev pub IsFirst : Result Command ℕ → Reads → List Seat → Refusal → 
 IsFirst (Err place) s seats r = r ≡ BadWords place
 IsFirst (Ok c) s seats r = FirstOf c s seats r
 
--- the words ask for a run, of an image or of what is made
+-- the words ask for a run, of an image, by a script or of what is made
 abbrev pub is_run : Result Command ℕ → Bool
 is_run (Ok (command.Run run)) = true
+is_run (Ok (command.Debug words)) = true
 is_run (Ok (command.MakeBig count output)) = true
 is_run other = false
 
@@ -88,6 +98,7 @@ may_print (Ok (command.ListMembers library)) = true
 may_print (Ok (command.List file)) = true
 may_print (Ok (command.Report words)) = true
 may_print (Ok (command.Run run)) = true
+may_print (Ok (command.Debug words)) = true
 may_print (Ok (command.MakeBig count output)) = true
 may_print other = false
 

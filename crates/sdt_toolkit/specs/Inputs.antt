@@ -78,7 +78,8 @@ NamedIs s sources name bytes made = (x : Result Linkable Refusal) × InputIs s s
 -- ---- inputs in order
 
 -- an input and the others behind it, which are judged where it is not refused
-abbrev pub Behind : Result (Named Linkable) Refusal → (Result (List (Named Linkable)) Refusal → Type 0) → Result (List (Named Linkable)) Refusal → Type 0
+abbrev pub Behind : Result (Named Linkable) Refusal → (Result (List (Named Linkable)) Refusal → Type 0)
+    → Result (List (Named Linkable)) Refusal → Type 0
 Behind (Err r) others made = made ≡ Err r
 Behind (Ok x) others made = (rest : Result (List (Named Linkable)) Refusal) × others rest × (made ≡ (rest >>= λ xs. Ok (x ∷ xs)))
 

@@ -35,7 +35,8 @@ use Rattle.tool_words.specs.declared.command.LinkWords.{LinkWords}
 use Rattle.tool_words.specs.declared.command.RunImage.TheVariants as image
 use Rattle.tool_words.specs.declared.command.RunWords.{RunWords}
 use Rattle.tool_run.specs.Images.{has_zero}
-use Rattle.tool_run.specs.Runs.{AreBanks, RunAnswers}
+use Rattle.tool_run.specs.Openings.{AreBanks}
+use Rattle.tool_run.specs.Runs.{RunAnswers}
 use Rattle.sdt_toolkit.specs.Headline.{IsLinkedInto}
 use Rattle.sdt_toolkit.specs.Plans.{plan_at}
 use Rattle.sdt_toolkit.specs.RunImages.{run_image}
@@ -86,7 +87,7 @@ IsHidden r o seats =
     → (h : IsLinkedInto sources w before after i views)
     → IsInForce ack work (plan_at h.shape h.placed.link h.placed.assigned h.placed.veneers i.start) h.placed.link
     → o.before ≡ after → r.image ≡ image.Map (map_name w.output) → has_word seats ack ≡ true
-    → ((banks : List Bank) → AreBanks r banks → MayBeInterrupted i (views i.start) banks seats work)
+    → ((banks : List Bank) → AreBanks r.memory r.rom banks → MayBeInterrupted i (views i.start) banks seats work)
     → (left : List Seat) × RunAnswers r o (silenced seats) left answer.Done
 
 -- so it is where a run ended by SWI 0x11

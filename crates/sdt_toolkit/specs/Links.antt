@@ -41,7 +41,7 @@ use Rattle.tool_words.specs.declared.command.LinkWords.{LinkWords}
 use Rattle.tool_answers.specs.Inputs.{AreInputs, inputs_of, IsReached}
 use Rattle.tool_answers.specs.Outcomes.{Outcome, Outside, AreWritten, FailsAt, IsCutShort, IsLeft, IsLost, Says, unprinted}
 use Rattle.tool_library.specs.declared.linkables.Linkable.{Linkable}
-use Rattle.tool_run.specs.Runs.{AreRanges}
+use Rattle.tool_run.specs.Openings.{AreRanges}
 use Rattle.sdt_toolkit.specs.Inputs.{InputsAre, IsGot, objects_among, archives_among}
 use Rattle.sdt_toolkit.specs.Reads.{Reads, HasFailed, reads_of}
 use Rattle.sdt_toolkit.specs.Plans.{IsPlacedAs}
@@ -86,7 +86,8 @@ abbrev pub ScattersTo : List ℕ → Option (List Bank) → List (Named Object) 
 ScattersTo text banks os image = (ram : Option (List Range32)) × IsRam banks ram × (image ≡ scatter_linking text ram os)
 
 abbrev pub AsAif : ℕ → Bool → Option (List Bank) → List (Named Object) → Result Image Refusal → Type 0
-AsAif base relocatable banks os image = (ram : Option (List Range32)) × IsRam banks ram × (image ≡ linking (kind.Aif base relocatable) ram os)
+AsAif base relocatable banks os image =
+    (ram : Option (List Range32)) × IsRam banks ram × (image ≡ linking (kind.Aif base relocatable) ram os)
 
 abbrev pub LinksTo : LinkPlacement → List ℕ → Option (List Bank) → List (Named Object) → Result Image Refusal → Type 0
 LinksTo (placement.Scatter file) text banks os image = ScattersTo text banks os image
@@ -133,14 +134,17 @@ HasNamedImage f text banks inputs (Ok n) = ImageIs f text banks inputs (Ok n.ima
 HasNamedImage f text banks inputs (Err r) = HasImage f text banks inputs (Err r)
 
 abbrev pub IsScatterImage : List (Named Object) → List (Named Archive) → List ℕ → Option (List Bank) → Result Image Refusal → Type 0
-IsScatterImage objects archives text banks image = (os : List (Named Object)) × AreLinked objects archives os × ScattersTo text banks os image
+IsScatterImage objects archives text banks image =
+    (os : List (Named Object)) × AreLinked objects archives os × ScattersTo text banks os image
 
 abbrev pub IsNamedScatter : List (Named Object) → List (Named Archive) → List ℕ → Option (List Bank) → Result NamedImage Refusal → Type 0
 IsNamedScatter objects archives text banks named =
-    (os : List (Named Object)) × AreLinked objects archives os × (ram : Option (List Range32)) × IsRam banks ram × (named ≡ named_scatter text ram os)
+    (os : List (Named Object)) × AreLinked objects archives os × (ram : Option (List Range32)) × IsRam banks ram
+    × (named ≡ named_scatter text ram os)
 
 abbrev pub IsAifImage : List (Named Object) → List (Named Archive) → ℕ → Bool → Option (List Bank) → Result Image Refusal → Type 0
-IsAifImage objects archives base relocatable banks image = (os : List (Named Object)) × AreLinked objects archives os × AsAif base relocatable banks os image
+IsAifImage objects archives base relocatable banks image =
+    (os : List (Named Object)) × AreLinked objects archives os × AsAif base relocatable banks os image
 
 -- ---- the files, by the container
 
@@ -193,7 +197,8 @@ InputsMake w text (Ok inputs) made =
     × (made ≡ (image >>= filed w.container w.output tables))
 
 -- what the files that are read make
-pub record LinkMakes (s : Reads) (sources : Bool) (w : LinkWords) (contents : List (List ℕ)) (made : Result (List OutFile) Refusal) : Type 0 where
+pub record LinkMakes (s : Reads) (sources : Bool) (w : LinkWords) (contents : List (List ℕ))
+    (made : Result (List OutFile) Refusal) : Type 0 where
   pub inputs : Result (List (Named Linkable)) Refusal
   pub judged : InputsAre s sources w.names (inputs_in w.placement contents) inputs
   pub files : InputsMake w (text_in w.placement contents) inputs made
@@ -256,7 +261,8 @@ LinkAnswers sources w o a = LinkSays sources w o a
 -- the same over the files and counts of a store and beside any sink, of which it prints nothing
 abbrev pub LinkAnswersOver : Bool → LinkWords → Option Files → Option Files → ℕ → ℕ → ℕ → ℕ → Answer → Type 0
 LinkAnswersOver sources w before after reads reads_now writes writes_now a =
-    (printed : Option (List ℕ)) (faults : ℕ) → LinkAnswers sources w (unprinted printed faults before after reads reads_now writes writes_now) a
+    (printed : Option (List ℕ)) (faults : ℕ)
+    → LinkAnswers sources w (unprinted printed faults before after reads reads_now writes writes_now) a
 
 -- files ask for one thing
 abbrev pub OneLinkAsked : Type 0

@@ -54,5 +54,6 @@ TellsOf s (Err (fault.ReadFault name)) is gets = HasFailed s × gets name
 TellsOf s (Err fault.NoMemory) is gets = Unit {0}
 
 -- the same of a call over these files, with these counts before and behind it, whichever reads it is among
-unfoldable pub Told : {A : Type 0} → Option Files → ℕ → ℕ → Result A Fault → (Reads → Result A Refusal → Type 0) → (Reads → List ℕ → Type 0) → Type 0
+unfoldable pub Told : {A : Type 0} → Option Files → ℕ → ℕ → Result A Fault → (Reads → Result A Refusal → Type 0)
+    → (Reads → List ℕ → Type 0) → Type 0
 Told told before now r is gets = (s : Reads) → IsAmong told before now s → TellsOf s r (is s) (gets s)

@@ -1,5 +1,6 @@
--- What a refusal of `link`, `build` and `report` says, in the order in which refusals are told: of the files, of the linked objects' names, of
--- the regions of their areas, and of their plan (SDT 2.50 Reference Guide, armlink and scatter loading; the order is this project's).
+-- What a refusal of `link`, `build` and `report` says, in the order in which refusals are told: of the files, of the linked objects'
+-- names, of the regions of their areas, and of their plan (SDT 2.50 Reference Guide, armlink and scatter loading; the order is this
+-- project's).
 use Rattle.std.specs.Prelude.{◌≡◌, ◌⊎◌, ℕ, ◌<◌, Bool, true, false, List, Option, Some, None, Result, Ok, Err}
 use Rattle.sdt_word.specs.declared.ranges.Range32.{Range32}
 use Rattle.sdt_fault.specs.declared.answer.Answer.{Answer}
@@ -93,7 +94,8 @@ pub record IsLinkRefused (s : Reads) (sources : Bool) (w : LinkWords) (contents 
   pub objects : List (Named Object)
   pub judged : InputsAre s sources w.names (inputs_in w.placement contents) (Ok inputs)
   pub linked : AreLinked (objects_among inputs) (archives_among inputs) objects
-  pub says : SaysOfPlaced w.placement (text_in w.placement contents) w.ram objects r ⊎ IsLongImage w (text_in w.placement contents) objects r
+  pub says : SaysOfPlaced w.placement (text_in w.placement contents) w.ram objects r
+      ⊎ IsLongImage w (text_in w.placement contents) objects r
 
 -- a file is missing; or the first input that can't be taken is refused; or the link is
 abbrev pub LinkSaysWhy : Reads → Files → Bool → LinkWords → Refusal → Type 0
@@ -119,7 +121,8 @@ ReportSaysWhy s files w r =
 abbrev pub LinkRefusalsAreTrue : Result Command ℕ → Outside → Answer → Type 0
 LinkRefusalsAreTrue asked o a =
     (files : Files) (w : LinkWords) (r : Refusal) → o.before ≡ Some files → a ≡ answer.Refused r
-    → (asked ≡ Ok (command.Link w) → LinkSaysWhy (reads_of o) files false w r) × (asked ≡ Ok (command.Build w) → LinkSaysWhy (reads_of o) files true w r)
+    → (asked ≡ Ok (command.Link w) → LinkSaysWhy (reads_of o) files false w r)
+    × (asked ≡ Ok (command.Build w) → LinkSaysWhy (reads_of o) files true w r)
 
 abbrev pub ReportRefusalsAreTrue : Result Command ℕ → Outside → Answer → Type 0
 ReportRefusalsAreTrue asked o a =

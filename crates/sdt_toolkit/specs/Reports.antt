@@ -42,7 +42,8 @@ abbrev pub report_as : LinkPlacement → List ℕ → Option (List Range32) → 
 report_as f text ram given os = placed_as f text ram os >>= report_made given
 
 -- of objects that are linked of these, which are so many
-abbrev pub IsReport : List (Named Object) → List (Named Archive) → LinkPlacement → List ℕ → Option (List Bank) → Result (List ℕ) Refusal → Type 0
+abbrev pub IsReport : List (Named Object) → List (Named Archive) → LinkPlacement → List ℕ → Option (List Bank)
+    → Result (List ℕ) Refusal → Type 0
 IsReport objects archives f text banks report =
     (os : List (Named Object)) × AreLinked objects archives os × (ram : Option (List Range32)) × IsRam banks ram
     × (report ≡ report_as f text ram (length objects) os)

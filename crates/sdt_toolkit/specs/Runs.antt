@@ -51,7 +51,8 @@ use Rattle.tool_words.specs.Commands.{ComeTogether, command_of}
 use Rattle.tool_run.specs.Aifs.{loaded_aif}
 use Rattle.tool_run.specs.Elfs.{loaded_elf}
 use Rattle.tool_run.specs.Images.{IsRead, has_zero}
-use Rattle.tool_run.specs.Runs.{AreBanks, Ran, RunAnswers}
+use Rattle.tool_run.specs.Openings.{AreBanks}
+use Rattle.tool_run.specs.Runs.{Ran, RunAnswers}
 use Rattle.sdt_toolkit.specs.Headline.{IsLinkedInto}
 use Rattle.sdt_toolkit.specs.RunImages.{HasFiles, IsFiled, is_needed, run_image}
 use Rattle.sdt_toolkit.specs.Starting.{FitsAt, entered_at, segments_of, written_in}
@@ -140,7 +141,7 @@ pub record HasStarted (b : Booting) (banks : List Bank) (most : ℕ) (why : Stop
 -- so it does for each answer of `run` that tells of a run, in banks that the words tell
 abbrev pub Started : Booting → RunWords → Outside → List Seat → List Seat → Stop → Type 0
 Started b w o seats left why =
-    (banks : List Bank) × AreBanks w banks × HasStarted b banks w.steps why o.printed o.prints (Rose o.faults o.faults_now) seats left
+    (banks : List Bank) × AreBanks w.memory w.rom banks × HasStarted b banks w.steps why o.printed o.prints (Rose o.faults o.faults_now) seats left
 
 abbrev pub AnswerStarts : Booting → RunWords → Outside → List Seat → List Seat → Answer → Type 0
 AnswerStarts b w o seats left answer.Done = Started b w o seats left stop.Exit
@@ -209,7 +210,8 @@ abbrev pub Names : Container → Kind → List ℕ → Tables → Image → (ℕ
 Names container.LoadFiles k out t i views named b =
     (lacks 10 out ≡ true) × (has_zero out ≡ false) × (named ≡ image.Map (map_name out)) × (b ≡ map_booting i (views i.start))
 Names (container.Elf symbols) k out t i views named b =
-    (e : Elf) × ReadsElf (executable symbols i t) e × (named ≡ image.Elf out) × (b ≡ elf_booting i (views i.start) (executable symbols i t) e)
+    (e : Elf) × ReadsElf (executable symbols i t) e × (named ≡ image.Elf out)
+    × (b ≡ elf_booting i (views i.start) (executable symbols i t) e)
 Names container.ImageFile k out t i views named b = (to : ℕ) × FitsAt k i to × PutAt out i named to × (b ≡ aif_booting k i views to)
 Names container.Binary k out t i views named b = ⊥
 
@@ -245,7 +247,7 @@ abbrev pub CommandsStart : Type 0
 CommandsStart =
     (b : Booting) (w : RunWords) (o : Outside) (seats left : List Seat) (a : Answer) → CanBoot b
     → ((read : Result RunImage Refusal) → IsRead o.before (Rose o.reads o.reads_now) w.image read → read ≡ Ok b.run)
-    → ((banks : List Bank) → AreBanks w banks → HasView b banks × Allow banks seats b.written)
+    → ((banks : List Bank) → AreBanks w.memory w.rom banks → HasView b banks × Allow banks seats b.written)
     → RunAnswers w o seats left a → AnswerStarts b w o seats left a
 
 -- and so, over the files as `link` or `build` left them, does each run of what they name, in banks that allow it
@@ -255,7 +257,7 @@ LinkedRunsStart =
     (r : RunWords) (o : Outside) (seats left : List Seat) (a : Answer) → ComeTogether w.placement w.container
     → (link : IsLinkedInto sources w before after i views) → o.before ≡ after
     → Names w.container link.shape w.output link.tables i views r.image b
-    → ((banks : List Bank) → AreBanks r banks → HaveRanges w.container b.view banks × Allow banks seats b.written)
+    → ((banks : List Bank) → AreBanks r.memory r.rom banks → HaveRanges w.container b.view banks × Allow banks seats b.written)
     → RunAnswers r o seats left a → AnswerStarts b r o seats left a
 
 -- ---- clauses of the top call
@@ -267,7 +269,7 @@ IsStarted r o seats left a =
     (sources : Bool) (w : LinkWords) (before : Files) (after : Option Files) (i : Image) (views : ℕ → ByteMap) (b : Booting)
     → ComeTogether w.placement w.container → (link : IsLinkedInto sources w before after i views) → o.before ≡ after
     → Names w.container link.shape w.output link.tables i views r.image b → AreWholeSeats seats
-    → ((banks : List Bank) → AreBanks r banks → Suit w.container b banks) → AnswerStarts b r o seats left a
+    → ((banks : List Bank) → AreBanks r.memory r.rom banks → Suit w.container b banks) → AnswerStarts b r o seats left a
 
 abbrev pub StartsAsLinked : Result Command ℕ → Outside → List Seat → List Seat → Answer → Type 0
 StartsAsLinked asked o seats left a = (r : RunWords) → asked ≡ Ok (command.Run r) → IsStarted r o seats left a
@@ -289,7 +291,7 @@ pub record IsRunBySteps (w : RunWords) (o : Outside) (seats left : List Seat) (w
   pub image : RunImage
   pub read : IsRead o.before (Rose o.reads o.reads_now) w.image (Ok image)
   pub banks : List Bank
-  pub are_banks : AreBanks w banks
+  pub are_banks : AreBanks w.memory w.rom banks
   pub ran : RanBySteps banks image w.steps why o.printed o.prints (Rose o.faults o.faults_now) seats left
 
 abbrev pub AnswerSteps : RunWords → Outside → List Seat → List Seat → Answer → Type 0

@@ -74,7 +74,8 @@ AssemblyAnswers name output o a =
 -- the same over the files and counts of a store and beside any sink, of which it prints nothing
 abbrev pub AssemblyAnswersOver : List ℕ → List ℕ → Option Files → Option Files → ℕ → ℕ → ℕ → ℕ → Answer → Type 0
 AssemblyAnswersOver name output before after reads reads_now writes writes_now a =
-    (printed : Option (List ℕ)) (faults : ℕ) → AssemblyAnswers name output (unprinted printed faults before after reads reads_now writes writes_now) a
+    (printed : Option (List ℕ)) (faults : ℕ)
+    → AssemblyAnswers name output (unprinted printed faults before after reads reads_now writes writes_now) a
 
 -- files ask for one thing
 abbrev pub OneAsked : Type 0

@@ -8,6 +8,7 @@ ghost use Rattle.tool_words.specs.Commands.{IsGood, command_of};
 
 use crate::assemble::assemble_file;
 use crate::big::make_big;
+use crate::debug::debug;
 use crate::kit::write_kit;
 use crate::links::link_files;
 use crate::report::print_report;
@@ -15,8 +16,7 @@ use sdt_fault::answer::Answer;
 use sdt_fault::refusal::Refusal;
 use sdt_outside::{Device, Sink, Store};
 use std::alloc::Global;
-use tool_library::{create_library, extract_member, list_members};
-use tool_listing::list_file;
+use tool_library::{create_library, extract_member, list_file, list_members};
 use tool_run::{burn, run};
 use tool_words::{Command, WordsFault, read_words};
 
@@ -59,6 +59,7 @@ fn carried_out<S: Store, K: Sink>(
         } => extract_member(alloc, store, &library, &member, output),
         Command::List { file } => list_file(alloc, store, sink, &file),
         Command::Run(words) => run(alloc, store, sink, devices, &words),
+        Command::Debug(words) => debug(alloc, store, sink, devices, &words),
         Command::Link(words) => link_files(alloc, store, false, &words),
         Command::Build(words) => link_files(alloc, store, true, &words),
         Command::Report(words) => print_report(alloc, store, sink, &words),

@@ -7,6 +7,7 @@ ghost use Rattle.sdt_toolkit.specs.Big.{MakesBig};
 ghost use Rattle.sdt_toolkit.specs.Builds.{BuildsAsLinked};
 ghost use Rattle.sdt_toolkit.specs.Burns.{BurnsAsLinked, StartsAsBurned};
 ghost use Rattle.sdt_toolkit.specs.Commands.{Commanded, Ends, is_run, may_print};
+ghost use Rattle.sdt_toolkit.specs.Debugging.{DebugsByRuns};
 ghost use Rattle.sdt_toolkit.specs.Exact.{Exact};
 ghost use Rattle.sdt_toolkit.specs.Headline.{Headline};
 ghost use Rattle.sdt_toolkit.specs.Interrupts.{HidesInterrupts};
@@ -29,6 +30,7 @@ mod big_image;
 mod big_laws;
 mod commands;
 mod contents;
+mod debug;
 mod images;
 mod inputs;
 mod kit;
@@ -40,11 +42,12 @@ mod report;
 mod sound;
 mod writing;
 
-/// Carries out a command: `asm`, `link`, `build`, one of the librarian's, `list`, `report`, `run`, `burn`, `irqkit` or `make-big`.
+/// Carries out a command: `asm`, `link`, `build`, one of the librarian's, `list`, `report`, `run`, `debug`, `burn`, `irqkit` or
+/// `make-big`.
 ///
 /// A refusal names the first defect of the words, then of the files, in order. `ReadFault`, `WriteFault`
 /// and `SinkFault` come only where the store's or the sink's count of such faults rose. A run takes the devices
-/// onto its bus and hands them back as it left them.
+/// onto its bus and hands them back as it left them; so does a session of `debug`, without those that its script took out.
 pub fn run_tool<S: Store, K: Sink>(
     alloc: Global,
     words: &[String],
@@ -82,6 +85,12 @@ pub fn run_tool<S: Store, K: Sink>(
         (K.bytes sink.old) (K.bytes sink.new) (S.read_faults store.old) (S.read_faults store.new)
         (S.write_faults store.old) (S.write_faults store.new) (K.faults sink.old) (K.faults sink.new))
         (seats_by base size state touched devices.old.items) (seats_by base size state touched devices.new.items) result }
+    // One run of the machine leads from the beginning of a session of `debug` to its end, where its script takes no device out; and
+    // what makes no step leaves registers, memory and devices.
+    ensures sessions { DebugsByRuns (command_of (map string_bytes words.now)) (outside_of (S.files store.old) (S.files store.new)
+        (K.bytes sink.old) (K.bytes sink.new) (S.read_faults store.old) (S.read_faults store.new)
+        (S.write_faults store.old) (S.write_faults store.new) (K.faults sink.old) (K.faults sink.new))
+        (seats_by base size state touched devices.old.items) (seats_by base size state touched devices.new.items) result }
     // A run by the map of an image in which the interrupt kit is in force, and whose program keeps the rules, is done as the
     // run without interrupts is, with the same text.
     ensures interrupts { HidesInterrupts (command_of (map string_bytes words.now)) (outside_of (S.files store.old) (S.files store.new)
@@ -108,7 +117,7 @@ pub fn run_tool<S: Store, K: Sink>(
         (K.bytes sink.old) (K.bytes sink.new) (S.read_faults store.old) (S.read_faults store.new)
         (S.write_faults store.old) (S.write_faults store.new) (K.faults sink.old) (K.faults sink.new))
         (seats_by base size state touched devices.old.items) (seats_by base size state touched devices.new.items) result }
-    // The devices are touched by `run` and `make-big` alone, and the sink by commands that print.
+    // The devices are touched by `run`, `debug` and `make-big` alone, and the sink by commands that print.
     ensures devices { is_run (command_of (map string_bytes words.now)) ≡ false → devices.new ≡ devices.old }
     ensures sink { may_print (command_of (map string_bytes words.now)) ≡ false → sink.new ≡ sink.old }
 {

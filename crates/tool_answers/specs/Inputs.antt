@@ -1,7 +1,7 @@
 -- The inputs of a command: named files, read in order. This project's.
 use Rattle.std.specs.Prelude.{◌≡◌, ℕ, List, [], ◌∷◌, ◌++◌, Option, Some, None, Result, Ok, Err}
 use Rattle.sdt_fault.specs.declared.refusal.Refusal.{Refusal}
-use Rattle.sdt_fault.specs.declared.refusal.Refusal.TheVariants.{BadChunk, BadObject, BadLibrary, BadImage, BadRecord, Missing}
+use Rattle.sdt_fault.specs.declared.refusal.Refusal.TheVariants.{BadChunk, BadObject, BadLibrary, BadImage, BadRecord, BadCommand, Missing}
 use Rattle.sdt_outside.specs.Files.{Files, content, IsMissing}
 use Rattle.sdt_outside.specs.declared.store.StoreError.{StoreError}
 use Rattle.sdt_outside.specs.declared.store.StoreError.TheVariants as store
@@ -37,6 +37,7 @@ named name (BadObject file at kind) = BadObject name at kind
 named name (BadLibrary file at kind) = BadLibrary name at kind
 named name (BadImage file at kind) = BadImage name at kind
 named name (BadRecord file line kind) = BadRecord name line kind
+named name (BadCommand file line kind) = BadCommand name line kind
 named name other = other
 
 -- what files hold, in order, where they are told

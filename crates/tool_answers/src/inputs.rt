@@ -180,6 +180,15 @@ pub fn named(name: Text, refusal: Refusal) -> Refusal
             line,
             kind,
         },
+        Refusal::BadCommand {
+            file: _,
+            line,
+            kind,
+        } => Refusal::BadCommand {
+            file: name,
+            line,
+            kind,
+        },
         other => other,
     }
 }

@@ -103,7 +103,8 @@ mapped_image m files =
 -- ---- the image
 
 -- what the words name, or the first refusal: the file is missing, it is no ARM image file or may not stand at the
--- address, it is no ELF executable, a line of records is at fault, the map's text is wrong, a load file is missing, a load file has another length
+-- address, it is no ELF executable, a line of records is at fault, the map's text is wrong, a load file is missing, a load
+-- file has another length
 abbrev pub image_of : RunImage → Files → Result Image Refusal
 image_of (image.Binary file at) files = input_of files file >>= λ bytes. Ok (binary_image at bytes)
 image_of (image.Aif file at) files = input_of files file >>= λ bytes. aif_at file at bytes

@@ -5,4 +5,5 @@ pub mod Burns
 pub mod Elfs
 pub mod Ends
 pub mod Images
+pub mod Openings
 pub mod Runs

@@ -1,7 +1,6 @@
 -- What each answer to `run` says of the image and the run, and what it leaves of files, sink and devices. This
 -- project's.
-use Rattle.std.specs.Prelude.{◌≡◌, ◌≤◌, ℕ, Bool, List, map, Option, Result, Ok, Err}
-use Rattle.sdt_word.specs.declared.ranges.Range32.{Range32}
+use Rattle.std.specs.Prelude.{◌≡◌, ◌≤◌, ℕ, Bool, List, Option, Result, Ok}
 use Rattle.sdt_fault.specs.declared.answer.Answer.{Answer}
 use Rattle.sdt_fault.specs.declared.answer.Answer.TheVariants as answer
 use Rattle.sdt_fault.specs.declared.answer.Stop.{Stop}
@@ -15,31 +14,19 @@ use Rattle.arm7_bus.specs.States.{State}
 use Rattle.arm7_core.specs.Resets.{IsReset}
 use Rattle.arm7_run.specs.Runs.{RunsInto}
 use Rattle.run_opening.specs.declared.image.Image.{Image}
-use Rattle.run_opening.specs.Banks.{banks_of, IsDefect, IsRoomy}
+use Rattle.run_opening.specs.Banks.{IsRoomy}
 use Rattle.run_opening.specs.Openings.{IsOpening}
 use Rattle.tool_answers.specs.Outcomes.{Outside, IsLeft}
-use Rattle.tool_words.specs.declared.command.Bank.{Bank}
 use Rattle.tool_words.specs.declared.command.RunWords.{RunWords}
 use Rattle.tool_run.specs.Images.{IsInput, IsRead}
-
--- ---- the banks that the words tell
-
--- the ranges have the bases and sizes that the words tell
-abbrev pub AreRanges : List Bank → List Range32 → Type 0
-AreRanges told ranges = map {B = ℕ × ℕ} (λ r. (r.base, r.size)) ranges ≡ map {B = ℕ × ℕ} (λ b. (b.base, b.size)) told
-
-pub record AreBanks (run : RunWords) (banks : List MemoryBank) : Type 0 where
-  pub memory : List Range32
-  pub memory_told : AreRanges run.memory memory
-  pub rom : List Range32
-  pub rom_told : AreRanges run.rom rom
-  pub banks_are : banks ≡ banks_of memory rom
+use Rattle.tool_run.specs.Openings.{AreBanks, IsRefusal}
 
 -- ---- the run
 
 -- from reset at an address, in Thumb or in ARM state, the machine makes at most so many steps over a bus, up to this
 -- stop; its text goes to the sink, and it leaves the devices so
-pub record IsRun (start : ℕ) (thumb : Bool) (most : ℕ) (begin : State) (why : Stop) (before after : Option (List ℕ)) (rose : Type 0) (left : List Seat) : Type 0 where
+pub record IsRun (start : ℕ) (thumb : Bool) (most : ℕ) (begin : State) (why : Stop)
+    (before after : Option (List ℕ)) (rose : Type 0) (left : List Seat) : Type 0 where
   pub core : ArmState
   pub reset : IsReset start thumb core
   pub made : ℕ
@@ -50,7 +37,8 @@ pub record IsRun (start : ℕ) (thumb : Bool) (most : ℕ) (begin : State) (why 
   pub devices : left ≡ end.devices
 
 -- an image was run over banks and devices that have room for it
-pub record Ran (banks : List MemoryBank) (image : Image) (most : ℕ) (why : Stop) (before after : Option (List ℕ)) (rose : Type 0) (seats left : List Seat) : Type 0 where
+pub record Ran (banks : List MemoryBank) (image : Image) (most : ℕ) (why : Stop)
+    (before after : Option (List ℕ)) (rose : Type 0) (seats left : List Seat) : Type 0 where
   pub roomy : IsRoomy banks seats image.needs
   pub begin : State
   pub opening : IsOpening banks image seats begin
@@ -61,16 +49,11 @@ pub record HasRun (run : RunWords) (read : Result Image Refusal) (why : Stop) (o
   pub image : Image
   pub read_so : read ≡ Ok image
   pub banks : List MemoryBank
-  pub are_banks : AreBanks run banks
+  pub are_banks : AreBanks run.memory run.rom banks
   pub ran : Ran banks image run.steps why o.printed o.prints (Rose o.faults o.faults_now) seats left
   pub files : o.after ≡ o.before
 
 -- ---- answers
-
--- the refusal is that of the files, or that of the banks
-abbrev pub IsRefusal : RunWords → Result Image Refusal → List Seat → Refusal → Type 0
-IsRefusal run (Err told) seats r = r ≡ told
-IsRefusal run (Ok image) seats r = (banks : List MemoryBank) × AreBanks run banks × IsDefect banks seats image.needs r
 
 -- nothing was written, nothing printed, and the devices are as they were
 pub record IsUntouched (o : Outside) (seats left : List Seat) : Type 0 where
@@ -87,7 +70,7 @@ abbrev pub RunSays : RunWords → Result Image Refusal → Outside → List Seat
 RunSays run read o seats left answer.Done = HasRun run read stop.Exit o seats left
 RunSays run read o seats left (answer.Stopped why) = IsStopped why × HasRun run read why o seats left
 RunSays run read o seats left answer.SinkFault = HasRun run read stop.Sink o seats left
-RunSays run read o seats left (answer.Refused r) = IsRefusal run read seats r × IsUntouched o seats left
+RunSays run read o seats left (answer.Refused r) = IsRefusal run.memory run.rom read seats r × IsUntouched o seats left
 RunSays run read o seats left (answer.ReadFault name) =
     Rose o.reads o.reads_now × IsInput o.before run.image name × IsUntouched o seats left
 RunSays run read o seats left (answer.WriteFault name) = ⊥
@@ -98,12 +81,3 @@ pub record RunAnswers (run : RunWords) (o : Outside) (seats left : List Seat) (a
   pub read : Result Image Refusal
   pub read_so : IsRead o.before (Rose o.reads o.reads_now) run.image read
   pub says : RunSays run read o seats left a
-
--- what the run of an image over these banks answers
-abbrev pub ImageRuns : List MemoryBank → Image → ℕ → Option (List ℕ) → Option (List ℕ) → Type 0 → List Seat → List Seat → Answer → Type 0
-ImageRuns banks image most before after rose seats left answer.Done = Ran banks image most stop.Exit before after rose seats left
-ImageRuns banks image most before after rose seats left (answer.Stopped why) = IsStopped why × Ran banks image most why before after rose seats left
-ImageRuns banks image most before after rose seats left answer.SinkFault = Ran banks image most stop.Sink before after rose seats left
-ImageRuns banks image most before after rose seats left (answer.Refused r) = IsDefect banks seats image.needs r × (after ≡ before) × (left ≡ seats)
-ImageRuns banks image most before after rose seats left answer.NoMemory = (after ≡ before) × (left ≡ seats)
-ImageRuns banks image most before after rose seats left other = ⊥

@@ -4,7 +4,7 @@ ghost use Rattle.std.specs.Prelude.{◌≡◌, IfOk, map};
 ghost use Rattle.std.specs.List.{AllByRecursion};
 ghost use Rattle.run_opening.specs.Banks as opening;
 ghost use Rattle.tool_words.specs.Commands.{IsBank};
-ghost use Rattle.tool_run.specs.Runs.{AreRanges};
+ghost use Rattle.tool_run.specs.Openings.{AreRanges};
 
 use sdt_fault::NoMemory;
 use sdt_word::Range32;

@@ -11,11 +11,13 @@ mod elfs;
 mod ends;
 mod image;
 mod maps;
+mod opening;
 
 pub use crate::banks::ranges;
 pub use crate::burned::burn_load_law;
 pub use crate::burning::burn;
 pub use crate::command::run;
 pub use crate::elfs::elf_load_law;
-pub use crate::ends::ImageEnd;
+pub use crate::ends::{ImageEnd, image_answer};
 pub use crate::image::read_image;
+pub use crate::opening::{Board, open_image};

@@ -7,7 +7,7 @@ use Rattle.std.proofs.lemmas.Bool.Decides.{nat_tests}
 use Rattle.std.proofs.lemmas.List.{length-map}
 use Rattle.std.proofs.lemmas.List.Sums.{length-filter, sum_by-cons, sum_by_push}
 use Rattle.tool_words.specs.declared.items.Verb.{Verb}
-use Rattle.tool_words.specs.declared.items.Verb.TheVariants.{Assemble, Library, List as Listing, Run, Link, Build, InterruptKit, Burn, Report, MakeBig}
+use Rattle.tool_words.specs.declared.items.Verb.TheVariants.{Assemble, Library, List as Listing, Run, Link, Build, InterruptKit, Burn, Report, MakeBig, Debug}
 use Rattle.tool_words.specs.declared.items.Flag.{Flag}
 use Rattle.tool_words.specs.declared.items.Flag.TheVariants as flag
 use Rattle.tool_words.specs.declared.items.Role.{Role}
@@ -18,7 +18,7 @@ use Rattle.tool_words.specs.declared.command.LinkPlacement.TheVariants as placem
 use Rattle.tool_words.specs.declared.command.Container.TheVariants as container
 use Rattle.tool_words.specs.Items.{word_at}
 use Rattle.tool_words.specs.Rules.{code, has, is_flag, is_name, number_at, is_aligned, is_size, is_plain, must_count, decimal_at, is_count, name_is_good, is_below, most_names, least_names, first_is_good, value_fault, or_else, values_fault, is_allowed, is_surplus, name_count, role_fault, items_fault, names_fault, needs_mode, is_met, is_complete, lesser, verb_fault, mode_of, choice_of}
-use Rattle.tool_words.specs.Commands.{value_of, number_of, number_told, bank_at, banks_in, image_of, placement_of, container_of, count_of, names_in, link_words, report_words, library_command, verb_command, IsBank, IsAddress, IsPlaced, IsBased, ComeTogether, AreBanks, IsLinked, IsReported, IsGood}
+use Rattle.tool_words.specs.Commands.{value_of, number_of, number_told, bank_at, banks_in, image_of, placement_of, container_of, count_of, names_in, link_words, report_words, library_command, verb_command, IsBank, IsAddress, IsPlaced, IsBased, ComeTogether, AreBanks, IsLinked, IsReported, IsBoard, IsGood}
 use Rattle.base_lemmas.proofs.BaseLemmas.{first_of_both, second_of_both}
 
 -- ---- no fault at all
@@ -81,7 +81,8 @@ flag_at n =
     if n == 9 then flag.Steps else (if n == 10 then flag.Scatter else (if n == 11 then flag.Aif else (
     if n == 12 then flag.Reloc else (if n == 13 then flag.Base else (if n == 14 then flag.Ram else (
     if n == 15 then flag.Elf else (if n == 16 then flag.Acknowledge else (if n == 17 then flag.IntelHex else (
-    if n == 18 then flag.SRecords else (if n == 19 then flag.Burned else flag.Symbols)))))))))))))))))))
+    if n == 18 then flag.SRecords else (if n == 19 then flag.Burned else (
+    if n == 20 then flag.Symbols else flag.Script))))))))))))))))))))
 
 back : (f : Flag) → flag_at (code f) ≡ f
 unfolding flag_at
@@ -106,6 +107,7 @@ back flag.IntelHex = refl
 back flag.SRecords = refl
 back flag.Burned = refl
 back flag.Symbols = refl
+back flag.Script = refl
 
 same_flag : (f g : Flag) → (code f == code g) ≡ true → f ≡ g
 same_flag f g h = let e : code f ≡ code g = grind (arith, nat_tests) in sym (back f) ∙ (ap flag_at e ∙ back g)
@@ -314,6 +316,16 @@ reports verb k words items h =
     let some : nat_le 1 (name_count items) ≡ true = subst (λ n. nat_le n (name_count items) ≡ true) (one_name verb k (mode_of verb items)) (names_enough verb words items h) in
     reported verb (mode_of verb items) words items (all_good verb words items h) some
 
+-- who runs an image has a place for it, and banks
+board_good : (verb : Verb) (words : List (List ℕ)) (items : List Item) → verb_fault verb words items ≡ None
+    → IsBoard (image_of (mode_of verb items) words items) (banks_in words items flag.Memory) (banks_in words items flag.Rom)
+board_good verb words items h =
+    let all = all_good verb words items h in (
+      image_fine verb (mode_of verb items) words items all,
+      banks_fine verb flag.Memory memory words items all,
+      banks_fine verb flag.Rom rom words items all,
+    )
+
 some_name : (n : ℕ) → nat_le 2 n ≡ true → 0 < n
 some_name n h = grind (arith, nat_tests)
 
@@ -321,12 +333,11 @@ pub good_words : (verb : Verb) (words : List (List ℕ)) (items : List Item) →
 good_words Assemble words items h = tt
 good_words Library words items h = library_good (mode_of Library items) words items
 good_words Listing words items h = tt
-good_words Run words items h =
-    let all = all_good Run words items h in
-    (image_fine Run (mode_of Run items) words items all, banks_fine Run flag.Memory memory words items all, banks_fine Run flag.Rom rom words items all)
+good_words Run words items h = board_good Run words items h
 good_words Link words items h = linked (mode_of Link items) words items (reports Link link words items h)
 good_words Build words items h = linked (mode_of Build items) words items (reports Build build words items h)
 good_words InterruptKit words items h = address_fine InterruptKit flag.Acknowledge acknowledgement words items 0xF000000C refl (all_good InterruptKit words items h)
 good_words Burn words items h = tt
 good_words Report words items h = reports Report report words items h
 good_words MakeBig words items h = first_counts words (choice_of MakeBig items) [] items refl (no_item_fault MakeBig words items h) (some_name (name_count items) (names_enough MakeBig words items h))
+good_words Debug words items h = board_good Debug words items h

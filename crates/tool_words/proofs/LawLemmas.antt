@@ -2,7 +2,7 @@
 use Rattle.std.proofs.Common.{◌≡◌, ℕ, ◌+◌, ◌-◌, ◌<◌, ◌≤◌, ◌==◌, ◌⊎◌, inl, inr, min, nat_lt, nat_le, Bool, true, false, cond, not, ◌&&◌, ◌||◌, List, [], ◌∷◌, ◌++◌, length, Option, Some, None, Result, Ok, Err, is_some, refl, sym, ap, ◌∙◌, subst, arith}
 use Rattle.std.proofs.lemmas.Bool.Decides.{nat_tests}
 use Rattle.tool_words.specs.declared.items.Verb.{Verb}
-use Rattle.tool_words.specs.declared.items.Verb.TheVariants.{Run}
+use Rattle.tool_words.specs.declared.items.Verb.TheVariants.{Run, Debug}
 use Rattle.tool_words.specs.declared.items.Flag.{Flag}
 use Rattle.tool_words.specs.declared.items.Flag.TheVariants as flag
 use Rattle.tool_words.specs.declared.items.Role.{Role}
@@ -11,7 +11,7 @@ use Rattle.tool_words.specs.declared.items.Item.{Item}
 use Rattle.tool_words.specs.declared.rules.Choice.{Choice}
 use Rattle.tool_words.specs.declared.command.Command.{Command}
 use Rattle.tool_words.specs.Items.{word_at, verb_named, form_count, value_count, count_of, items_of}
-use Rattle.tool_words.specs.Rules.{has, is_name, is_bank, bank_count, name_count, is_mode, mode_of, choice_of, is_plain, must_count, decimal_at, is_count, name_is_good, first_is_good, second_is_good, value_fault, values_fault, or_else, is_allowed, is_surplus, most_names, is_below, role_fault, items_fault, stands, repeated, must_differ, names_fault, needs_mode, least_names, needs_output, needs_map, needs_address, is_met, is_complete, lesser, verb_fault}
+use Rattle.tool_words.specs.Rules.{has, is_name, is_bank, bank_count, name_count, is_mode, mode_of, choice_of, is_plain, must_count, decimal_at, is_count, name_is_good, first_is_good, second_is_good, value_fault, values_fault, or_else, is_allowed, is_surplus, most_names, is_below, role_fault, items_fault, stands, repeated, must_differ, names_fault, needs_mode, least_names, needs_output, needs_map, needs_script, needs_address, is_met, is_complete, lesser, verb_fault}
 use Rattle.tool_words.specs.Commands.{told, unless, verb_command, verb_words}
 use Rattle.tool_words.specs.Laws as laws
 use Rattle.tool_words.specs.Laws.{OptionBreaks, NameBreaks, RoleBreaks, BreaksRule, IsMissing, BreaksAt, MissesOf, IsLeast, IsEnd, PlaceLaw, FineLaw, WithinLaw}
@@ -62,6 +62,7 @@ value_tells words at good = value_of_test words at good (nat_lt at (length words
 
 form_most : (verb : Verb) → form_count verb ≤ 2
 form_most Run = omega arith
+form_most Debug = omega arith
 form_most verb = omega arith
 
 values_most : (verb : Verb) (f : Flag) → value_count verb f ≤ 2
@@ -439,19 +440,28 @@ module _ (verb : Verb) (words : List (List ℕ)) (items : List Item) where
   abbrev map_met : Bool
   map_met = is_met (needs_map verb) (has flag.Map items)
 
+  abbrev script_met : Bool
+  script_met = is_met (needs_script verb) (has flag.Script items)
+
   abbrev address_met : Bool
   address_met = is_met (needs_address verb (mode_of verb items)) (has flag.At items)
 
+  -- what is needed beside -o
+  abbrev files_met : Bool
+  files_met = map_met && (script_met && address_met)
+
   abbrev options_met : Bool
-  options_met = output_met && (map_met && address_met)
+  options_met = output_met && files_met
 
   of_option_missing : options_met ≡ false → IsMissing verb words items
   of_option_missing h =
       either (λ e. let k = not_met (needs_output verb (mode_of verb items)) (has flag.Output items) e in laws.output k.0 k.1)
       (λ r. either (λ e. let k = not_met (needs_map verb) (has flag.Map items) e in laws.map k.0 k.1)
+      (λ s. either (λ e. let k = not_met (needs_script verb) (has flag.Script items) e in laws.script k.0 k.1)
       (λ e. let k = not_met (needs_address verb (mode_of verb items)) (has flag.At items) e in laws.address k.0 k.1)
-      (which_fails map_met address_met r))
-      (which_fails output_met (map_met && address_met) h)
+      (which_fails script_met address_met s))
+      (which_fails map_met (script_met && address_met) r))
+      (which_fails output_met files_met h)
 
   of_incomplete : is_complete verb (mode_of verb items) items ≡ false → IsMissing verb words items
   of_incomplete h =
@@ -461,6 +471,9 @@ module _ (verb : Verb) (words : List (List ℕ)) (items : List Item) where
 
   option_lacks : options_met ≡ false → is_complete verb (mode_of verb items) items ≡ false
   option_lacks h = second_fails mode_met (name_met && options_met) (second_fails name_met options_met h)
+
+  file_lacks : files_met ≡ false → is_complete verb (mode_of verb items) items ≡ false
+  file_lacks h = option_lacks (second_fails output_met files_met h)
 
   to_missing : IsMissing verb words items → Lacks (ItemWants verb words) [] items ⊎ (is_complete verb (mode_of verb items) items ≡ false)
   to_missing (laws.value before item after f all role le) =
@@ -472,11 +485,15 @@ module _ (verb : Verb) (words : List (List ℕ)) (items : List Item) where
       let short : name_met ≡ false = too_few (least_names verb (mode_of verb items)) (name_count items) lt in
       inr (second_fails mode_met (name_met && options_met) (first_fails name_met options_met short))
   to_missing (laws.output n e) =
-      inr (option_lacks (first_fails output_met (map_met && address_met) (unmet (needs_output verb (mode_of verb items)) (has flag.Output items) n e)))
+      inr (option_lacks (first_fails output_met files_met (unmet (needs_output verb (mode_of verb items)) (has flag.Output items) n e)))
   to_missing (laws.map n e) =
-      inr (option_lacks (second_fails output_met (map_met && address_met) (first_fails map_met address_met (unmet (needs_map verb) (has flag.Map items) n e))))
+      inr (file_lacks (first_fails map_met (script_met && address_met) (unmet (needs_map verb) (has flag.Map items) n e)))
+  to_missing (laws.script n e) =
+      let none : script_met ≡ false = unmet (needs_script verb) (has flag.Script items) n e in
+      inr (file_lacks (second_fails map_met (script_met && address_met) (first_fails script_met address_met none)))
   to_missing (laws.address n e) =
-      inr (option_lacks (second_fails output_met (map_met && address_met) (second_fails map_met address_met (unmet (needs_address verb (mode_of verb items)) (has flag.At items) n e))))
+      let none : address_met ≡ false = unmet (needs_address verb (mode_of verb items)) (has flag.At items) n e in
+      inr (file_lacks (second_fails map_met (script_met && address_met) (second_fails script_met address_met none)))
 
 -- ---- the fault of a command
 

@@ -3,9 +3,9 @@ use Rattle.std.specs.Prelude.{◌≡◌, ℕ, ◌+◌, ◌%◌, ◌^◌, ◌<◌
 use Rattle.std.specs.List.{AllByRecursion}
 use Rattle.std.specs.Option.{option_map_or}
 use Rattle.tool_words.specs.declared.items.Verb.{Verb}
-use Rattle.tool_words.specs.declared.items.Verb.TheVariants.{Assemble, Library, List as Listing, Run, Link, Build, InterruptKit, Burn, Report, MakeBig}
+use Rattle.tool_words.specs.declared.items.Verb.TheVariants.{Assemble, Library, List as Listing, Run, Link, Build, InterruptKit, Burn, Report, MakeBig, Debug}
 use Rattle.tool_words.specs.declared.items.Flag.{Flag}
-use Rattle.tool_words.specs.declared.items.Flag.TheVariants.{Create, Table, Extract, Output, Bin, At, Memory, Rom, Steps, Reloc, Base, Ram, Acknowledge}
+use Rattle.tool_words.specs.declared.items.Flag.TheVariants.{Create, Table, Extract, Output, Bin, At, Memory, Rom, Steps, Reloc, Base, Ram, Acknowledge, Script}
 use Rattle.tool_words.specs.declared.items.Flag.TheVariants as flag
 use Rattle.tool_words.specs.declared.items.Item.{Item}
 use Rattle.tool_words.specs.declared.command.Bank.{Bank}
@@ -107,7 +107,8 @@ form_of mode = form.SRecords
 
 abbrev pub library_command : Option Flag → List (List ℕ) → List Item → Command
 library_command (Some Create) words items = command.CreateLibrary (value_of words items Create) (names_in words items)
-library_command (Some Extract) words items = command.ExtractMember (value_of words items Extract) (first_name words items) (value_of words items Output)
+library_command (Some Extract) words items =
+    command.ExtractMember (value_of words items Extract) (first_name words items) (value_of words items Output)
 library_command mode words items = command.ListMembers (value_of words items Table)
 
 abbrev pub verb_command : Verb → Option Flag → List (List ℕ) → List Item → Command
@@ -122,10 +123,21 @@ verb_command Run mode words items = command.Run (record {
 })
 verb_command Link mode words items = command.Link (link_words mode words items)
 verb_command Build mode words items = command.Build (link_words mode words items)
-verb_command InterruptKit mode words items = command.InterruptKit (value_of words items Output) (number_of words items Acknowledge 0xF000000C)
+verb_command InterruptKit mode words items =
+    command.InterruptKit (value_of words items Output) (number_of words items Acknowledge 0xF000000C)
 verb_command Burn mode words items = command.Burn (form_of mode) (value_of words items flag.Map) (value_of words items Output)
 verb_command Report mode words items = command.Report (report_words mode words items)
 verb_command MakeBig mode words items = command.MakeBig (count_of words items) (second_name words items)
+verb_command Debug mode words items = command.Debug (record {
+  image = image_of mode words items;
+  memory = banks_in words items Memory;
+  rom = banks_in words items Rom;
+  script = value_of words items Script;
+})
+
+-- by what its options choose
+abbrev pub chosen_command : Verb → List (List ℕ) → List Item → Command
+chosen_command verb words items = verb_command verb (mode_of verb items) words items
 
 -- a place as it is told: counted from 1, and at most 2^32 - 1
 abbrev pub told : ℕ → ℕ
@@ -139,7 +151,7 @@ abbrev pub verb_words : Option Verb → List (List ℕ) → Result Command ℕ
 verb_words None words = Err (told 0)
 verb_words (Some verb) words =
     let items = items_of verb words in
-    unless (verb_fault verb words items) (verb_command verb (mode_of verb items) words items)
+    unless (verb_fault verb words items) (chosen_command verb words items)
 
 -- the command that words ask for, or the place of the first that breaks a rule
 abbrev pub command_of : List (List ℕ) → Result Command ℕ
@@ -208,8 +220,13 @@ pub record IsReported (r : ReportWords) : Type 0 where
   pub named : 0 < length r.names
   pub ram : AreBanks r.ram
 
+-- where an image that is to run is placed, and banks of memory and of read-only memory
+abbrev pub IsBoard : RunImage → List Bank → List Bank → Type 0
+IsBoard image memory rom = IsPlaced image × AllByRecursion IsBank memory × AllByRecursion IsBank rom
+
 abbrev pub IsGood : Command → Type 0
-IsGood (command.Run run) = IsPlaced run.image × AllByRecursion IsBank run.memory × AllByRecursion IsBank run.rom
+IsGood (command.Run run) = IsBoard run.image run.memory run.rom
+IsGood (command.Debug debug) = IsBoard debug.image debug.memory debug.rom
 IsGood (command.Link link) = IsLinked link
 IsGood (command.Build link) = IsLinked link
 IsGood (command.InterruptKit output acknowledge) = acknowledge % 4 ≡ 0

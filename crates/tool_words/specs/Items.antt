@@ -1,9 +1,9 @@
 -- The words behind a command, as items: names, and options with their values. This project's.
 use Rattle.std.specs.Prelude.{ℕ, zero, suc, ◌+◌, ◌-◌, ◌==◌, nat_lt, Bool, true, false, if◌then◌else◌, List, [], ◌∷◌, length, slice_get, unwrap_or, min, Option, Some, None, codes, bytes_eq}
 use Rattle.tool_words.specs.declared.items.Verb.{Verb}
-use Rattle.tool_words.specs.declared.items.Verb.TheVariants.{Assemble, Library, List as Listing, Run, Link, Build, InterruptKit, Burn, Report, MakeBig}
+use Rattle.tool_words.specs.declared.items.Verb.TheVariants.{Assemble, Library, List as Listing, Run, Link, Build, InterruptKit, Burn, Report, MakeBig, Debug}
 use Rattle.tool_words.specs.declared.items.Flag.{Flag}
-use Rattle.tool_words.specs.declared.items.Flag.TheVariants.{Create, Table, Extract, Output, Map, Bin, At, Memory, Rom, Steps, Scatter, Aif, Reloc, Base, Ram, Elf, Acknowledge, IntelHex, SRecords, Burned, Symbols}
+use Rattle.tool_words.specs.declared.items.Flag.TheVariants.{Create, Table, Extract, Output, Map, Bin, At, Memory, Rom, Steps, Scatter, Aif, Reloc, Base, Ram, Elf, Acknowledge, IntelHex, SRecords, Burned, Symbols, Script}
 use Rattle.tool_words.specs.declared.items.Role.{Role}
 use Rattle.tool_words.specs.declared.items.Role.TheVariants.{Name, Known, Unknown}
 use Rattle.tool_words.specs.declared.items.Item.{Item}
@@ -24,7 +24,8 @@ verb_named word =
     if bytes_eq word (codes "irqkit") then Some InterruptKit else (
     if bytes_eq word (codes "burn") then Some Burn else (
     if bytes_eq word (codes "report") then Some Report else (
-    if bytes_eq word (codes "make-big") then Some MakeBig else None)))))))))
+    if bytes_eq word (codes "make-big") then Some MakeBig else (
+    if bytes_eq word (codes "debug") then Some Debug else None))))))))))
 
 -- an option of the place and files of an image
 abbrev pub image_flag_named : List ℕ → Option Flag
@@ -53,7 +54,8 @@ flag_named word =
     if bytes_eq word (codes "-mem") then Some Memory else (
     if bytes_eq word (codes "-rom") then Some Rom else (
     if bytes_eq word (codes "-steps") then Some Steps else (
-    if bytes_eq word (codes "-ack") then Some Acknowledge else image_flag_named word))))))))))
+    if bytes_eq word (codes "-ack") then Some Acknowledge else (
+    if bytes_eq word (codes "-script") then Some Script else image_flag_named word)))))))))))
 
 -- the options of where an image that is made stands, and of its memory
 abbrev pub is_placing_flag : Flag → Bool
@@ -72,6 +74,17 @@ is_image_flag Elf = true
 is_image_flag Symbols = true
 is_image_flag other = is_placing_flag other
 
+-- the options of an image that is to run, and of the memory that it runs in
+abbrev pub is_board_flag : Flag → Bool
+is_board_flag Map = true
+is_board_flag Elf = true
+is_board_flag Aif = true
+is_board_flag Bin = true
+is_board_flag At = true
+is_board_flag Memory = true
+is_board_flag Rom = true
+is_board_flag other = false
+
 -- the options of a command
 abbrev pub has_flag : Verb → Flag → Bool
 has_flag Assemble Output = true
@@ -82,16 +95,9 @@ has_flag Library Extract = true
 has_flag Library Output = true
 has_flag Library other = false
 has_flag Listing flag = false
-has_flag Run Map = true
 has_flag Run Burned = true
-has_flag Run Aif = true
-has_flag Run Elf = true
-has_flag Run Bin = true
-has_flag Run At = true
-has_flag Run Memory = true
-has_flag Run Rom = true
 has_flag Run Steps = true
-has_flag Run other = false
+has_flag Run flag = is_board_flag flag
 has_flag Link flag = is_image_flag flag
 has_flag Build flag = is_image_flag flag
 has_flag InterruptKit Output = true
@@ -104,6 +110,8 @@ has_flag Burn Output = true
 has_flag Burn other = false
 has_flag Report flag = is_placing_flag flag
 has_flag MakeBig flag = false
+has_flag Debug Script = true
+has_flag Debug flag = is_board_flag flag
 
 -- an option of the command, or one that it hasn't
 abbrev pub flag_role : Verb → Option Flag → Role
@@ -121,6 +129,7 @@ role_of verb word = if begins_with_dash word then flag_role verb (flag_named wor
 -- how many values -aif, -bin and -elf have: the file of an image to run, and none where the image is made
 abbrev pub form_count : Verb → ℕ
 form_count Run = 1
+form_count Debug = 1
 form_count other = 0
 
 -- how many values an option has: a base and a size, one word, or none

@@ -3,14 +3,14 @@
 use Rattle.std.specs.Prelude.{◌≡◌, ◌⊎◌, ℕ, ◌+◌, ◌<◌, ◌≤◌, true, false, List, ◌∷◌, ◌++◌, length, Option, Some, None, is_some, Ok, Err}
 use Rattle.tool_words.specs.declared.items.Verb.{Verb}
 use Rattle.tool_words.specs.declared.items.Flag.{Flag}
-use Rattle.tool_words.specs.declared.items.Flag.TheVariants.{Output, Map, At}
+use Rattle.tool_words.specs.declared.items.Flag.TheVariants.{Output, Map, At, Script}
 use Rattle.tool_words.specs.declared.items.Role.{Role}
 use Rattle.tool_words.specs.declared.items.Role.TheVariants.{Name, Known, Unknown}
 use Rattle.tool_words.specs.declared.items.Item.{Item}
 use Rattle.tool_words.specs.declared.rules.Choice.{Choice}
 use Rattle.tool_words.specs.declared.command.Command.{Command}
 use Rattle.tool_words.specs.Items.{word_at, verb_named, value_count, items_of}
-use Rattle.tool_words.specs.Rules.{has, is_bank, bank_count, name_count, is_mode, mode_of, choice_of, is_plain, must_count, decimal_at, is_count, first_is_good, second_is_good, is_allowed, most_names, stands, must_differ, needs_mode, least_names, needs_output, needs_map, needs_address}
+use Rattle.tool_words.specs.Rules.{has, is_bank, bank_count, name_count, is_mode, mode_of, choice_of, is_plain, must_count, decimal_at, is_count, first_is_good, second_is_good, is_allowed, most_names, stands, must_differ, needs_mode, least_names, needs_output, needs_map, needs_script, needs_address}
 use Rattle.tool_words.specs.Commands.{told, command_of}
 
 -- ---- words that break a rule
@@ -56,6 +56,7 @@ pub data IsMissing (verb : Verb) (words : List (List ℕ)) (items : List Item) :
   name : name_count items < least_names verb (mode_of verb items) → IsMissing verb words items
   output : needs_output verb (mode_of verb items) ≡ true → has Output items ≡ false → IsMissing verb words items
   map : needs_map verb ≡ true → has Map items ≡ false → IsMissing verb words items
+  script : needs_script verb ≡ true → has Script items ≡ false → IsMissing verb words items
   address : needs_address verb (mode_of verb items) ≡ true → has At items ≡ false → IsMissing verb words items
 
 -- ---- the command's name too

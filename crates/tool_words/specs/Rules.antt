@@ -3,9 +3,9 @@
 use Rattle.std.specs.Prelude.{ℕ, ◌+◌, ◌%◌, ◌^◌, ◌==◌, nat_lt, nat_le, Bool, true, false, not, ◌&&◌, ◌||◌, if◌then◌else◌, List, [], ◌∷◌, ◌++◌, length, min, Option, Some, None, is_some, bytes_eq, count_by}
 use Rattle.std.specs.List.{list_any, list_all}
 use Rattle.tool_words.specs.declared.items.Verb.{Verb}
-use Rattle.tool_words.specs.declared.items.Verb.TheVariants.{Assemble, Library, List as Listing, Run, Link, Build, InterruptKit, Burn, Report, MakeBig}
+use Rattle.tool_words.specs.declared.items.Verb.TheVariants.{Assemble, Library, List as Listing, Run, Link, Build, InterruptKit, Burn, Report, MakeBig, Debug}
 use Rattle.tool_words.specs.declared.items.Flag.{Flag}
-use Rattle.tool_words.specs.declared.items.Flag.TheVariants.{Create, Table, Extract, Output, Map, Bin, At, Memory, Rom, Steps, Scatter, Aif, Reloc, Base, Ram, Elf, Acknowledge, IntelHex, SRecords, Burned, Symbols}
+use Rattle.tool_words.specs.declared.items.Flag.TheVariants.{Create, Table, Extract, Output, Map, Bin, At, Memory, Rom, Steps, Scatter, Aif, Reloc, Base, Ram, Elf, Acknowledge, IntelHex, SRecords, Burned, Symbols, Script}
 use Rattle.tool_words.specs.declared.items.Role.{Role}
 use Rattle.tool_words.specs.declared.items.Role.TheVariants.{Name, Known, Unknown}
 use Rattle.tool_words.specs.declared.items.Item.{Item}
@@ -38,6 +38,7 @@ code IntelHex = 17
 code SRecords = 18
 code Burned = 19
 code Symbols = 20
+code Script = 21
 
 abbrev pub is_flag : Flag → Role → Bool
 is_flag flag Name = false
@@ -70,9 +71,10 @@ is_bank_role (Known flag) = is_bank flag
 abbrev pub bank_count : List Item → ℕ
 bank_count items = count_by (λ i. is_bank_role i.role) items
 
-abbrev pub is_run : Verb → Bool
-is_run Run = true
-is_run other = false
+abbrev pub runs_image : Verb → Bool
+runs_image Run = true
+runs_image Debug = true
+runs_image other = false
 
 -- options of which a command has one: what a library is wanted for, what is run, where an image is placed, beside
 -- which -elf of an image that is made says what is written, or as which text it is burned, beside which -map says what
@@ -86,8 +88,8 @@ is_mode verb Aif = true
 is_mode verb IntelHex = true
 is_mode verb SRecords = true
 is_mode verb Burned = true
-is_mode verb Map = is_run verb
-is_mode verb Elf = is_run verb
+is_mode verb Map = runs_image verb
+is_mode verb Elf = runs_image verb
 is_mode verb other = false
 
 -- the first such option
@@ -159,10 +161,14 @@ abbrev pub or_else : Option ℕ → Option ℕ → Option ℕ
 or_else None later = later
 or_else (Some n) later = Some n
 
+abbrev pub second_fault : Verb → Flag → List (List ℕ) → ℕ → Option ℕ
+second_fault verb flag words at =
+    if value_count verb flag == 2 then value_fault words (at + 2) (second_is_good words at) else None
+
 abbrev pub values_fault : Verb → Flag → List (List ℕ) → ℕ → Option ℕ
 values_fault verb flag words at =
     or_else (if value_count verb flag == 0 then None else value_fault words (at + 1) (first_is_good flag words at))
-    (if value_count verb flag == 2 then value_fault words (at + 2) (second_is_good words at) else None)
+    (second_fault verb flag words at)
 
 -- ---- rules
 
@@ -176,10 +182,15 @@ is_image_allowed choice Symbols = choice.executable
 is_image_allowed choice Ram = not (is_the_mode Bin choice.mode || choice.moves)
 is_image_allowed choice flag = true
 
+-- an image to run that is loaded at an address that is told
+abbrev pub is_loaded_anywhere : Option Flag → Bool
+is_loaded_anywhere mode = is_the_mode Aif mode || is_the_mode Bin mode
+
 -- and beside these -o of a library on -e, and -at on -aif or -bin
 abbrev pub is_allowed : Verb → Choice → Flag → Bool
 is_allowed Library choice Output = is_the_mode Extract choice.mode
-is_allowed Run choice At = is_the_mode Aif choice.mode || is_the_mode Bin choice.mode
+is_allowed Run choice At = is_loaded_anywhere choice.mode
+is_allowed Debug choice At = is_loaded_anywhere choice.mode
 is_allowed Link choice flag = is_image_allowed choice flag
 is_allowed Build choice flag = is_image_allowed choice flag
 is_allowed Report choice flag = is_image_allowed choice flag
@@ -206,6 +217,7 @@ most_names InterruptKit mode = Some 0
 most_names Burn mode = Some 0
 most_names Report mode = None
 most_names MakeBig mode = Some 2
+most_names Debug mode = Some 0
 
 abbrev pub is_below : ℕ → Option ℕ → Bool
 is_below n None = true
@@ -279,6 +291,7 @@ least_names Run mode = 0
 least_names InterruptKit mode = 0
 least_names Burn mode = 0
 least_names MakeBig mode = 2
+least_names Debug mode = 0
 least_names verb mode = 1
 
 -- -o
@@ -293,16 +306,21 @@ needs_output InterruptKit mode = true
 needs_output Burn mode = true
 needs_output Report mode = false
 needs_output MakeBig mode = false
+needs_output Debug mode = false
 
 -- -map
 abbrev pub needs_map : Verb → Bool
 needs_map Burn = true
 needs_map other = false
 
+-- -script
+abbrev pub needs_script : Verb → Bool
+needs_script Debug = true
+needs_script other = false
+
 -- -at
 abbrev pub needs_address : Verb → Option Flag → Bool
-needs_address Run mode = is_the_mode Bin mode
-needs_address other mode = false
+needs_address verb mode = runs_image verb && is_the_mode Bin mode
 
 abbrev pub is_complete : Verb → Option Flag → List Item → Bool
 is_complete verb mode items =
@@ -310,7 +328,8 @@ is_complete verb mode items =
     && (nat_le (least_names verb mode) (name_count items)
     && (is_met (needs_output verb mode) (has Output items)
     && (is_met (needs_map verb) (has Map items)
-    && is_met (needs_address verb mode) (has At items))))
+    && (is_met (needs_script verb) (has Script items)
+    && is_met (needs_address verb mode) (has At items)))))
 
 abbrev pub lesser : Option ℕ → Option ℕ → Option ℕ
 lesser None o = o

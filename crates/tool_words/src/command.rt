@@ -45,6 +45,16 @@ pub struct RunWords {
     pub steps: u32,
 }
 
+/// What to debug: the image, which is no text of Intel HEX or S-records, the banks of memory and of read-only memory, as
+/// of a run, and the file of the script.
+#[derive(Debug, Drop)]
+pub struct DebugWords {
+    pub image: RunImage,
+    pub memory: List<Bank>,
+    pub rom: List<Bank>,
+    pub script: Text,
+}
+
 /// Where the areas of an image that is made are placed.
 #[derive(Debug, Drop)]
 pub enum LinkPlacement {
@@ -150,6 +160,8 @@ pub enum Command {
         count: u32,
         output: Text,
     },
+    /// Runs an image as a script says, and prints what it asks for.
+    Debug(DebugWords),
 }
 
 /// Why words ask for nothing.
@@ -539,7 +551,28 @@ fn run_words(
     }))
 }
 
-ghost use Rattle.tool_words.specs.declared.items.Verb.TheVariants.{Run, InterruptKit, Burn, MakeBig};
+fn debug_words(
+    alloc: Global,
+    mode: Option<Flag>,
+    words: &[String],
+    items: &[Item],
+) -> Result<Command, NoMemory>
+    requires { All (λ i. i.at < length words.now) items.now }
+    ensures { IfOk result (λ command. command ≡ commands.verb_command Debug mode (map string_bytes words.now) items.now) }
+{
+    let image = image_of(alloc, mode, words, items)?;
+    let memory = banks_in(alloc, words, items, Flag::Memory)?;
+    let rom = banks_in(alloc, words, items, Flag::Rom)?;
+    let script = value_of(alloc, words, items, Flag::Script)?;
+    Ok(Command::Debug(DebugWords {
+        image,
+        memory,
+        rom,
+        script,
+    }))
+}
+
+ghost use Rattle.tool_words.specs.declared.items.Verb.TheVariants.{Run, InterruptKit, Burn, MakeBig, Debug};
 
 fn kit_command(alloc: Global, words: &[String], items: &[Item]) -> Result<Command, NoMemory>
     requires { All (λ i. i.at < length words.now) items.now }
@@ -614,7 +647,7 @@ fn verb_command(
     items: &[Item],
 ) -> Result<Command, NoMemory>
     requires { All (λ i. i.at < length words.now) items.now }
-    ensures { IfOk result (λ command. command ≡ commands.verb_command verb (rules.mode_of verb items.now) (map string_bytes words.now) items.now) }
+    ensures { IfOk result (λ command. command ≡ commands.chosen_command verb (map string_bytes words.now) items.now) }
 {
     let mode = mode_of(verb, items);
     match verb {
@@ -644,5 +677,6 @@ fn verb_command(
             Ok(Command::Report(report))
         }
         Verb::MakeBig => big_command(alloc, words, items),
+        Verb::Debug => debug_words(alloc, mode, words, items),
     }
 }

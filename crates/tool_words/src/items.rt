@@ -29,6 +29,8 @@ pub enum Verb {
     Report,
     /// `make-big`
     MakeBig,
+    /// `debug`
+    Debug,
 }
 
 /// An option of some command.
@@ -76,6 +78,8 @@ pub enum Flag {
     Burned,
     /// `-symbols`
     Symbols,
+    /// `-script`
+    Script,
 }
 
 /// What a word is to a command.
@@ -138,6 +142,9 @@ pub fn verb_named(word: &[u8]) -> Option<Verb>
     if is(word, b"make-big") {
         return Some(Verb::MakeBig);
     }
+    if is(word, b"debug") {
+        return Some(Verb::Debug);
+    }
     None
 }
 
@@ -176,6 +183,9 @@ fn flag_named(word: &[u8]) -> Option<Flag>
     }
     if is(word, b"-ack") {
         return Some(Flag::Acknowledge);
+    }
+    if is(word, b"-script") {
+        return Some(Flag::Script);
     }
     image_flag_named(word)
 }
@@ -227,18 +237,7 @@ fn has_flag(verb: Verb, flag: Flag) -> bool
             Flag::Create | Flag::Table | Flag::Extract | Flag::Output
         ),
         Verb::List => false,
-        Verb::Run => matches!(
-            flag,
-            Flag::Map
-                | Flag::Burned
-                | Flag::Elf
-                | Flag::Aif
-                | Flag::Bin
-                | Flag::At
-                | Flag::Memory
-                | Flag::Rom
-                | Flag::Steps
-        ),
+        Verb::Run => is_board_flag(flag) || matches!(flag, Flag::Burned | Flag::Steps),
         Verb::Link => is_image_flag(flag),
         Verb::Build => is_image_flag(flag),
         Verb::InterruptKit => matches!(flag, Flag::Output | Flag::Acknowledge),
@@ -248,7 +247,18 @@ fn has_flag(verb: Verb, flag: Flag) -> bool
         ),
         Verb::Report => is_placing_flag(flag),
         Verb::MakeBig => false,
+        Verb::Debug => is_board_flag(flag) || matches!(flag, Flag::Script),
     }
+}
+
+/// An option of an image that is to run, and of the memory that it runs in.
+fn is_board_flag(flag: Flag) -> bool
+    ensures { result ≡ items.is_board_flag flag }
+{
+    matches!(
+        flag,
+        Flag::Map | Flag::Elf | Flag::Aif | Flag::Bin | Flag::At | Flag::Memory | Flag::Rom
+    )
 }
 
 /// An option of where an image that is made stands, and of its memory.
@@ -295,6 +305,7 @@ fn form_count(verb: Verb) -> usize
 {
     match verb {
         Verb::Run => 1,
+        Verb::Debug => 1,
         _ => 0,
     }
 }

@@ -10,6 +10,6 @@ pub mod numerals;
 pub mod rules;
 
 pub use crate::command::{
-    Bank, BurnForm, Command, Container, LinkPlacement, LinkWords, ReportWords, RunImage, RunWords,
-    WordsFault, read_words,
+    Bank, BurnForm, Command, Container, DebugWords, LinkPlacement, LinkWords, ReportWords,
+    RunImage, RunWords, WordsFault, read_words,
 };

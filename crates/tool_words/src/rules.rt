@@ -69,18 +69,18 @@ fn bank_count(items: &[Item]) -> usize
     items.iter().filter(|item| is_bank_role(item.role)).count()
 }
 
-fn is_run(verb: Verb) -> bool
-    ensures { result ≡ rules.is_run verb }
+fn runs_image(verb: Verb) -> bool
+    ensures { result ≡ rules.runs_image verb }
 {
-    matches!(verb, Verb::Run)
+    matches!(verb, Verb::Run | Verb::Debug)
 }
 
 fn is_mode(verb: Verb, flag: Flag) -> bool
     ensures { result ≡ rules.is_mode verb flag }
 {
     match flag {
-        Flag::Map => is_run(verb),
-        Flag::Elf => is_run(verb),
+        Flag::Map => runs_image(verb),
+        Flag::Elf => runs_image(verb),
         _ => matches!(
             flag,
             Flag::Create
@@ -245,7 +245,7 @@ fn value_fault(words: &[String], at: usize, good: bool) -> Option<usize>
 
 fn second_fault(verb: Verb, flag: Flag, words: &[String], at: usize) -> Option<usize>
     requires { at + 1 < length words.now }
-    ensures { result ≡ (if items.value_count verb flag == 2 then rules.value_fault (map string_bytes words.now) (at + 2) (rules.second_is_good (map string_bytes words.now) at) else None) }
+    ensures { result ≡ rules.second_fault verb flag (map string_bytes words.now) at }
 {
     if value_count(verb, flag) == 2 {
         return value_fault(words, at + 2, second_is_good(words, at));
@@ -267,8 +267,6 @@ fn values_fault(verb: Verb, flag: Flag, words: &[String], at: usize) -> Option<u
     second_fault(verb, flag, words, at)
 }
 
-ghost use Rattle.std.specs.Prelude.{if◌then◌else◌, None};
-
 /// Of the options of making an image.
 fn is_image_allowed(choice: Choice, flag: Flag) -> bool
     ensures { result ≡ rules.is_image_allowed choice flag }
@@ -283,14 +281,20 @@ fn is_image_allowed(choice: Choice, flag: Flag) -> bool
     }
 }
 
+/// Whether an image to run is one that is loaded at an address that is told.
+fn is_loaded_anywhere(mode: Option<Flag>) -> bool
+    ensures { result ≡ rules.is_loaded_anywhere mode }
+{
+    is_the_mode(Flag::Aif, mode) || is_the_mode(Flag::Bin, mode)
+}
+
 fn is_allowed(verb: Verb, choice: Choice, flag: Flag) -> bool
     ensures { result ≡ rules.is_allowed verb choice flag }
 {
     match (verb, flag) {
         (Verb::Library, Flag::Output) => is_the_mode(Flag::Extract, choice.mode),
-        (Verb::Run, Flag::At) => {
-            is_the_mode(Flag::Aif, choice.mode) || is_the_mode(Flag::Bin, choice.mode)
-        }
+        (Verb::Run, Flag::At) => is_loaded_anywhere(choice.mode),
+        (Verb::Debug, Flag::At) => is_loaded_anywhere(choice.mode),
         (Verb::Link, flag) => is_image_allowed(choice, flag),
         (Verb::Build, flag) => is_image_allowed(choice, flag),
         (Verb::Report, flag) => is_image_allowed(choice, flag),
@@ -323,6 +327,7 @@ fn most_names(verb: Verb, mode: Option<Flag>) -> Option<usize>
         (Verb::Burn, _) => Some(0),
         (Verb::Report, _) => None,
         (Verb::MakeBig, _) => Some(2),
+        (Verb::Debug, _) => Some(0),
     }
 }
 
@@ -439,6 +444,7 @@ fn least_names(verb: Verb, mode: Option<Flag>) -> usize
         (Verb::InterruptKit, _) => 0,
         (Verb::Burn, _) => 0,
         (Verb::MakeBig, _) => 2,
+        (Verb::Debug, _) => 0,
         (_, _) => 1,
     }
 }
@@ -457,6 +463,7 @@ fn needs_output(verb: Verb, mode: Option<Flag>) -> bool
         Verb::Burn => true,
         Verb::Report => false,
         Verb::MakeBig => false,
+        Verb::Debug => false,
     }
 }
 
@@ -466,13 +473,16 @@ fn needs_map(verb: Verb) -> bool
     matches!(verb, Verb::Burn)
 }
 
+fn needs_script(verb: Verb) -> bool
+    ensures { result ≡ rules.needs_script verb }
+{
+    matches!(verb, Verb::Debug)
+}
+
 fn needs_address(verb: Verb, mode: Option<Flag>) -> bool
     ensures { result ≡ rules.needs_address verb mode }
 {
-    match verb {
-        Verb::Run => is_the_mode(Flag::Bin, mode),
-        _ => false,
-    }
+    runs_image(verb) && is_the_mode(Flag::Bin, mode)
 }
 
 fn is_met(needed: bool, there: bool) -> bool
@@ -489,5 +499,6 @@ pub fn is_complete(verb: Verb, mode: Option<Flag>, items: &[Item]) -> bool
         && has_names(least_names(verb, mode), items)
         && is_met(needs_output(verb, mode), has(Flag::Output, items))
         && is_met(needs_map(verb), has(Flag::Map, items))
+        && is_met(needs_script(verb), has(Flag::Script, items))
         && is_met(needs_address(verb, mode), has(Flag::At, items))
 }

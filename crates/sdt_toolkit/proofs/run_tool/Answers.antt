@@ -4,6 +4,7 @@ use Rattle.sdt_toolkit.proofs.BigClauses.{big_told}
 use Rattle.sdt_toolkit.proofs.BuildClauses.{builds_told}
 use Rattle.sdt_toolkit.proofs.BurnLinked.{burns_told}
 use Rattle.sdt_toolkit.proofs.BurnStarts.{burned_start}
+use Rattle.sdt_toolkit.proofs.DebugClauses.{sessions_told}
 use Rattle.sdt_toolkit.proofs.EndsLemmas.{ends_of}
 use Rattle.sdt_toolkit.proofs.ExactLemmas.{exact_of}
 use Rattle.sdt_toolkit.proofs.HeadlineLemmas.{headline_of}
@@ -45,6 +46,9 @@ returns-clause-burns g c = burns_told c.linked_burns.ensures (map string_bytes c
 
 pub returns-clause-starts : goal.returns-clause-starts
 returns-clause-starts g c = starts_told c.linked_runs_start.ensures (map string_bytes c.args.words.now) _ _ _ c.command.result c.command.ensures.commanded
+
+pub returns-clause-sessions : goal.returns-clause-sessions
+returns-clause-sessions g c = sessions_told (map string_bytes c.args.words.now) _ _ _ c.command.result c.command.ensures.commanded
 
 pub returns-clause-steps : goal.returns-clause-steps
 returns-clause-steps g c = steps_told (map string_bytes c.args.words.now) _ _ _ c.command.result c.command.ensures.commanded

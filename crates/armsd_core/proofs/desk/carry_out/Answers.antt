@@ -20,58 +20,73 @@ print_memory-requires-clause-few g c = bytes_of c.args.command c.in-Mem.a c.in-M
 
 -- ---- what was done
 
-pub returns-in-Break-clause-ok : goal.returns-in-Break-clause-ok
-returns-in-Break-clause-ok g c =
-    done_as c.args.command (Break c.in-Break.a) _ _ _ _ c.in-Break.is
-    (set_so _ _ _ (points_set c.args.notes.now c.args.m.now.state _ _ _ c.add.ensures))
+pub returns-in-Break-clause-carried : goal.returns-in-Break-clause-carried
+returns-in-Break-clause-carried g c = record {
+  ok =
+      done_as c.args.command (Break c.in-Break.a) _ _ _ _ c.in-Break.is
+      (set_so _ _ _ (points_set c.args.notes.now c.args.m.now.state _ _ _ c.add.ensures));
+  failed = tt;
+}
 
-pub returns-in-Unbreak-clause-ok : goal.returns-in-Unbreak-clause-ok
-returns-in-Unbreak-clause-ok g c =
-    done_as c.args.command (Unbreak c.in-Unbreak.a) _ _ _ _ c.in-Unbreak.is
-    (set_so _ _ _ (points_set c.args.notes.now c.args.m.now.state _ _ _ c.remove.ensures))
+pub returns-in-Unbreak-clause-carried : goal.returns-in-Unbreak-clause-carried
+returns-in-Unbreak-clause-carried g c = record {
+  ok =
+      done_as c.args.command (Unbreak c.in-Unbreak.a) _ _ _ _ c.in-Unbreak.is
+      (set_so _ _ _ (points_set c.args.notes.now c.args.m.now.state _ _ _ c.remove.ensures));
+  failed = tt;
+}
 
-pub returns-in-Watch-clause-ok : goal.returns-in-Watch-clause-ok
-returns-in-Watch-clause-ok g c = done_as c.args.command (Watch c.in-Watch.range) _ _ _ _ c.in-Watch.is (set_so _ _ _ refl)
+pub returns-in-Watch-clause-carried : goal.returns-in-Watch-clause-carried
+returns-in-Watch-clause-carried g c = record {
+  ok = done_as c.args.command (Watch c.in-Watch.range) _ _ _ _ c.in-Watch.is (set_so _ _ _ refl);
+  failed = tt;
+}
 
-pub returns-in-Unwatch-clause-ok : goal.returns-in-Unwatch-clause-ok
-returns-in-Unwatch-clause-ok g c = done_as c.args.command Unwatch _ _ _ _ c.in-Unwatch.is (set_so _ _ _ refl)
+pub returns-in-Unwatch-clause-carried : goal.returns-in-Unwatch-clause-carried
+returns-in-Unwatch-clause-carried g c = record {
+  ok = done_as c.args.command Unwatch _ _ _ _ c.in-Unwatch.is (set_so _ _ _ refl);
+  failed = tt;
+}
 
-pub returns-in-Step-clause-ok : goal.returns-in-Step-clause-ok
-returns-in-Step-clause-ok g c = on_ok_weaker c.step.result (λ h. done_as c.args.command (Step c.in-Step.n) _ _ _ _ c.in-Step.is h) c.step.ensures.ok
+pub returns-in-Step-clause-carried : goal.returns-in-Step-clause-carried
+returns-in-Step-clause-carried g c = record {
+  ok = on_ok_weaker c.step.result (λ h. done_as c.args.command (Step c.in-Step.n) _ _ _ _ c.in-Step.is h) c.step.ensures.carried.ok;
+  failed = on_err_weaker c.step.result (λ h. fails_as c.args.command (Step c.in-Step.n) _ _ _ _ _ _ c.in-Step.is h) c.step.ensures.carried.failed;
+}
 
-pub returns-in-Step-clause-failed : goal.returns-in-Step-clause-failed
-returns-in-Step-clause-failed g c = on_err_weaker c.step.result (λ h. fails_as c.args.command (Step c.in-Step.n) _ _ _ _ _ _ c.in-Step.is h) c.step.ensures.failed
+pub returns-in-Go-clause-carried : goal.returns-in-Go-clause-carried
+returns-in-Go-clause-carried g c = record {
+  ok = on_ok_weaker c.go.result (λ h. done_as c.args.command (Go c.in-Go.n) _ _ _ _ c.in-Go.is h) c.go.ensures.carried.ok;
+  failed = on_err_weaker c.go.result (λ h. fails_as c.args.command (Go c.in-Go.n) _ _ _ _ _ _ c.in-Go.is h) c.go.ensures.carried.failed;
+}
 
-pub returns-in-Go-clause-ok : goal.returns-in-Go-clause-ok
-returns-in-Go-clause-ok g c = on_ok_weaker c.go.result (λ h. done_as c.args.command (Go c.in-Go.n) _ _ _ _ c.in-Go.is h) c.go.ensures.ok
+pub returns-in-Regs-clause-carried : goal.returns-in-Regs-clause-carried
+returns-in-Regs-clause-carried g c = record {
+  ok = on_ok_weaker c.print_registers.result (λ got. done_as c.args.command Regs _ _ _ _ c.in-Regs.is (said_so _ _ _ _ got)) c.print_registers.ensures.prints.ok;
+  failed =
+      on_err_weaker c.print_registers.result
+      (λ h. fails_as c.args.command Regs _ _ _ _ _ _ c.in-Regs.is (unsaid_so _ (desk_of c.args.notes.now c.args.m.now.state _) _ _ _ h)) c.print_registers.ensures.prints.failed;
+}
 
-pub returns-in-Go-clause-failed : goal.returns-in-Go-clause-failed
-returns-in-Go-clause-failed g c = on_err_weaker c.go.result (λ h. fails_as c.args.command (Go c.in-Go.n) _ _ _ _ _ _ c.in-Go.is h) c.go.ensures.failed
+pub returns-in-Mem-clause-carried : goal.returns-in-Mem-clause-carried
+returns-in-Mem-clause-carried g c = record {
+  ok = on_ok_weaker c.print_memory.result (λ got. done_as c.args.command (Mem c.in-Mem.a c.in-Mem.n) _ _ _ _ c.in-Mem.is (said_so _ _ _ _ got)) c.print_memory.ensures.prints.ok;
+  failed =
+      on_err_weaker c.print_memory.result
+      (λ h. fails_as c.args.command (Mem c.in-Mem.a c.in-Mem.n) _ _ _ _ _ _ c.in-Mem.is (unsaid_so _ (desk_of c.args.notes.now c.args.m.now.state _) _ _ _ h)) c.print_memory.ensures.prints.failed;
+}
 
-pub returns-in-Regs-clause-ok : goal.returns-in-Regs-clause-ok
-returns-in-Regs-clause-ok g c =
-    on_ok_weaker c.print_registers.result (λ got. done_as c.args.command Regs _ _ _ _ c.in-Regs.is (said_so _ _ _ _ got)) c.print_registers.ensures.ok
+pub returns-in-Detach-clause-carried : goal.returns-in-Detach-clause-carried
+returns-in-Detach-clause-carried g c = record {
+  ok = done_as c.args.command (Detach c.in-Detach.i) _ _ _ _ c.in-Detach.is (set_so _ _ _ (ap (desk_of c.args.notes.now c.args.m.now.state) c.detach.ensures.bus));
+  failed = tt;
+}
 
-pub returns-in-Regs-clause-failed : goal.returns-in-Regs-clause-failed
-returns-in-Regs-clause-failed g c =
-    on_err_weaker c.print_registers.result
-    (λ h. fails_as c.args.command Regs _ _ _ _ _ _ c.in-Regs.is (unsaid_so _ (desk_of c.args.notes.now c.args.m.now.state _) _ _ _ h)) c.print_registers.ensures.failed
-
-pub returns-in-Mem-clause-ok : goal.returns-in-Mem-clause-ok
-returns-in-Mem-clause-ok g c =
-    on_ok_weaker c.print_memory.result (λ got. done_as c.args.command (Mem c.in-Mem.a c.in-Mem.n) _ _ _ _ c.in-Mem.is (said_so _ _ _ _ got)) c.print_memory.ensures.ok
-
-pub returns-in-Mem-clause-failed : goal.returns-in-Mem-clause-failed
-returns-in-Mem-clause-failed g c =
-    on_err_weaker c.print_memory.result
-    (λ h. fails_as c.args.command (Mem c.in-Mem.a c.in-Mem.n) _ _ _ _ _ _ c.in-Mem.is (unsaid_so _ (desk_of c.args.notes.now c.args.m.now.state _) _ _ _ h)) c.print_memory.ensures.failed
-
-pub returns-in-Detach-clause-ok : goal.returns-in-Detach-clause-ok
-returns-in-Detach-clause-ok g c =
-    done_as c.args.command (Detach c.in-Detach.i) _ _ _ _ c.in-Detach.is (set_so _ _ _ (ap (desk_of c.args.notes.now c.args.m.now.state) c.detach.ensures.bus))
-
-pub returns-in-Quit-clause-ok : goal.returns-in-Quit-clause-ok
-returns-in-Quit-clause-ok g c = done_as c.args.command Quit _ _ _ _ c.in-Quit.is (set_so _ _ _ refl)
+pub returns-in-Quit-clause-carried : goal.returns-in-Quit-clause-carried
+returns-in-Quit-clause-carried g c = record {
+  ok = done_as c.args.command Quit _ _ _ _ c.in-Quit.is (set_so _ _ _ refl);
+  failed = tt;
+}
 
 -- ---- what it adds
 

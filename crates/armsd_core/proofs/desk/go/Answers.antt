@@ -4,28 +4,28 @@ use Rattle.armsd_core.specs.Goes.{Goes}
 use Rattle.armsd_core.proofs.DeskLemmas.{again, again_fails, choked, told, told_fails}
 use Rattle.armsd_core.proofs.desk.go.Goals as goal
 
-pub returns-in-Some-clause-ok : goal.returns-in-Some-clause-ok
-returns-in-Some-clause-ok g c =
-    on_ok_weaker c.print_end.result (λ got. again (Goes c.args.notes.now.points c.args.notes.now.watch c.args.m.now.state _) c.args.n c.args.notes.now c.args.m.now.state _ c.in-Some.why _ _ c.in-Some.is got) c.print_end.ensures.ok
+pub returns-in-Some-clause-carried : goal.returns-in-Some-clause-carried
+returns-in-Some-clause-carried g c = record {
+  ok = on_ok_weaker c.print_end.result (λ got. again (Goes c.args.notes.now.points c.args.notes.now.watch c.args.m.now.state _) c.args.n c.args.notes.now c.args.m.now.state _ c.in-Some.why _ _ c.in-Some.is got) c.print_end.ensures.prints.ok;
+  failed = on_err_weaker c.print_end.result (λ h. again_fails (Goes c.args.notes.now.points c.args.notes.now.watch c.args.m.now.state _) c.args.n c.args.notes.now c.args.m.now.state _ c.in-Some.why _ _ _ c.in-Some.is h) c.print_end.ensures.prints.failed;
+}
 
-pub returns-in-Some-clause-failed : goal.returns-in-Some-clause-failed
-returns-in-Some-clause-failed g c =
-    on_err_weaker c.print_end.result (λ h. again_fails (Goes c.args.notes.now.points c.args.notes.now.watch c.args.m.now.state _) c.args.n c.args.notes.now c.args.m.now.state _ c.in-Some.why _ _ _ c.in-Some.is h) c.print_end.ensures.failed
+pub returns-in-Some-reason-clause-carried : goal.returns-in-Some-reason-clause-carried
+returns-in-Some-reason-clause-carried g c = record {
+  ok =
+      on_ok_weaker c.tell.result
+      (λ got. told (Goes c.args.notes.now.points c.args.notes.now.watch c.args.m.now.state _) c.args.n c.args.notes.now c.tell.new.self c.args.m.now.state c.go_for-made.new.m.state _ _ c.go_for-made.result.reason c.in-Some-reason.why c.go_for-made.result.steps _ _ _ _
+      c.in_default.is c.in-Some-reason.is c.tell.ensures.notes (rw c.from.ensures at c.go_for-made.ensures.makes) got)
+      c.tell.ensures.prints.ok;
+  failed =
+      on_err_weaker c.tell.result
+      (λ h. told_fails (Goes c.args.notes.now.points c.args.notes.now.watch c.args.m.now.state _) c.args.n c.args.notes.now c.args.m.now.state c.go_for-made.new.m.state _ _ c.go_for-made.result.reason c.in-Some-reason.why c.go_for-made.result.steps _ _ _ _ _ _
+      c.in_default.is c.in-Some-reason.is (rw c.from.ensures at c.go_for-made.ensures.makes) (λ rose. omega (arith, c.go_for-made.ensures.faults, rose)) h)
+      c.tell.ensures.prints.failed;
+}
 
-pub returns-in-Some-reason-clause-ok : goal.returns-in-Some-reason-clause-ok
-returns-in-Some-reason-clause-ok g c =
-    on_ok_weaker c.tell.result
-    (λ got. told (Goes c.args.notes.now.points c.args.notes.now.watch c.args.m.now.state _) c.args.n c.args.notes.now c.tell.new.self c.args.m.now.state c.go_for-made.new.m.state _ _ c.go_for-made.result.reason c.in-Some-reason.why c.go_for-made.result.steps _ _ _ _
-    c.in_default.is c.in-Some-reason.is c.tell.ensures.notes (rw c.from.ensures at c.go_for-made.ensures.makes) got)
-    c.tell.ensures.ok
-
-pub returns-in-Some-reason-clause-failed : goal.returns-in-Some-reason-clause-failed
-returns-in-Some-reason-clause-failed g c =
-    on_err_weaker c.tell.result
-    (λ h. told_fails (Goes c.args.notes.now.points c.args.notes.now.watch c.args.m.now.state _) c.args.n c.args.notes.now c.args.m.now.state c.go_for-made.new.m.state _ _ c.go_for-made.result.reason c.in-Some-reason.why c.go_for-made.result.steps _ _ _ _ _ _
-    c.in_default.is c.in-Some-reason.is (rw c.from.ensures at c.go_for-made.ensures.makes) (λ rose. omega (arith, c.go_for-made.ensures.faults, rose)) h)
-    c.tell.ensures.failed
-
-pub returns-in-None-clause-failed : goal.returns-in-None-clause-failed
-returns-in-None-clause-failed g c =
-    choked (Goes c.args.notes.now.points c.args.notes.now.watch c.args.m.now.state _) c.args.n c.args.notes.now c.args.m.now.state c.go_for-made.new.m.state _ _ c.go_for-made.result.reason c.go_for-made.result.steps _ _ _ c.in_default.is c.in-None.is (rw c.from.ensures at c.go_for-made.ensures.makes)
+pub returns-in-None-clause-carried : goal.returns-in-None-clause-carried
+returns-in-None-clause-carried g c = record {
+  ok = tt;
+  failed = choked (Goes c.args.notes.now.points c.args.notes.now.watch c.args.m.now.state _) c.args.n c.args.notes.now c.args.m.now.state c.go_for-made.new.m.state _ _ c.go_for-made.result.reason c.go_for-made.result.steps _ _ _ c.in_default.is c.in-None.is (rw c.from.ensures at c.go_for-made.ensures.makes);
+}

@@ -22,7 +22,7 @@ carry_out-requires-clause-room g c =
 
 pub commands-preserved : goal.commands-preserved
 commands-preserved g c = record {
-  way = goes_to c.args.commands.now _ _ c.commands.command-index c.command-item.result _ _ _ _ c.commands-test.true c.command-item.is c.in_default.not-Quit c.commands.invariant.way c.in-Ok.ensures.ok;
+  way = goes_to c.args.commands.now _ _ c.commands.command-index c.command-item.result _ _ _ _ c.commands-test.true c.command-item.is c.in_default.not-Quit c.commands.invariant.way c.in-Ok.ensures.carried.ok;
   left = left_after c.args.commands.now c.commands.command-index c.command-item.result c.commands.notes.points c.carry_out.new.notes.points c.commands-test.true c.command-item.is c.commands.invariant.left
       c.carry_out.ensures.grows.points;
   steps = omega (arith, c.commands.invariant.steps, c.carry_out.ensures.grows.steps);
@@ -38,7 +38,7 @@ returns-in-Quit-clause-session g c =
 pub returns-in-Err-clause-session : goal.returns-in-Err-clause-session
 returns-in-Err-clause-session g c =
     cuts_up c.args.commands.now _ _ c.commands.command-index c.command-item.result _ _ _ _ _ _ _ c.commands-test.true c.command-item.is c.in_default.not-Quit
-    (λ rose. omega (arith, c.commands.invariant.faults, rose)) c.commands.invariant.way c.in-Err.ensures.failed
+    (λ rose. omega (arith, c.commands.invariant.faults, rose)) c.commands.invariant.way c.in-Err.ensures.carried.failed
 
 pub returns-clause-session : goal.returns-clause-session
 returns-clause-session g c = ends_at c.args.commands.now _ _ c.commands.command-index _ _ (Unit {0}) c.commands-test.false c.commands.invariant.way

@@ -33,6 +33,11 @@ unfolding Commanded
 returns-in-Run-clause-commanded g c =
     rw c.in-Run.is c.run.ensures
 
+pub returns-in-Debug-clause-commanded : goal.returns-in-Debug-clause-commanded
+unfolding Commanded
+returns-in-Debug-clause-commanded g c =
+    rw c.in-Debug.is c.debug.ensures
+
 pub returns-in-Link-clause-commanded : goal.returns-in-Link-clause-commanded
 unfolding Commanded
 returns-in-Link-clause-commanded g c =

@@ -1,7 +1,7 @@
 use Rattle.std.proofs.Common.{take}
 use Rattle.std.specs.List.{AllByRecursion}
 use Rattle.run_opening.specs.Banks as opening
-use Rattle.tool_run.specs.Runs.{AreRanges}
+use Rattle.tool_run.specs.Openings.{AreRanges}
 use Rattle.tool_run.proofs.banks.ranges.Given as goal
 
 abbrev pub invariant-loop-bank : goal.invariant-loop-bank
