@@ -15,7 +15,7 @@ use Rattle.base_lemmas.proofs.BaseLemmas.{rest_of}
 use Rattle.asm_layout.specs.Late.{AreOn}
 use Rattle.asm_model.specs.declared.statements.Statement.{Statement}
 use Rattle.asm_layout.specs.declared.laid.LaidArea.{LaidArea}
-use Rattle.asm_layout.specs.declared.laid.LaidStatement.{LaidStatement}
+use Rattle.asm_laying.specs.declared.laying.LaidStatement.{LaidStatement}
 use Rattle.asm_layout.specs.declared.laid.Layout.{Layout}
 use Rattle.asm_registers.proofs.NameLemmas.{before_more}
 use Rattle.asm_units.specs.declared.emitted.Emitted.{Emitted as Code}
@@ -206,9 +206,9 @@ next_there ss l w names x left known gs some at j k =
 pub put_there : (ss : List Statement) (l : Layout) (w : SourceTables) (names : List (List ℕ)) (x : LaidStatement) (more : List LaidStatement)
     (known : List Named) (gs : List AreaBuild)
     (n : Next ss l w names x more known gs) (u : LineUnits) (us : List Code) → us ≡ u.units.items → IsPut ss n.before n.rest n.line u
-    → own_things ss n.line n.before n.rest ≡ pieces_put x.place.offset us
+    → own_things ss n.line n.before n.rest ≡ pieces_put x.line.place.offset us
 put_there ss l w names x more known gs n u us is h =
-    h.pieces ∙ ap (λ (at : ℕ). pieces_put at u.units.items) (sym n.here.line.place.offset) ∙ ap (pieces_put x.place.offset) (sym is)
+    h.pieces ∙ ap (λ (at : ℕ). pieces_put at u.units.items) (sym n.here.line.line.place.offset) ∙ ap (pieces_put x.line.place.offset) (sym is)
 
 told_first : (t u : Option (Statement × LineKind)) (f : Fault) → IsTold t f → IsTold (or_else t u) f
 told_first t u f (inl none) = inl none
@@ -226,8 +226,8 @@ told_here ss l w names x more known gs n f h =
 pub grown_more : (ss : List Statement) (l : Layout) (w : SourceTables) (names : List (List ℕ)) (x : LaidStatement) (more : List LaidStatement)
     (known new : List Named) (gs hs : List AreaBuild)
     (n : Next ss l w names x more known gs) (u : LineUnits) (us : List Code) → us ≡ u.units.items → IsPut ss n.before n.rest n.line u
-    → HavePieces names (with_line (things_so_far (source_of ss) n.before (n.line ∷ n.rest)) x.place.area (pieces_put x.place.offset us)) hs
-    → ((q : List ℕ) → register_in q new ≡ register_in q (known ++ gives u.number (defined_by x.statement)))
+    → HavePieces names (with_line (things_so_far (source_of ss) n.before (n.line ∷ n.rest)) x.line.place.area (pieces_put x.line.place.offset us)) hs
+    → ((q : List ℕ) → register_in q new ≡ register_in q (known ++ gives u.number (defined_by x.line.statement.now)))
     → IsGrown ss names more new hs
 grown_more ss l w names x more known new gs hs n u us is put builders noted = record {
   before = n.line ∷ n.before;
@@ -236,9 +236,9 @@ grown_more ss l w names x more known new gs hs n u us is put builders noted = re
   lines = n.lines;
   registers = λ q.
       noted q
-      ∙ ap (λ (ns : List Named). register_in q (known ++ ns)) (ap (λ (s : Statement). gives u.number (defined_by s)) n.here.line.statement ∙ sym put.given)
+      ∙ ap (λ (ns : List Named). register_in q (known ++ ns)) (ap (λ (s : Statement). gives u.number (defined_by s)) n.here.line.line.statement ∙ sym put.given)
       ∙ before_more q known (registers_behind n.before) (named_by n.line.seen (defined_by n.line.statement)) (n.here.registers q);
   none = n.none ∙ ap (λ o. or_else (told_at n.line.statement o) (first_valued (laid ss) ss (n.line ∷ n.before) n.rest)) put.faultless;
-  builders = builders_there ss names n.before n.rest n.line x.place.area (pieces_put x.place.offset us) hs n.here.line.place.area
+  builders = builders_there ss names n.before n.rest n.line x.line.place.area (pieces_put x.line.place.offset us) hs n.here.line.line.place.area
       (put_there ss l w names x more known gs n u us is put) builders;
 }

@@ -2,11 +2,12 @@
 use Rattle.std.proofs.Common.{◌≡◌, List, [], ◌∷◌, ◌++◌, Option, Some, None, refl, ap, ◌∙◌}
 use Rattle.aof_object.specs.declared.records.Entry.{Entry}
 use Rattle.asm_model.specs.Directives.{or_else}
-use Rattle.asm_layout.specs.declared.laid.LaidStatement.{LaidStatement}
+use Rattle.asm_laying.specs.declared.laying.LaidStatement.{LaidStatement}
 use Rattle.asm_model.specs.Laid.{LaidLine}
 use Rattle.asm_model.specs.LayoutKinds.{is_entry}
 use Rattle.source_model.specs.Objects.{entry_of, entry_by}
-use Rattle.asm_layout.specs.Layout.{AreStatements, IsStatement}
+use Rattle.asm_laying.specs.Laying.{IsStatement}
+use Rattle.asm_layout.specs.Layout.{AreStatements}
 use Rattle.armasm_core.specs.Entries.{entry_at, first_entry}
 
 or_none : (a : Option Entry) → or_else a None ≡ a
@@ -24,7 +25,7 @@ first_behind (y ∷ ys) x =
 
 entry_there : (x : LaidStatement) (l : LaidLine) (before : List LaidLine) → IsStatement x l before
     → entry_at x ≡ entry_by (is_entry l.statement.what) l.area l.offset
-entry_there x l before h = rw (h.statement, h.place.area, h.place.offset) refl
+entry_there x l before h = rw (h.line.statement, h.line.place.area, h.line.place.offset) refl
 
 pub first_is : (all : List LaidLine) (xs : List LaidStatement) → AreStatements all xs → first_entry xs ≡ entry_of all
 first_is [] xs h = rw h refl

@@ -1,14 +1,14 @@
 -- Names that statements say.
-use Rattle.std.proofs.Common.{◌≡◌, ◌||◌, ◌&&◌, ℕ, Bool, true, false, List, refl, sym, ◌∙◌}
+use Rattle.std.proofs.Common.{◌≡◌, ◌||◌, ℕ, Bool, true, false, List, refl, ◌∙◌}
 use Rattle.std.specs.List.{list_any}
 use Rattle.asm_model.specs.declared.directives.DirectiveLine.TheVariants as line
+use Rattle.asm_model.specs.declared.directives.ImportMark.TheVariants as mark
 use Rattle.asm_model.specs.declared.statements.What.{What}
 use Rattle.asm_model.specs.declared.statements.What.TheVariants as what
 use Rattle.asm_model.specs.Forms.{same}
-use Rattle.asm_model.specs.LayoutKinds.{is_true}
 use Rattle.asm_model.proofs.SharedLemmas.{same_back}
 use Rattle.source_model.specs.Objects.{exports_name, is_weak_import}
-use Rattle.armasm_core.specs.Gathered.{exported_in, name_where, weak_in}
+use Rattle.armasm_core.specs.Gathered.{exported_in, weak_in}
 
 or_false : (a : Bool) → a || false ≡ a
 or_false true = refl
@@ -18,19 +18,7 @@ pub exports_is : (q : List ℕ) (w : What) → list_any (same q) (exported_in w)
 exports_is q (what.Directive (line.Export n)) = or_false (same q n) ∙ same_back q n
 exports_is q _ = refl
 
-where_is : (q n : List ℕ) (weak : Bool) → list_any (same q) (name_where weak n) ≡ same n q && weak
-where_is q n true = or_false (same q n) ∙ same_back q n ∙ sym (and_true (same n q))
-  where
-    and_true : (a : Bool) → a && true ≡ a
-    and_true true = refl
-    and_true false = refl
-where_is q n false = sym (and_false (same n q))
-  where
-    and_false : (a : Bool) → a && false ≡ false
-    and_false true = refl
-    and_false false = refl
-
 pub weak_is : (q : List ℕ) (w : What) → list_any (same q) (weak_in w) ≡ is_weak_import q w
-weak_is q (what.Directive (line.Import n weak)) = where_is q n (is_true weak)
-weak_is q (what.Directive (line.Extern n weak)) = where_is q n (is_true weak)
+weak_is q (what.Directive (line.Import n mark.Weak)) = or_false (same q n) ∙ same_back q n
+weak_is q (what.Directive (line.Extern n mark.Weak)) = or_false (same q n) ∙ same_back q n
 weak_is q _ = refl

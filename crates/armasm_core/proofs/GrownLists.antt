@@ -2,12 +2,10 @@
 use Rattle.std.proofs.Common.{◌≡◌, ◌≤◌, ◌<◌, ◌-◌, ℕ, List, [], ◌∷◌, length, take, drop, get_or, refl, sym, ap, ◌∙◌, subst}
 use Rattle.base_lemmas.proofs.BaseLemmas.{rest_of}
 use Rattle.asm_layout.specs.Late.{AreOn}
-use Rattle.asm_layout.specs.PlacedLines.{IsLineOf}
-use Rattle.asm_names.specs.declared.placed_lines.PlacedLine.{PlacedLine}
 use Rattle.asm_model.specs.declared.names.LaidName.{LaidName}
 use Rattle.asm_model.specs.declared.statements.Statement.{Statement}
 use Rattle.asm_layout.specs.declared.laid.LaidArea.{LaidArea}
-use Rattle.asm_layout.specs.declared.laid.LaidStatement.{LaidStatement}
+use Rattle.asm_laying.specs.declared.laying.LaidStatement.{LaidStatement}
 use Rattle.asm_layout.specs.declared.laid.Layout.{Layout}
 use Rattle.asm_model.specs.Laid.{LaidLine, laid, taken, reversed, final_names}
 use Rattle.asm_model.specs.Symbols.{symbols_in, symbols_of, listed_behind}
@@ -19,14 +17,14 @@ use Rattle.armasm_core.proofs.ListLemmas.{nothing}
 -- ---- a line
 
 pub needed_there : (statements : List Statement) (areas : List LaidArea) (w : SourceTables) (before rest : List LaidLine) (l : LaidLine) (x : LaidStatement)
-    (y : PlacedLine) (old new : List (List ℕ))
-    → StandsThere statements areas w before rest l x → IsLineOf x y
-    → new ≡ listed_behind old (symbols_in w.names.now l.line (taken l.extent) y.statement.now.what)
+    (old new : List (List ℕ))
+    → StandsThere statements areas w before rest l x
+    → new ≡ listed_behind old (symbols_in w.names.now l.line (taken l.extent) x.line.statement.now.what)
     → new ≡ listed_behind old (needed_by statements l)
-needed_there statements areas w before rest l x y old new h r e =
+needed_there statements areas w before rest l x old new h e =
     e
-    ∙ ap (λ (ns : List LaidName). listed_behind old (symbols_in ns l.line (taken l.extent) y.statement.now.what)) h.whole.names
-    ∙ ap (λ (s : Statement). listed_behind old (symbols_in (final_names (laid statements)) l.line (taken l.extent) s.what)) (r.statement ∙ h.line.statement)
+    ∙ ap (λ (ns : List LaidName). listed_behind old (symbols_in ns l.line (taken l.extent) x.line.statement.now.what)) h.whole.names
+    ∙ ap (λ (s : Statement). listed_behind old (symbols_in (final_names (laid statements)) l.line (taken l.extent) s.what)) h.line.line.statement
 
 -- ---- all lines
 

@@ -10,17 +10,14 @@ use Rattle.asm_offsets.specs.Running.{entry_behind, pools_behind}
 use Rattle.asm_pool.specs.Laws.{PoolLaw}
 use Rattle.asm_pool.specs.Pooled.{flushed}
 use Rattle.asm_layout.specs.declared.laid.LaidArea.{LaidArea}
-use Rattle.asm_layout.specs.declared.laid.LaidStatement.{LaidStatement}
+use Rattle.asm_laying.specs.declared.laying.LaidStatement.{LaidStatement}
 use Rattle.asm_units.specs.Literals.{literal_in}
 use Rattle.asm_model.specs.Before.{areas_behind}
 use Rattle.asm_model.specs.Extents.{Extent, Pool, extent_of}
 use Rattle.asm_model.specs.declared.names.LaidName.{LaidName}
 use Rattle.asm_model.specs.Labels.{defined_by, declared_names}
-use Rattle.asm_names.specs.declared.placed_lines.StatementPlace.{StatementPlace}
-use Rattle.asm_names.specs.declared.placed_lines.PlacedLine.{PlacedLine}
 use Rattle.asm_names.specs.PlacedLines.{Sees}
 use Rattle.asm_layout.specs.Layout.{AreAreas}
-use Rattle.asm_layout.specs.PlacedLines.{IsLineOf}
 use Rattle.asm_model.specs.Kinds.{kind_if}
 use Rattle.asm_model.specs.Laid.{LaidLine, laid, map_behind, taken, pieces_of, reversed, statements_of}
 use Rattle.asm_model.specs.LayoutKinds.{layout_kinds, fault_kinds, map_kinds, no_area_kinds, contents_kinds, contents_behind, area_kinds, name_kinds, first_equal, settled_kinds, state_kinds, area_bytes, settled, equals_in}
@@ -79,17 +76,16 @@ within_there statements areas w before rest l x h =
 
 -- a line is what code keeps of it
 pub seen_there : (statements : List Statement) (areas : List LaidArea) (w : SourceTables) (before rest : List LaidLine) (l : LaidLine) (x : LaidStatement)
-    (y : PlacedLine)
-    → StandsThere statements areas w before rest l x → IsLineOf x y → Sees y l.line
-seen_there statements areas w before rest l x y h r =
+    → StandsThere statements areas w before rest l x → Sees x.line l.line
+seen_there statements areas w before rest l x h =
     let d = declared_names statements in
     let b = behind_there d statements rest l before h.said h.parts in
-    let k = h.line.place in
+    let k = h.line.line.place in
     record {
-      area = ap (λ (p : StatementPlace). p.area) r.place ∙ k.area ∙ subst (λ (m : LaidLine). m.area ≡ m.line.area) (sym b.line) refl;
-      offset = ap (λ (p : StatementPlace). p.offset) r.place ∙ k.offset ∙ subst (λ (m : LaidLine). m.offset ≡ m.line.offset) (sym b.line) refl;
-      map = ap (λ (p : StatementPlace). p.map) r.place ∙ k.map ∙ ap map_behind b.behind ∙ ap (λ (m : LaidLine). m.line.map) (sym b.line);
-      thumb = ap (λ (p : StatementPlace). p.thumb) r.place ∙ k.thumb ∙ subst (λ (m : LaidLine). m.thumb ≡ m.line.thumb) (sym b.line) refl;
+      area = k.area ∙ subst (λ (m : LaidLine). m.area ≡ m.line.area) (sym b.line) refl;
+      offset = k.offset ∙ subst (λ (m : LaidLine). m.offset ≡ m.line.offset) (sym b.line) refl;
+      map = k.map ∙ ap map_behind b.behind ∙ ap (λ (m : LaidLine). m.line.map) (sym b.line);
+      thumb = k.thumb ∙ subst (λ (m : LaidLine). m.thumb ≡ m.line.thumb) (sym b.line) refl;
     }
 
 pub area_there : (areas : List LaidArea) (i : ℕ) → i < length areas → (a : LaidArea) × (slice_get areas i ≡ Some a)
@@ -98,10 +94,10 @@ area_there (a ∷ areas) zero less = (a, refl)
 area_there (a ∷ areas) (suc i) less = area_there areas i (omega arith)
 
 pub loaded : PoolLaw → (statements : List Statement) (areas : List LaidArea) (w : SourceTables) (before rest : List LaidLine) (l : LaidLine) (x : LaidStatement)
-    → StandsThere statements areas w before rest l x → literal_in (taken l.extent) ≡ own.literal_in areas x.place.area x.literal
+    → StandsThere statements areas w before rest l x → literal_in (taken l.extent) ≡ own.literal_in areas x.line.place.area x.literal
 loaded pools statements areas w before rest l x h = by_area l.area refl
   where
-    by_area : (o : Option ℕ) → l.area ≡ o → literal_in (taken l.extent) ≡ own.literal_in areas x.place.area x.literal
+    by_area : (o : Option ℕ) → l.area ≡ o → literal_in (taken l.extent) ≡ own.literal_in areas x.line.place.area x.literal
     by_area None e =
         let b = behind_there (declared_names statements) statements rest l before h.said h.parts in
         let laying = layout_there statements rest l before h.sound h.parts in
@@ -110,7 +106,7 @@ loaded pools statements areas w before rest l x h = by_area l.area refl
         (has_area (settled (equals_in statements)) statements l before laying) in
         ap (λ (r : Result Extent LineKind). literal_in (taken r)) (extent_is (declared_names statements) l before b)
         ∙ free_there l.seen l.statement.what (defined_by l.statement) here
-        ∙ sym (ap (λ (a : Option ℕ). own.literal_in areas a x.literal) (h.line.place.area ∙ e))
+        ∙ sym (ap (λ (a : Option ℕ). own.literal_in areas a x.literal) (h.line.line.place.area ∙ e))
     by_area (Some area) e =
         let less : area < length areas = subst (λ (o : Option ℕ). IsWithin (length areas) o) e (within_there statements areas w before rest l x h) in
         let a = area_there areas area less in
@@ -124,4 +120,4 @@ loaded pools statements areas w before rest l x h = by_area l.area refl
         record { pools = is.pools ∙ ap (λ (ps : List Piece). flushed (start_in area ps Pool) (pools_behind area ps)) whole } in
         let entry = h.line.literal ∙ ap (λ (o : Option ℕ). entry_behind o pieces t) e in
         literal_there pools areas area a.0 pieces behind t a.1 placed
-        ∙ sym (ap (λ (o : Option ℕ). own.literal_in areas o x.literal) (h.line.place.area ∙ e) ∙ ap (own.literal_in areas (Some area)) entry)
+        ∙ sym (ap (λ (o : Option ℕ). own.literal_in areas o x.literal) (h.line.line.place.area ∙ e) ∙ ap (own.literal_in areas (Some area)) entry)

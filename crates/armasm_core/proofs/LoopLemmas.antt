@@ -1,8 +1,9 @@
 -- The statements of a layout, from the first on.
 use Rattle.std.proofs.Common.{◌≡◌, List, [], ◌∷◌, ◌++◌, refl, sym, ap, subst, append-nil}
-use Rattle.asm_layout.specs.declared.laid.LaidStatement.{LaidStatement}
+use Rattle.asm_laying.specs.declared.laying.LaidStatement.{LaidStatement}
 use Rattle.asm_model.specs.Laid.{LaidLine, reversed}
-use Rattle.asm_layout.specs.Layout.{IsStatement, AreStatements}
+use Rattle.asm_laying.specs.Laying.{IsStatement}
+use Rattle.asm_layout.specs.Layout.{AreStatements}
 use Rattle.asm_layout.specs.Late.{AreOn}
 use Rattle.asm_layout.proofs.LateLemmas.{back_again, lines_on}
 

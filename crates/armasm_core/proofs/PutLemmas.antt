@@ -20,7 +20,7 @@ use Rattle.asm_model.specs.LayoutKinds.{told_at}
 use Rattle.asm_layout.specs.Layout.{IsTold}
 use Rattle.sdt_fault.specs.declared.answer.Fault.{Fault}
 use Rattle.asm_layout.specs.declared.laid.LaidArea.{LaidArea}
-use Rattle.asm_layout.specs.declared.laid.LaidStatement.{LaidStatement}
+use Rattle.asm_laying.specs.declared.laying.LaidStatement.{LaidStatement}
 use Rattle.asm_units.specs.declared.tables.LineTables.{LineTables}
 use Rattle.asm_units.specs.declared.emitted.LineUnits.{LineUnits}
 use Rattle.asm_units.specs.Passing.{IsPassTwo}
@@ -142,24 +142,24 @@ PassesAt statements before rest l =
 module _ (statements : List Statement) (areas : List LaidArea) (w : SourceTables) (known : List Named) (before rest : List LaidLine) (l : LaidLine)
     (x : LaidStatement)
     (h : IsHere statements areas w known before rest l x) where
-  pub put_there : LinesFit → (y : LineTables) (r : Result LineUnits LineKind) (u : LineUnits) → IsSaid x.statement
-      → ShowsLine statements before rest l y x.statement.what → r ≡ Ok u → PassesAt statements before rest l x.statement.what r
+  pub put_there : LinesFit → (y : LineTables) (r : Result LineUnits LineKind) (u : LineUnits) → IsSaid x.line.statement.now
+      → ShowsLine statements before rest l y x.line.statement.now.what → r ≡ Ok u → PassesAt statements before rest l x.line.statement.now.what r
       → IsPut statements before rest l u
   put_there laws y r u said shows is passed =
       let c = context_there statements before l in
-      let put = subst (PassesAt statements before rest l x.statement.what) is passed in
-      let here = subst (λ (s : Statement). PassesAt statements before rest l s.what (Ok u)) h.line.statement put in
+      let put = subst (PassesAt statements before rest l x.line.statement.now.what) is passed in
+      let here = subst (λ (s : Statement). PassesAt statements before rest l s.what (Ok u)) h.line.line.statement put in
       record {
         faultless = here.faultless;
         pieces = ap (λ r. units_from l.offset (or_none r)) here.all;
         given = given_there statements areas w known before rest l x y u.number h shows put.number;
         fits = subst (λ r. AllUnitsFit (or_none r)) put.all
-            (units_fit laws c (datum_names statements) l.seen (word_there before rest l) x.statement.what shows.lookup.small said.read);
+            (units_fit laws c (datum_names statements) l.seen (word_there before rest l) x.line.statement.now.what shows.lookup.small said.read);
       }
 
-  pub told_there : (r : Result LineUnits LineKind) (k : LineKind) (f : Fault) → r ≡ Err k → PassesAt statements before rest l x.statement.what r
-      → IsTold (Some (x.statement, k)) f → IsTold (told_at l.statement (told_kind (kinds_at statements before l rest))) f
+  pub told_there : (r : Result LineUnits LineKind) (k : LineKind) (f : Fault) → r ≡ Err k → PassesAt statements before rest l x.line.statement.now.what r
+      → IsTold (Some (x.line.statement.now, k)) f → IsTold (told_at l.statement (told_kind (kinds_at statements before l rest))) f
   told_there r k f is passed told =
-      let here = subst (λ (s : Statement). PassesAt statements before rest l s.what (Err k)) h.line.statement
-      (subst (PassesAt statements before rest l x.statement.what) is passed) in
-      subst (λ o. IsTold o f) (ap (λ (s : Statement). Some (s, k)) h.line.statement ∙ sym (ap (told_at l.statement) here)) told
+      let here = subst (λ (s : Statement). PassesAt statements before rest l s.what (Err k)) h.line.line.statement
+      (subst (PassesAt statements before rest l x.line.statement.now.what) is passed) in
+      subst (λ o. IsTold o f) (ap (λ (s : Statement). Some (s, k)) h.line.line.statement ∙ sym (ap (told_at l.statement) here)) told

@@ -7,7 +7,7 @@ use Rattle.base_lemmas.proofs.BaseLemmas.{rest_of}
 use Rattle.asm_layout.specs.Layout.{AreStatements}
 use Rattle.asm_model.specs.declared.statements.Statement.{Statement}
 use Rattle.asm_model.specs.Forms.{same}
-use Rattle.asm_layout.specs.declared.laid.LaidStatement.{LaidStatement}
+use Rattle.asm_laying.specs.declared.laying.LaidStatement.{LaidStatement}
 use Rattle.asm_sets.specs.Sets.{HaveSame}
 use Rattle.asm_model.specs.Laid.{LaidLine, reversed, statements_of}
 use Rattle.asm_model.specs.Marks.{datum_in, datum_names}
@@ -18,7 +18,7 @@ use Rattle.armasm_core.proofs.GatherLemmas.{exports_is, weak_is}
 -- the sets of statements of which these are left
 pub record IsBetween (laid left : List LaidStatement) (x : Sets) : Type 0 where
   pub before : List Statement
-  pub whole : reversed (map (λ (y : LaidStatement). y.statement) left) before ≡ said_in laid
+  pub whole : reversed (map (λ (y : LaidStatement). y.line.statement.now) left) before ≡ said_in laid
   pub sets : AreSets before x
 
 behind : (before old new one : List (List ℕ)) → HaveSame old before → HaveSame new (one ++ old) → HaveSame new (before ++ one)
@@ -38,16 +38,16 @@ more_sets s before old new h k = record {
 }
 
 between_more : (laid : List LaidStatement) (x : LaidStatement) (rest : List LaidStatement) (old new : Sets) → IsBetween laid (x ∷ rest) old
-    → GainsAll old new x.statement
+    → GainsAll old new x.line.statement.now
     → IsBetween laid rest new
 between_more laid x rest old new h k = record {
-  before = x.statement ∷ h.before;
+  before = x.line.statement.now ∷ h.before;
   whole = h.whole;
-  sets = more_sets x.statement h.before old new h.sets k;
+  sets = more_sets x.line.statement.now h.before old new h.sets k;
 }
 
 pub between_next : (laid left : List LaidStatement) (x : LaidStatement) (old new : Sets) → IsBetween laid left old → 1 ≤ length left → x ≡ get_or left 0 x
-    → GainsAll old new x.statement → IsBetween laid (take (length left - 1) (drop 1 left)) new
+    → GainsAll old new x.line.statement.now → IsBetween laid (take (length left - 1) (drop 1 left)) new
 between_next laid left x old new h some at k =
     between_more laid x (take (length left - 1) (drop 1 left)) old new (subst (λ (xs : List LaidStatement). IsBetween laid xs old) (rest_of left x some at) h) k
 
@@ -56,22 +56,22 @@ pub said_first : (left : List LaidStatement) (x : LaidStatement) → AllLaidSaid
 said_first left x h some at = subst AllLaidSaid (rest_of left x some at) h
 
 said_with : (all : List LaidLine) (laid : List LaidStatement) (after : List Statement) → AreStatements all laid
-    → reversed (map (λ (y : LaidStatement). y.statement) laid) after ≡ statements_of all ++ after
+    → reversed (map (λ (y : LaidStatement). y.line.statement.now) laid) after ≡ statements_of all ++ after
 said_with [] laid after h = rw h refl
 said_with (l ∷ before) laid after h =
-    ap (λ (xs : List LaidStatement). reversed (map (λ (y : LaidStatement). y.statement) xs) after) h.2
-    ∙ last h.0 h.1 ∙ ap (λ (ss : List Statement). h.1.statement ∷ ss) (said_with before h.0 after h.4)
-    ∙ ap (λ (s : Statement). s ∷ (statements_of before ++ after)) h.3.statement
+    ap (λ (xs : List LaidStatement). reversed (map (λ (y : LaidStatement). y.line.statement.now) xs) after) h.2
+    ∙ last h.0 h.1 ∙ ap (λ (ss : List Statement). h.1.line.statement.now ∷ ss) (said_with before h.0 after h.4)
+    ∙ ap (λ (s : Statement). s ∷ (statements_of before ++ after)) h.3.line.statement
   where
     last : (xs : List LaidStatement) (y : LaidStatement)
-        → reversed (map (λ (z : LaidStatement). z.statement) (xs ++ y ∷ [])) after ≡ y.statement ∷ reversed (map (λ (z : LaidStatement). z.statement) xs) after
+        → reversed (map (λ (z : LaidStatement). z.line.statement.now) (xs ++ y ∷ [])) after ≡ y.line.statement.now ∷ reversed (map (λ (z : LaidStatement). z.line.statement.now) xs) after
     last xs y = under xs after y
       where
         under : (xs : List LaidStatement) (after : List Statement) (y : LaidStatement)
-            → reversed (map (λ (z : LaidStatement). z.statement) (xs ++ y ∷ [])) after ≡ y.statement
-            ∷ reversed (map (λ (z : LaidStatement). z.statement) xs) after
+            → reversed (map (λ (z : LaidStatement). z.line.statement.now) (xs ++ y ∷ [])) after ≡ y.line.statement.now
+            ∷ reversed (map (λ (z : LaidStatement). z.line.statement.now) xs) after
         under [] after y = refl
-        under (x ∷ xs) after y = under xs (x.statement ∷ after) y
+        under (x ∷ xs) after y = under xs (x.line.statement.now ∷ after) y
 
 pub said_is : (all : List LaidLine) (laid : List LaidStatement) → AreStatements all laid → said_in laid ≡ statements_of all
 said_is all laid h = said_with all laid [] h ∙ nil (statements_of all)

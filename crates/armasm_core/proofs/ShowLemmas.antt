@@ -8,7 +8,8 @@ use Rattle.asm_model.specs.Forms.{same}
 use Rattle.asm_instructions.specs.Lookups.{Shows}
 use Rattle.asm_instructions.specs.declared.lookups.Lookup.{Lookup}
 use Rattle.asm_laying.specs.Reading.{string_marks}
-use Rattle.asm_layout.specs.PlacedLines.{IsLineOf}
+use Rattle.asm_names.specs.PlacedLines.{Sees}
+use Rattle.asm_names.specs.declared.placed_lines.PlacedLine.{PlacedLine}
 use Rattle.asm_model.specs.declared.exprs.Expr.{Expr}
 use Rattle.asm_model.specs.declared.statements.Statement.{Statement}
 use Rattle.asm_model.specs.declared.values.Value.{Value}
@@ -16,7 +17,7 @@ use Rattle.asm_offsets.specs.Laws.{AllExtents, ExtentsArePlaceable, LiteralsAreP
 use Rattle.asm_offsets.specs.Running.{entry_behind, pools_behind}
 use Rattle.asm_pool.specs.Laws.{PoolLaw}
 use Rattle.asm_layout.specs.declared.laid.LaidArea.{LaidArea}
-use Rattle.asm_layout.specs.declared.laid.LaidStatement.{LaidStatement}
+use Rattle.asm_laying.specs.declared.laying.LaidStatement.{LaidStatement}
 use Rattle.asm_units.specs.declared.tables.LineTables.{LineTables}
 use Rattle.asm_units.specs.Literals.{literal_in}
 use Rattle.layout_laws.specs.Final.{KnownValuesAreFinal}
@@ -87,17 +88,17 @@ place_of statements areas w known before rest l x h =
 -- ---- its literal
 
 pub record Loads (areas : List LaidArea) (before rest : List LaidLine) (l : LaidLine) (x : LaidStatement) : Type 0 where
-  pub word : own.word_in areas x.place.area x.literal ≡ word_of l.area (taken l.extent) (pieces_of (l ∷ before)) (pieces_of rest)
-  pub literal : literal_in (taken l.extent) ≡ own.literal_in areas x.place.area x.literal
+  pub word : own.word_in areas x.line.place.area x.literal ≡ word_of l.area (taken l.extent) (pieces_of (l ∷ before)) (pieces_of rest)
+  pub literal : literal_in (taken l.extent) ≡ own.literal_in areas x.line.place.area x.literal
 
 word_is : ExtentsArePlaceable → LiteralsArePlaced → (statements : List Statement) (areas : List LaidArea) (w : SourceTables) (known : List Named)
     (before rest : List LaidLine) (l : LaidLine) (x : LaidStatement) → IsPlace statements areas w known before rest l x
-    → own.word_in areas x.place.area x.literal ≡ word_of l.area (taken l.extent) (pieces_of (l ∷ before)) (pieces_of rest)
+    → own.word_in areas x.line.place.area x.literal ≡ word_of l.area (taken l.extent) (pieces_of (l ∷ before)) (pieces_of rest)
 word_is fits law statements areas w known before rest l x p = by_area l.area refl
   where
-    by_area : (o : Option ℕ) → l.area ≡ o → own.word_in areas x.place.area x.literal ≡ word_of l.area (taken l.extent) (pieces_of (l ∷ before)) (pieces_of rest)
+    by_area : (o : Option ℕ) → l.area ≡ o → own.word_in areas x.line.place.area x.literal ≡ word_of l.area (taken l.extent) (pieces_of (l ∷ before)) (pieces_of rest)
     by_area None e =
-        ap (λ (a : Option ℕ). own.word_in areas a x.literal) (p.here.line.place.area ∙ e)
+        ap (λ (a : Option ℕ). own.word_in areas a x.literal) (p.here.line.line.place.area ∙ e)
         ∙ sym (ap (λ (a : Option ℕ). word_of a (taken l.extent) (pieces_of (l ∷ before)) (pieces_of rest)) e)
     by_area (Some area) e =
         let less : area < length areas = subst (IsWithin (length areas)) e p.within in
@@ -114,7 +115,7 @@ word_is fits law statements areas w known before rest l x p = by_area l.area ref
         let extents = parts_extents rest (l ∷ before) (subst (λ (ls : List LaidLine). AllExtents (pieces_of ls)) p.here.parts
         (all_extents fits (declared_names statements) statements)) in
         let entry = p.here.line.literal ∙ ap (λ (o : Option ℕ). entry_behind o pieces t) e in
-        ap (λ (o : Option ℕ). own.word_in areas o x.literal) (p.here.line.place.area ∙ e) ∙ ap (own.word_in areas (Some area)) entry
+        ap (λ (o : Option ℕ). own.word_in areas o x.literal) (p.here.line.line.place.area ∙ e) ∙ ap (own.word_in areas (Some area)) entry
         ∙ placed.word_there law areas area a.0 pieces behind t a.1 settled_there extents.0.1 extents.0.0 extents.1
         ∙ ap (λ (o : Option ℕ). word_of o t ((record { area = o; extent = t }) ∷ pieces) behind) (sym e)
 
@@ -127,7 +128,7 @@ loads fits law pools statements areas w known before rest l x p =
 
 pub record IsLookup (w : SourceTables) (known : List Named) (x : LaidStatement) (z : Lookup) : Type 0 where
   pub names : z.names.now ≡ w.names.now
-  pub line : IsLineOf x z.line.now
+  pub line : z.line.now ≡ x.line
   pub registers : z.registers.now ≡ known
 
 pub record AreTables (areas : List LaidArea) (w : SourceTables) (known : List Named) (x : LaidStatement) (y : LineTables) : Type 0 where
@@ -135,7 +136,7 @@ pub record AreTables (areas : List LaidArea) (w : SourceTables) (known : List Na
   pub labels : y.«data».now ≡ w.sets.«data»
   pub sizes : y.sizes.now ≡ w.sizes.items
   pub strings : y.strings.now ≡ x.strings
-  pub word : y.word ≡ own.word_in areas x.place.area x.literal
+  pub word : y.word ≡ own.word_in areas x.line.place.area x.literal
 
 pub shows : (statements : List Statement) (areas : List LaidArea) (w : SourceTables) (known : List Named) (before rest : List LaidLine) (l : LaidLine)
     (x : LaidStatement) (z : Lookup)
@@ -143,7 +144,7 @@ pub shows : (statements : List Statement) (areas : List LaidArea) (w : SourceTab
     → Shows z (context_there statements before l)
 shows statements areas w known before rest l x z p b = record {
   names = sym (b.names ∙ p.here.whole.names);
-  line = seen_there statements areas w before rest l x z.line.now p.there b.line;
+  line = subst (λ (y : PlacedLine). Sees y l.line) (sym b.line) (seen_there statements areas w before rest l x p.there);
   registers = λ q. ap (register_in q) b.registers ∙ p.here.registers q;
   small = λ q n e.
       small_there (declared_names statements) p.behind.ss p.behind.all q n (subst (λ (ls : List LaidLine). register_in q (registers_behind ls) ≡ Some n)
@@ -161,7 +162,7 @@ known_there law statements areas w known before rest l x p e v h =
 pub shows_tables : KnownValuesAreFinal → (statements : List Statement) (areas : List LaidArea) (w : SourceTables) (known : List Named)
     (before rest : List LaidLine) (l : LaidLine) (x : LaidStatement)
     (y : LineTables) → IsPlace statements areas w known before rest l x → Loads areas before rest l x → AreTables areas w known x y
-    → ShowsLine statements before rest l y x.statement.what
+    → ShowsLine statements before rest l y x.line.statement.now.what
 shows_tables law statements areas w known before rest l x y p o b =
     let sizes : y.sizes.now ≡ map (λ (a : LaidArea). a.size) areas = b.sizes ∙ p.here.whole.sizes in
     record {
@@ -173,7 +174,7 @@ shows_tables law statements areas w known before rest l x y p o b =
           subst (λ (n : ℕ). area < n) (sym (ap (λ (ns : List ℕ). length ns) sizes ∙ map_long areas))
           (context_within statements (length areas) (reversed rest []) before l (areas_low statements areas p.here.laid_out)
           (split_there (laid statements) rest l before p.here.parts) q (area, offset) e);
-      strings = b.strings ∙ p.here.line.strings ∙ ap (λ (s : Statement). string_marks l.seen s.what) (sym p.here.line.statement);
+      strings = b.strings ∙ p.here.line.strings ∙ ap (λ (s : Statement). string_marks l.seen s.what) (sym p.here.line.line.statement);
       literal = b.word ∙ o.word;
       known = known_there law statements areas w known before rest l x p;
     }
@@ -182,9 +183,9 @@ shows_tables law statements areas w known before rest l x y p o b =
 
 pub given_there : (statements : List Statement) (areas : List LaidArea) (w : SourceTables) (known : List Named) (before rest : List LaidLine) (l : LaidLine)
     (x : LaidStatement) (y : LineTables)
-    (n : Result ℕ LineKind) → IsHere statements areas w known before rest l x → ShowsLine statements before rest l y x.statement.what
-    → IsNumber (context_there statements before l) x.statement.what n → named_by l.seen (defined_by l.statement) ≡ gives n (defined_by l.statement)
+    (n : Result ℕ LineKind) → IsHere statements areas w known before rest l x → ShowsLine statements before rest l y x.line.statement.now.what
+    → IsNumber (context_there statements before l) x.line.statement.now.what n → named_by l.seen (defined_by l.statement) ≡ gives n (defined_by l.statement)
 given_there statements areas w known before rest l x y n h shows i =
     let c = context_there statements before l in
-    gives_there c (register_names statements) l before n (subst (λ (s : Statement). IsNumber c s.what n) h.line.statement i) shows.known
+    gives_there c (register_names statements) l before n (subst (λ (s : Statement). IsNumber c s.what n) h.line.line.statement i) shows.known
     (registers_there statements rest l before h.sound h.parts)

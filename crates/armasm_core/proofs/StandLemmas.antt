@@ -19,7 +19,7 @@ use Rattle.asm_model.specs.declared.directives.Contents.{Contents}
 use Rattle.asm_model.specs.declared.directives.Contents.TheVariants as contents
 use Rattle.asm_model.specs.declared.statements.Statement.{Statement}
 use Rattle.asm_layout.specs.declared.laid.LaidArea.{LaidArea}
-use Rattle.asm_layout.specs.declared.laid.LaidStatement.{LaidStatement}
+use Rattle.asm_laying.specs.declared.laying.LaidStatement.{LaidStatement}
 use Rattle.asm_layout.specs.declared.laid.Layout.{Layout}
 use Rattle.asm_units.specs.declared.emitted.Emitted.{Emitted as Code}
 use Rattle.asm_units.specs.Emitting.{emitted_of}
@@ -151,20 +151,20 @@ frame_got (x ∷ xs) (suc i) a e = frame_got xs i a e
 line_stands : (o : Layout) (h : HasSource o) (names : List (List ℕ)) → names ≡ symbols_of (source_of h.statements).names (laid h.statements)
     → (areas : List LaidArea) (w : SourceTables) (before rest : List LaidLine) (l : LaidLine) (x : LaidStatement)
     → StandsThere h.statements areas w before rest l x
-    → (gs : List AreaBuild) → frames gs ≡ map frame_of areas → (us : List Code) → own_things h.statements l before rest ≡ pieces_put x.place.offset us
-    → AllUnitsFit (map emitted_of us) → LineCanStand names (frames gs) x.place.area (pieces_put x.place.offset us)
-line_stands o h names listed areas w before rest l x there gs same us puts fits = by_area x.place.area refl
+    → (gs : List AreaBuild) → frames gs ≡ map frame_of areas → (us : List Code) → own_things h.statements l before rest ≡ pieces_put x.line.place.offset us
+    → AllUnitsFit (map emitted_of us) → LineCanStand names (frames gs) x.line.place.area (pieces_put x.line.place.offset us)
+line_stands o h names listed areas w before rest l x there gs same us puts fits = by_area x.line.place.area refl
   where
     ss : List Statement
     ss = h.statements
 
     more : List Piece
-    more = pieces_put x.place.offset us
+    more = pieces_put x.line.place.offset us
 
-    by_area : (own : Option ℕ) → x.place.area ≡ own → LineCanStand names (frames gs) own (pieces_put x.place.offset us)
+    by_area : (own : Option ℕ) → x.line.place.area ≡ own → LineCanStand names (frames gs) own (pieces_put x.line.place.offset us)
     by_area None e = tt
     by_area (Some area) e =
-        let here : l.area ≡ Some area = sym there.line.place.area ∙ e in
+        let here : l.area ≡ Some area = sym there.line.line.place.area ∙ e in
         let less : area < length areas = subst (λ (a : Option ℕ). IsWithin (length areas) a) here (within_there ss areas w before rest l x there) in
         let a = area_there areas area less in
         let is = there.laid_out.each area a.0 a.1 in
@@ -177,7 +177,7 @@ line_stands o h names listed areas w before rest l x there gs same us puts fits 
                 stands_there ss area p (l ∷ before) rest there.parts
                     (subst (IsAmong p) (sym (things_here ss area before rest l more here puts))
                     (among_behind p (things_so_far (source_of ss) before (l ∷ rest) area) more k)),
-                units_word x.place.offset (map emitted_of us) p fits k,
+                units_word x.line.place.offset (map emitted_of us) p fits k,
               ));
         }
 
@@ -192,7 +192,7 @@ pub next_stands : (l : Layout) (w : SourceTables) (names : List (List ℕ)) (x :
     → us ≡ u.units.items
     → ((before rest : List LaidLine) (line : LaidLine) → IsHere g.source.source.statements l.areas w known before rest line x
     → IsPut g.source.source.statements before rest line u)
-    → LineCanStand names (frames gs) x.place.area (pieces_put x.place.offset us)
+    → LineCanStand names (frames gs) x.line.place.area (pieces_put x.line.place.offset us)
 next_stands l w names x left known gs some at g same u us is put =
     let s = g.source.source in
     let n = next_there s.statements l w names x left known gs some at (emittable l w names g.source) g.grown in

@@ -7,7 +7,7 @@ use Rattle.armasm_core.specs.SourceTables.{AreSourceTables}
 use Rattle.asm_layout.specs.Late.{AreOn}
 use Rattle.asm_layout.specs.Layout.{IsLayout, IsTold}
 use Rattle.asm_model.specs.declared.statements.Statement.{Statement}
-use Rattle.asm_layout.specs.declared.laid.LaidStatement.{LaidStatement}
+use Rattle.asm_laying.specs.declared.laying.LaidStatement.{LaidStatement}
 use Rattle.asm_layout.specs.declared.laid.Layout.{Layout}
 use Rattle.asm_model.specs.Laid.{LaidLine, laid, final_names, reversed}
 use Rattle.asm_model.specs.Symbols.{symbols_of}

@@ -2,13 +2,13 @@
 use Rattle.std.specs.Prelude.{List, [], ◌∷◌, Option, None}
 use Rattle.aof_object.specs.declared.records.Entry.{Entry}
 use Rattle.asm_model.specs.Directives.{or_else}
-use Rattle.asm_layout.specs.declared.laid.LaidStatement.{LaidStatement}
+use Rattle.asm_laying.specs.declared.laying.LaidStatement.{LaidStatement}
 use Rattle.asm_model.specs.LayoutKinds.{is_entry}
 use Rattle.source_model.specs.Objects.{entry_by}
 
 -- the entry that a statement gives
 abbrev pub entry_at : LaidStatement → Option Entry
-entry_at x = entry_by (is_entry x.statement.what) x.place.area x.place.offset
+entry_at x = entry_by (is_entry x.line.statement.now.what) x.line.place.area x.line.place.offset
 
 -- the first
 abbrev pub first_entry : List LaidStatement → Option Entry

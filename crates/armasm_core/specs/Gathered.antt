@@ -1,15 +1,15 @@
 -- Names of a source in sets, as its statements say them. This project's.
-use Rattle.std.specs.Prelude.{◌≡◌, ℕ, Bool, true, false, List, [], ◌∷◌, ◌++◌, map}
+use Rattle.std.specs.Prelude.{◌≡◌, ℕ, List, [], ◌∷◌, ◌++◌, map}
 use Rattle.std.specs.List.{list_any}
 use Rattle.asm_model.specs.declared.directives.DirectiveLine.TheVariants as line
+use Rattle.asm_model.specs.declared.directives.ImportMark.TheVariants as mark
 use Rattle.asm_model.specs.declared.statements.Statement.{Statement}
 use Rattle.asm_model.specs.declared.statements.What.{What}
 use Rattle.asm_model.specs.declared.statements.What.TheVariants as what
 use Rattle.asm_model.specs.Forms.{same}
-use Rattle.asm_layout.specs.declared.laid.LaidStatement.{LaidStatement}
+use Rattle.asm_laying.specs.declared.laying.LaidStatement.{LaidStatement}
 use Rattle.asm_sets.specs.Sets.{HaveSame}
 use Rattle.asm_model.specs.Laid.{reversed}
-use Rattle.asm_model.specs.LayoutKinds.{is_true}
 use Rattle.asm_model.specs.Marks.{datum_in, datum_names}
 use Rattle.asm_model.specs.Said.{IsSaid}
 use Rattle.source_model.specs.Objects.{exports_name, is_weak_import}
@@ -19,11 +19,11 @@ use Rattle.armasm_core.specs.declared.sets.Sets.{Sets}
 
 abbrev pub AllLaidSaid : List LaidStatement → Type 0
 AllLaidSaid [] = Unit {0}
-AllLaidSaid (x ∷ xs) = IsSaid x.statement × AllLaidSaid xs
+AllLaidSaid (x ∷ xs) = IsSaid x.line.statement.now × AllLaidSaid xs
 
 -- the statements, of which the last is listed first
 abbrev pub said_in : List LaidStatement → List Statement
-said_in xs = reversed (map (λ (x : LaidStatement). x.statement) xs) []
+said_in xs = reversed (map (λ (x : LaidStatement). x.line.statement.now) xs) []
 
 -- ---- names of statements
 
@@ -31,13 +31,9 @@ abbrev pub exported_in : What → List (List ℕ)
 exported_in (what.Directive (line.Export n)) = n ∷ []
 exported_in _ = []
 
-abbrev pub name_where : Bool → List ℕ → List (List ℕ)
-name_where true n = n ∷ []
-name_where false n = []
-
 abbrev pub weak_in : What → List (List ℕ)
-weak_in (what.Directive (line.Import n weak)) = name_where (is_true weak) n
-weak_in (what.Directive (line.Extern n weak)) = name_where (is_true weak) n
+weak_in (what.Directive (line.Import n mark.Weak)) = n ∷ []
+weak_in (what.Directive (line.Extern n mark.Weak)) = n ∷ []
 weak_in _ = []
 
 -- ---- names in sets

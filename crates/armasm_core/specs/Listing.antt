@@ -1,10 +1,11 @@
 -- The symbols of a layout's lines, and the lines that are left. This project's.
 use Rattle.std.specs.Prelude.{◌≡◌, ℕ, List, ◌∷◌, None}
 use Rattle.asm_layout.specs.Late.{AreOn}
-use Rattle.asm_layout.specs.Layout.{IsLayout, IsStatement, AreAreas}
+use Rattle.asm_laying.specs.Laying.{IsStatement}
+use Rattle.asm_layout.specs.Layout.{IsLayout, AreAreas}
 use Rattle.asm_model.specs.declared.statements.Statement.{Statement}
 use Rattle.asm_layout.specs.declared.laid.LaidArea.{LaidArea}
-use Rattle.asm_layout.specs.declared.laid.LaidStatement.{LaidStatement}
+use Rattle.asm_laying.specs.declared.laying.LaidStatement.{LaidStatement}
 use Rattle.asm_layout.specs.declared.laid.Layout.{Layout}
 use Rattle.asm_model.specs.Laid.{LaidLine, laid, taken, reversed, final_names}
 use Rattle.asm_model.specs.Symbols.{symbols_in, symbols_of}

@@ -1,11 +1,12 @@
 -- What all lines of a layout share, and a line among them. This project's.
 use Rattle.std.specs.Prelude.{◌≡◌, ℕ, List, ◌∷◌, map, Option, None}
 use Rattle.sdt_fault.specs.declared.kinds.LineKind.{LineKind}
-use Rattle.asm_layout.specs.Layout.{IsStatement, AreAreas}
+use Rattle.asm_laying.specs.Laying.{IsStatement}
+use Rattle.asm_layout.specs.Layout.{AreAreas}
 use Rattle.asm_model.specs.declared.statements.Statement.{Statement}
 use Rattle.asm_model.specs.declared.statements.What.{What}
 use Rattle.asm_layout.specs.declared.laid.LaidArea.{LaidArea}
-use Rattle.asm_layout.specs.declared.laid.LaidStatement.{LaidStatement}
+use Rattle.asm_laying.specs.declared.laying.LaidStatement.{LaidStatement}
 use Rattle.asm_units.specs.declared.tables.LineTables.{LineTables}
 use Rattle.asm_units.specs.Showing.{ShowsTables}
 use Rattle.asm_model.specs.Laid.{LaidLine, laid, taken, pieces_of, reversed, final_names}

@@ -44,7 +44,7 @@ fn object_of(
     ensures few { IfOk result (λ object. length object.symbols < 2 ^ 24) }
 {
     sources_keep_states();
-    let layout = laid_out(alloc, source, flats, reading)?;
+    let layout = laid_out(alloc, source, flats, &reading)?;
     emit(alloc, &layout)
 }
 

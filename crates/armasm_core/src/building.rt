@@ -52,7 +52,7 @@ fn started(
     ensures words { IfOk result
         (λ g. BeginsWith whole.now symbols.now number laid.now.pools.placed g.builder) }
 {
-    let name = laid.name.try_clone(alloc)?;
+    let name = laid.name.to_text(alloc)?;
     let mut builder = AreaBuilder::new(alloc, kept_size(laid.attributes, laid.size))?;
     let literals = laid.pools.literals();
     let offsets = laid.pools.offsets();

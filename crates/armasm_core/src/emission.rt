@@ -40,7 +40,7 @@ use std::alloc::Global;
 /// The areas of a layout with the words of their pools and all that its lines put there; or the refusal of the first line whose values have a fault.
 fn grown(
     alloc: Global,
-    layout: &Layout,
+    layout: &Layout<'_>,
     whole: &SourceTables<'_>,
     symbols: &Symbols,
 ) -> Result<Vec<AreaBuild>, Fault>
@@ -61,8 +61,8 @@ fn grown(
             [] => return Ok(builds),
             [line, rest @ ..] => {
                 let LineUnits { units, number } = pass_line(alloc, areas, whole, &registers, line)?;
-                put_line(&mut builds, &line.place, units.as_slice(), symbols)?;
-                define_register(alloc, &mut registers, &line.statement, number)?;
+                put_line(&mut builds, &line.line.place, units.as_slice(), symbols)?;
+                define_register(alloc, &mut registers, line.line.statement, number)?;
                 left = rest;
             }
         }
@@ -72,7 +72,7 @@ fn grown(
 /// The records of a layout's symbols. 2^24 symbols or more count as want of memory.
 fn few_records(
     alloc: Global,
-    layout: &Layout,
+    layout: &Layout<'_>,
     whole: &SourceTables<'_>,
     symbols: &Symbols,
 ) -> Result<List<Symbol>, NoMemory>
@@ -92,7 +92,7 @@ fn few_records(
 }
 
 /// The object of a layout; or the refusal of the first line whose values have a fault.
-fn object_of(alloc: Global, layout: &Layout) -> Result<Object, Fault>
+fn object_of(alloc: Global, layout: &Layout<'_>) -> Result<Object, Fault>
     requires said { AllLaidSaid layout.now.statements }
     requires source { HasSource layout.now }
     ensures emitted { (statements : Items Statement) → IsLayout statements layout.now
@@ -115,7 +115,7 @@ fn object_of(alloc: Global, layout: &Layout) -> Result<Object, Fault>
 /// The object of a layout. Refuses the first line whose operands, name, literal, EXPORT, KEEP or ASSERT have a fault.
 /// With 2^24 symbols or more, want of memory is answered before anything is written. Wherever the object is placed, the
 /// statements stand.
-pub fn emit(alloc: Global, layout: &Layout) -> Result<Object, Fault>
+pub fn emit(alloc: Global, layout: &Layout<'_>) -> Result<Object, Fault>
     requires source { HasSource layout.now }
     ensures emitted { (statements : Items Statement) → IsLayout statements layout.now
         → AllSaid statements → layout_faults statements ≡ None → AreOfState statements

@@ -21,22 +21,22 @@ fn is_entry(what: &What) -> bool
     }
 }
 
-fn entry_here(laid: &LaidStatement) -> Option<Entry>
+fn entry_here(laid: &LaidStatement<'_>) -> Option<Entry>
     ensures { result ≡ entry_at laid.now }
 {
-    if !is_entry(&laid.statement.what) {
+    if !is_entry(&laid.line.statement.what) {
         return None;
     }
-    match laid.place.area {
+    match laid.line.place.area {
         None => None,
         Some(area) => Some(Entry {
             area,
-            offset: laid.place.offset,
+            offset: laid.line.place.offset,
         }),
     }
 }
 
-fn first_entry(laid: &[LaidStatement]) -> Option<Entry>
+fn first_entry(laid: &[LaidStatement<'_>]) -> Option<Entry>
     ensures { result ≡ first_of laid.now }
 {
     let mut left = laid;
@@ -54,7 +54,7 @@ fn first_entry(laid: &[LaidStatement]) -> Option<Entry>
 }
 
 /// The place where execution begins: that of the first ENTRY in an area.
-pub fn entry_of(layout: &Layout) -> Option<Entry>
+pub fn entry_of(layout: &Layout<'_>) -> Option<Entry>
     ensures { (statements : List Statement) → IsLayout statements layout.now → result
         ≡ objects.entry_of (laid statements) }
 {

@@ -30,7 +30,7 @@ fn codes_of(alloc: Global, areas: &[LaidArea]) -> Result<Vec<bool>, NoMemory>
 }
 
 /// Of each area of a layout whether it holds code.
-pub fn code_of(alloc: Global, layout: &Layout) -> Result<Vec<bool>, NoMemory>
+pub fn code_of(alloc: Global, layout: &Layout<'_>) -> Result<Vec<bool>, NoMemory>
     ensures { IfOk result (λ code. (statements : List Statement) → IsLayout statements layout.now
         → layout_faults statements ≡ None → IsCode statements code.items) }
 {

@@ -13,19 +13,20 @@ ghost use Rattle.armasm_core.specs.Gathering.{IsCode};
 use crate::flags::flags_of;
 use crate::source_tables::SourceTables;
 use aof_object::Symbol;
+use asm_model::SharedText;
 use asm_units::{SymbolFlags, Symbols, record_of};
-use sdt_fault::{List, NoMemory, Text};
+use sdt_fault::{List, NoMemory};
 use std::alloc::Global;
 
 fn records_with(
     alloc: Global,
-    names: &[Text],
+    names: &[SharedText],
     flags: &SymbolFlags<'_>,
 ) -> Result<Vec<Symbol>, NoMemory>
     ensures { IfOk result (λ records. (s : Source) → Shows flags.now s → records.items
         ≡ map (symbol_named s) names.now) }
 {
-    let mut records = Vec::new(alloc);
+    let mut records = Vec::with_capacity(alloc, names.len())?;
     'names: for name in names {
         records.push(record_of(alloc, name, flags)?)?;
     }

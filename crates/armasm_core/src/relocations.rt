@@ -12,13 +12,14 @@ ghost use Rattle.armasm_core.specs.Relocations.{noted, relocs_listed};
 ghost use Rattle.armasm_core.specs.Writing.{HasNumber, IsListed, SymbolHasNumber, TargetHasNumber};
 
 use aof_object::Reloc;
+use asm_model::SharedText;
 use asm_units::{Emitted, RelocationTarget, Symbols};
-use sdt_fault::{NoMemory, Text};
+use sdt_fault::NoMemory;
 use std::alloc::Global;
 use std::collections::BTreeMap;
 
 /// The place of a symbol that is listed.
-fn listed_at(symbols: &Symbols, name: &Text) -> u32
+fn listed_at(symbols: &Symbols, name: &SharedText) -> u32
     requires { IsListed symbols.now name.now }
     ensures { result ≡ place_of name.now symbols.now }
 {
@@ -26,7 +27,7 @@ fn listed_at(symbols: &Symbols, name: &Text) -> u32
 }
 
 /// The number of a symbol that is listed, which has 24 bits in a relocation.
-fn number_of(symbols: &Symbols, name: &Text) -> u32
+fn number_of(symbols: &Symbols, name: &SharedText) -> u32
     requires few { length symbols.now < 2 ^ 24 }
     requires listed { IsListed symbols.now name.now }
     ensures number { result ≡ place_of name.now symbols.now }
@@ -49,7 +50,7 @@ fn word_relocation(symbols: &Symbols, target: &RelocationTarget) -> Option<u32>
     }
 }
 
-fn branch_relocation(symbols: &Symbols, symbol: Option<&Text>) -> Option<u32>
+fn branch_relocation(symbols: &Symbols, symbol: Option<&SharedText>) -> Option<u32>
     requires few { length symbols.now < 2 ^ 24 }
     requires number { SymbolHasNumber symbols.now (option_copied symbol) }
     ensures { result ≡ model.branch_relocation symbols.now (option_copied symbol.entry) }
@@ -106,7 +107,7 @@ pub fn listed(alloc: Global, relocs: &BTreeMap<u32, u32>) -> Result<Vec<Reloc>, 
     ensures all { IfOk result (λ list. list.items ≡ relocs_listed relocs.now.entries) }
     ensures ordered { IsOrdered nat_cmp relocs.now }
 {
-    let mut list = Vec::new(alloc);
+    let mut list = Vec::with_capacity(alloc, relocs.len())?;
     'entries: for (offset, word) in relocs {
         list.push(Reloc {
             offset: *offset,

@@ -13,7 +13,6 @@ use asm_instructions::laws::{
     instructions_fit, pseudo_instructions_fit, thumb_instructions_fit,
     thumb_pseudo_instructions_fit,
 };
-use asm_layout::placed_lines::line_of;
 use asm_layout::telling::told_of;
 use asm_layout::{LaidArea, LaidStatement};
 use asm_sets::NameMap;
@@ -28,9 +27,9 @@ pub fn pass_line(
     areas: &[LaidArea],
     whole: &SourceTables<'_>,
     registers: &NameMap<u8>,
-    laid: &LaidStatement,
+    laid: &LaidStatement<'_>,
 ) -> Result<LineUnits, Fault>
-    requires { IsSaid laid.now.statement }
+    requires { IsSaid laid.now.line.statement.now }
     ensures { (statements : List Statement) (before rest : List LaidLine) (l : LaidLine)
         → IsHere statements areas.now whole.now registers.now before rest l laid.now
         → IsPassed statements before rest l result }
@@ -39,12 +38,11 @@ pub fn pass_line(
     pseudo_instructions_fit();
     thumb_instructions_fit();
     thumb_pseudo_instructions_fit();
-    let line = line_of(laid);
-    let tables = tables_of(areas, whole, registers, laid, &line);
+    let tables = tables_of(areas, whole, registers, laid);
     let literal = loaded_of(areas, laid);
-    let passed = pass_two(alloc, &tables, literal, &laid.statement.what)?;
+    let passed = pass_two(alloc, &tables, literal, &laid.line.statement.what)?;
     match passed {
         Ok(units) => Ok(units),
-        Err(kind) => Err(told_of(alloc, &laid.statement, kind)),
+        Err(kind) => Err(told_of(alloc, laid.line.statement, kind)),
     }
 }

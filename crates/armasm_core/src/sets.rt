@@ -5,13 +5,12 @@ ghost use Rattle.std.specs.Option.{option_copied};
 ghost use Rattle.asm_model.specs.LayoutKinds.{listed};
 ghost use Rattle.asm_model.specs.Marks as marks;
 ghost use Rattle.asm_sets.specs.Sets.{HaveSame};
-ghost use Rattle.armasm_core.specs.Gathered.{GainsAll, AreSets, exported_in, name_where, said_in, weak_in};
+ghost use Rattle.armasm_core.specs.Gathered.{GainsAll, AreSets, exported_in, said_in, weak_in};
 
-use asm_instructions::is_true;
 use asm_layout::LaidStatement;
-use asm_model::{DirectiveLine, Statement, What};
+use asm_model::{DirectiveLine, ImportMark, SharedText, Statement, What};
 use asm_sets::NameRefs;
-use sdt_fault::{NoMemory, Text};
+use sdt_fault::NoMemory;
 use std::alloc::Global;
 
 /// Names of a source.
@@ -26,7 +25,7 @@ pub struct Sets<'a> {
 }
 
 /// A name more, where there is one.
-fn add_name<'a>(set: &mut NameRefs<'a>, name: Option<&'a Text>) -> Result<(), NoMemory>
+fn add_name<'a>(set: &mut NameRefs<'a>, name: Option<&'a SharedText>) -> Result<(), NoMemory>
     ensures { OnOk result (HaveSame set.new (listed (option_copied name.entry) ++ set.old)) }
 {
     match name {
@@ -39,7 +38,7 @@ fn add_name<'a>(set: &mut NameRefs<'a>, name: Option<&'a Text>) -> Result<(), No
 }
 
 /// The label of a statement that makes it data.
-fn datum_of(statement: &Statement) -> Option<&Text>
+fn datum_of(statement: &Statement) -> Option<&SharedText>
     ensures { listed (option_copied result)
         ≡ marks.datum_in statement.now.label statement.now.what }
 {
@@ -50,7 +49,7 @@ fn datum_of(statement: &Statement) -> Option<&Text>
 }
 
 /// The name that EXPORT has.
-fn exported_name(what: &What) -> Option<&Text>
+fn exported_name(what: &What) -> Option<&SharedText>
     ensures { listed (option_copied result) ≡ exported_in what.now }
 {
     match what {
@@ -59,22 +58,23 @@ fn exported_name(what: &What) -> Option<&Text>
     }
 }
 
-fn name_if(holds: bool, name: &Text) -> Option<&Text>
-    ensures { listed (option_copied result) ≡ name_where holds name.now }
-{
-    if holds {
-        return Some(name);
-    }
-    None
-}
-
 /// The name that is imported as weak.
-fn weak_name(what: &What) -> Option<&Text>
+fn weak_name(what: &What) -> Option<&SharedText>
     ensures { listed (option_copied result) ≡ weak_in what.now }
 {
     match what {
-        What::Directive(DirectiveLine::Import { name, weak }) => name_if(is_true(*weak), name),
-        What::Directive(DirectiveLine::Extern { name, weak }) => name_if(is_true(*weak), name),
+        What::Directive(
+            DirectiveLine::Import {
+                name,
+                mark: ImportMark::Weak,
+            },
+        ) => Some(name),
+        What::Directive(
+            DirectiveLine::Extern {
+                name,
+                mark: ImportMark::Weak,
+            },
+        ) => Some(name),
         _ => None,
     }
 }
@@ -91,7 +91,7 @@ fn note<'a>(sets: &mut Sets<'a>, statement: &'a Statement) -> Result<(), NoMemor
 }
 
 /// The names that the statements of a source say.
-pub fn sets_of(alloc: Global, laid: &[LaidStatement]) -> Result<Sets<'_>, NoMemory>
+pub fn sets_of<'a>(alloc: Global, laid: &[LaidStatement<'a>]) -> Result<Sets<'a>, NoMemory>
     ensures { IfOk result (λ sets. AreSets (said_in laid.now) sets) }
 {
     let mut sets = Sets {
@@ -103,8 +103,8 @@ pub fn sets_of(alloc: Global, laid: &[LaidStatement]) -> Result<Sets<'_>, NoMemo
     'lines: loop {
         match left {
             [] => return Ok(sets),
-            [line, rest @ ..] => {
-                note(&mut sets, &line.statement)?;
+            [next, rest @ ..] => {
+                note(&mut sets, next.line.statement)?;
                 left = rest;
             }
         }

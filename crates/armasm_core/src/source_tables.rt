@@ -24,7 +24,7 @@ pub struct SourceTables<'a> {
 fn sizes_of(alloc: Global, areas: &[LaidArea]) -> Result<Vec<u32>, NoMemory>
     ensures { IfOk result (λ sizes. sizes.items ≡ map (λ area. area.size) areas.now) }
 {
-    let mut sizes = Vec::new(alloc);
+    let mut sizes = Vec::with_capacity(alloc, areas.len())?;
     'areas: for area in areas {
         sizes.push(area.size)?;
     }
@@ -32,7 +32,10 @@ fn sizes_of(alloc: Global, areas: &[LaidArea]) -> Result<Vec<u32>, NoMemory>
 }
 
 /// What the lines of a layout share.
-pub fn source_tables_of(alloc: Global, layout: &Layout) -> Result<SourceTables<'_>, NoMemory>
+pub fn source_tables_of<'a>(
+    alloc: Global,
+    layout: &'a Layout<'a>,
+) -> Result<SourceTables<'a>, NoMemory>
     ensures { IfOk result (λ whole. (statements : List Statement) → IsLayout statements layout.now
         → AreSourceTables statements layout.now.areas whole) }
 {

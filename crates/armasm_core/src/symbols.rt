@@ -15,7 +15,6 @@ ghost use Rattle.armasm_core.specs.Listing.{StandsThere, needed_by};
 use crate::literals::literal_of;
 use crate::source_tables::SourceTables;
 use asm_instructions::Lookup;
-use asm_layout::placed_lines::line_of;
 use asm_layout::{LaidArea, LaidStatement, Layout};
 use asm_pool::pool_law;
 use asm_sets::NameMap;
@@ -30,20 +29,19 @@ fn add_line_of(
     areas: &[LaidArea],
     whole: &SourceTables<'_>,
     registers: &NameMap<u8>,
-    laid: &LaidStatement,
+    laid: &LaidStatement<'_>,
 ) -> Result<(), NoMemory>
-    requires { IsSaid laid.now.statement }
+    requires { IsSaid laid.now.line.statement.now }
     ensures { OnOk result
         ((statements : List Statement) (before rest : List LaidLine) (l : LaidLine)
         → StandsThere statements areas.now whole.now before rest l laid.now → symbols.new
         ≡ needs.listed_behind symbols.old (needed_by statements l)) }
 {
     pool_law();
-    let line = line_of(laid);
-    let literal = literal_of(areas, laid.place.area, laid.literal);
+    let literal = literal_of(areas, laid.line.place.area, laid.literal);
     let lookup = Lookup {
         names: whole.names,
-        line: &line,
+        line: &laid.line,
         registers,
     };
     add_line(alloc, symbols, &lookup, literal)?;
@@ -53,7 +51,7 @@ fn add_line_of(
 /// The symbols of a layout whose lines share this, in order of the first line that names or needs them.
 pub fn symbols_of(
     alloc: Global,
-    layout: &Layout,
+    layout: &Layout<'_>,
     whole: &SourceTables<'_>,
 ) -> Result<Symbols, NoMemory>
     requires said { AllLaidSaid layout.now.statements }

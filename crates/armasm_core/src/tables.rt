@@ -2,7 +2,6 @@
 
 ghost use Rattle.std.specs.Prelude.{◌≡◌, List};
 ghost use Rattle.std.specs.Option.{option_copied};
-ghost use Rattle.asm_layout.specs.PlacedLines.{IsLineOf};
 ghost use Rattle.asm_model.specs.declared.statements.Statement.{Statement};
 ghost use Rattle.asm_model.specs.Laid.{LaidLine, taken};
 ghost use Rattle.asm_units.specs.Literals as loads;
@@ -15,7 +14,6 @@ use crate::source_tables::SourceTables;
 use asm_instructions::Lookup;
 use asm_layout::{LaidArea, LaidStatement};
 use asm_model::Value;
-use asm_names::PlacedLine;
 use asm_offsets::{extents_are_placeable, literals_are_placed};
 use asm_pool::pool_law;
 use asm_sets::NameMap;
@@ -27,13 +25,11 @@ pub fn tables_of<'a>(
     areas: &[LaidArea],
     whole: &'a SourceTables<'a>,
     registers: &'a NameMap<u8>,
-    laid: &'a LaidStatement,
-    line: &'a PlacedLine<'a>,
+    laid: &'a LaidStatement<'a>,
 ) -> LineTables<'a>
-    requires { IsLineOf laid.now line.now }
     ensures { (statements : List Statement) (before rest : List LaidLine) (l : LaidLine)
         → IsHere statements areas.now whole.now registers.now before rest l laid.now
-        → ShowsLine statements before rest l result laid.now.statement.what }
+        → ShowsLine statements before rest l result laid.now.line.statement.now.what }
 {
     known_values_are_final();
     extents_are_placeable();
@@ -42,18 +38,18 @@ pub fn tables_of<'a>(
     LineTables {
         lookup: Lookup {
             names: whole.names,
-            line,
+            line: &laid.line,
             registers,
         },
         data: &whole.sets.data,
         sizes: whole.sizes.as_slice(),
         strings: laid.strings.as_slice(),
-        word: word_of(areas, laid.place.area, laid.literal),
+        word: word_of(areas, laid.line.place.area, laid.literal),
     }
 }
 
 /// The literal that a line loads.
-pub fn loaded_of<'a>(areas: &'a [LaidArea], laid: &LaidStatement) -> Option<&'a Value>
+pub fn loaded_of<'a>(areas: &'a [LaidArea], laid: &LaidStatement<'_>) -> Option<&'a Value>
     ensures { (statements : List Statement) (w : Shared) (known : List Named)
         (before rest : List LaidLine) (l : LaidLine)
         → IsHere statements areas.now w known before rest l laid.now
@@ -62,5 +58,5 @@ pub fn loaded_of<'a>(areas: &'a [LaidArea], laid: &LaidStatement) -> Option<&'a 
     extents_are_placeable();
     literals_are_placed();
     pool_law();
-    literal_of(areas, laid.place.area, laid.literal)
+    literal_of(areas, laid.line.place.area, laid.literal)
 }

@@ -11,6 +11,7 @@ use Rattle.asm_model.specs.declared.tokens.Token.{Token}
 use Rattle.asm_model.specs.declared.exprs.Expr.{Expr}
 use Rattle.asm_model.specs.declared.operands.Register.{Register}
 use Rattle.asm_model.specs.declared.operands.Indexing.{Indexing}
+use Rattle.asm_model.specs.declared.operands.StatusFields.{StatusFields}
 use Rattle.asm_model.specs.declared.statements.What.{What}
 use Rattle.asm_model.specs.Grammar.{OneParse, ParsesTokens}
 use Rattle.asm_model.specs.Operands.{operands}
@@ -151,7 +152,7 @@ one_shape law text c o s shape.Move os a b p q = one_move law text c o s os a b 
 one_shape law text c o s shape.Comparison os a b p q = one_comparison law text c o true os a b p q
 one_shape law text c o s shape.Sum os a b p q = one_sum law text c o s os a b p q
 
-one_status_value : OneParse → (text : List ℕ) (c : Condition) (f : Result (Bool × ℕ) LineKind) (m : List Token) (o : Option (List Token))
+one_status_value : OneParse → (text : List ℕ) (c : Condition) (f : Result (Option StatusFields) LineKind) (m : List Token) (o : Option (List Token))
     (a b : Result What LineKind)
     → lines.ReadsStatusValue text c f m o a → lines.ReadsStatusValue text c f m o b → a ≡ b
 one_status_value law text c f m (Some e) a b p q = one_made (ParsesTokens text e) _ (one_value law text e) a b p q

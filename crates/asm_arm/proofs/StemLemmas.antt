@@ -15,7 +15,7 @@ use Rattle.asm_arm.specs.declared.mnemonics.Mnemonic.{Mnemonic}
 use Rattle.asm_arm.specs.declared.mnemonics.Mnemonic.TheVariants as mnemonic
 use Rattle.asm_arm.specs.declared.mnemonics.Stem.{Stem}
 use Rattle.asm_arm.specs.declared.mnemonics.Stem.TheVariants as stem
-use Rattle.asm_arm.specs.Stems.{begun, by_rows}
+use Rattle.asm_arm.specs.Stems.{begins_alike, begun, by_rows}
 use Rattle.asm_arm.specs.Stems as stems
 use Rattle.asm_arm.specs.Mnemonics.{ending, conditioned, stemmed, data_suffix, multiply_suffix, long_suffix, transfer_suffix, block_suffix, swap_suffix, bare_suffix, float_suffix, float_block_suffix, block_named, block_stem, branch_named, branch_stem, data_named, data_stem, float_arithmetic, float_block, float_compare, float_functions, float_named, float_stem, float_transfers, idle_named, idle_word, long_address_named, long_address_stem, long_named, long_stem, moving_named, multiply_named, multiply_stem, operation_named, other_named, plain_named, plain_stem, short_branch_stem, swap_named, swap_stem, transfer_named, transfer_stem}
 
@@ -96,6 +96,12 @@ no_other k n (row ∷ rows) name word e h p =
     or_both _ None _ None
     (begun_false word n (row.0, k row.1) (eqb-true _ _ parts.0) (one_name name row.0 (take n word) e differs.0))
     (no_other k n rows name word e differs.1 more.1)
+
+-- a word with another first letter
+pub other_letter : (word name : List ℕ) (s : Stem) → begins_alike word name ≡ false → begun word (name, s) ≡ None
+other_letter [] name s e = absurd (cc)
+other_letter (c ∷ cs) [] s e = absurd (cc)
+other_letter (c ∷ cs) (d ∷ ds) s e = rw e refl
 
 -- a table of stems of n letters
 family : {A : Type 0} (k : A → Stem) (f : A → List ℕ → Option Mnemonic) (n : ℕ) (rows : List (List ℕ × A)) (word : List ℕ)

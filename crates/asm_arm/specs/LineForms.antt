@@ -14,6 +14,7 @@ use Rattle.asm_model.specs.declared.exprs.Expr.{Expr}
 use Rattle.asm_model.specs.declared.arm_lines.ArmLine.TheVariants as line
 use Rattle.asm_model.specs.declared.operands.Register.{Register}
 use Rattle.asm_model.specs.declared.operands.ListItem.{ListItem}
+use Rattle.asm_model.specs.declared.operands.StatusFields.{StatusFields}
 use Rattle.asm_model.specs.declared.operands.Address.TheVariants as address
 use Rattle.asm_model.specs.declared.operands.Indexing.{Indexing}
 use Rattle.asm_model.specs.declared.operands.BlockMode.{BlockMode}
@@ -35,7 +36,8 @@ use Rattle.asm_arm.specs.declared.addresses.Offset.TheVariants as offset_is
 use Rattle.asm_arm.specs.declared.addresses.Addressed.{Addressed}
 use Rattle.asm_arm.specs.Addresses.{zero, ReadsBefore, ReadsAfter, base, before_as, after_as, half_offset}
 use Rattle.asm_arm.specs.Lists as lists
-use Rattle.asm_arm.specs.Operands.{Cuts, one, two, three, four, cut, without_first, no_register, register, two_registers, three_registers, ReadsSecond}
+use Rattle.asm_arm.specs.Operands.{Cuts, one, two, three, four, cut, without_first, no_register}
+use Rattle.asm_arm.specs.Operands.{register, two_registers, three_registers, ReadsSecond}
 use Rattle.asm_arm.specs.Mnemonics.{shape_of}
 
 -- the signs in front of operands
@@ -116,15 +118,15 @@ exchange text c _ = Err Syntax
 
 -- Rd and a status register
 abbrev pub read_status : List ℕ → Condition → Cuts → Result What LineKind
-read_status text c (two d p) = on_both (λ rd saved. what.Arm (line.ReadStatus c saved rd)) (register text d) (lists.status text p)
+read_status text c (two d p) = on_both (λ rd p. what.Arm (line.ReadStatus c p rd)) (register text d) (lists.status text p)
 read_status text c _ = Err Syntax
 
-abbrev pub ReadsStatusValue : List ℕ → Condition → Result (Bool × ℕ) LineKind → List Token → Option (List Token) → Result What LineKind
-    → Type 0
+abbrev pub ReadsStatusValue : List ℕ → Condition → Result (Option StatusFields) LineKind → List Token → Option (List Token)
+    → Result What LineKind → Type 0
 ReadsStatusValue text c f m (Some e) r =
     (v : Result Expr LineKind) × ParsesTokens text e v
-    × (r ≡ on_both (λ p x. what.Arm (line.WriteStatusImmediate c p.0 p.1 x)) f v)
-ReadsStatusValue text c f m None r = r ≡ on_both (λ p rm. what.Arm (line.WriteStatus c p.0 p.1 rm)) f (register text m)
+    × (r ≡ on_both (λ p x. what.Arm (line.WriteStatusImmediate c p x)) f v)
+ReadsStatusValue text c f m None r = r ≡ on_both (λ p rm. what.Arm (line.WriteStatus c p rm)) f (register text m)
 
 -- a status register with its fields, and a register or a number
 abbrev pub ReadsWriteStatus : List ℕ → Condition → Cuts → Result What LineKind → Type 0

@@ -1,7 +1,8 @@
 -- Register lists, bases that are written back, and status registers. ARM SDT 2.50 Reference Guide, chapter on the
 -- assembler. Registers are judged by the row, a range that falls too. This project's: the fields of a status
 -- register are one or more of f, s, x and c, each at most once.
-use Rattle.std.specs.Prelude.{ℕ, ◌+◌, ◌*◌, List, [], ◌∷◌, length, take, drop, codes, nat_lt, nat_le, ◌==◌, ◌&&◌, Bool, true, false, if◌then◌else◌, Option, Some, None, Result, Ok, Err}
+use Rattle.std.specs.Prelude.{ℕ, ◌+◌, ◌*◌, nat_lt, nat_le, ◌==◌, ◌&&◌, Bool, false, if◌then◌else◌}
+use Rattle.std.specs.Prelude.{List, [], ◌∷◌, length, take, drop, codes, Option, Some, None, Result, Ok, Err}
 use Rattle.std.specs.List.{count_by}
 use Rattle.std.specs.Char.{to_ascii_lowercase}
 use Rattle.sdt_fault.specs.declared.kinds.LineKind.{LineKind}
@@ -13,6 +14,9 @@ use Rattle.asm_model.specs.declared.operands.Register.{Register}
 use Rattle.asm_model.specs.declared.operands.Register.TheVariants as register_is
 use Rattle.asm_model.specs.declared.operands.ListItem.{ListItem}
 use Rattle.asm_model.specs.declared.operands.ListItem.TheVariants as entry
+use Rattle.asm_model.specs.declared.operands.StatusRegister.{StatusRegister}
+use Rattle.asm_model.specs.declared.operands.StatusRegister.TheVariants.{Current, Saved}
+use Rattle.asm_model.specs.declared.operands.StatusFields.{StatusFields}
 use Rattle.asm_model.specs.Directives.{row_of}
 use Rattle.asm_model.specs.Forms.{same}
 use Rattle.asm_model.specs.Operands.{operands_at}
@@ -67,19 +71,19 @@ list_marked text (ts, mark) = mapped (λ l. (l, mark)) (list text ts)
 abbrev pub register_list : List ℕ → List Token → Result (List ListItem × Bool) LineKind
 register_list text ts = list_marked text (marked text (codes "^") ts)
 
--- the status registers: whether it is the saved one
-unfoldable pub status_named : List ℕ → Option Bool
-status_named word = row_of word ((codes "CPSR", false) ∷ (codes "SPSR", true) ∷ [])
+-- the status registers
+unfoldable pub status_named : List ℕ → Option StatusRegister
+status_named word = row_of word ((codes "CPSR", Current) ∷ (codes "SPSR", Saved) ∷ [])
 
-unfoldable pub status_begun : List ℕ → Option Bool
-status_begun word = row_of word ((codes "CPSR_", false) ∷ (codes "SPSR_", true) ∷ [])
+unfoldable pub status_begun : List ℕ → Option StatusRegister
+status_begun word = row_of word ((codes "CPSR_", Current) ∷ (codes "SPSR_", Saved) ∷ [])
 
-abbrev pub status_of : TokenKind → List ℕ → Result (Option Bool) LineKind
+abbrev pub status_of : TokenKind → List ℕ → Result (Option StatusRegister) LineKind
 status_of kind.Name s = Ok (status_named s)
 status_of _ s = Err Syntax
 
 -- a status register, or a word that names none
-abbrev pub status : List ℕ → List Token → Result (Option Bool) LineKind
+abbrev pub status : List ℕ → List Token → Result (Option StatusRegister) LineKind
 status text [] = Err Syntax
 status text (t ∷ []) = status_of t.kind (piece text t)
 status text (t ∷ u ∷ ts) = Err Syntax
@@ -100,22 +104,17 @@ abbrev pub fields_named : List ℕ → Option ℕ
 fields_named letters =
     fields_with (occurrences 102 letters) (occurrences 115 letters) (occurrences 120 letters) (occurrences 99 letters) (length letters)
 
-abbrev pub with_fields : Option Bool → Option ℕ → Option (Bool × ℕ)
-with_fields None f = None
-with_fields (Some p) None = None
-with_fields (Some p) (Some f) = Some (p, f)
+abbrev pub with_fields : Option StatusRegister → Option ℕ → Option StatusFields
+with_fields None m = None
+with_fields (Some r) None = None
+with_fields (Some r) (Some m) = Some (record { register = r; mask = m })
 
--- a word that names no fields of a status register has none
-abbrev pub or_none : Option (Bool × ℕ) → Bool × ℕ
-or_none None = (false, 0)
-or_none (Some p) = p
-
--- a status register with its fields
-abbrev pub fields_of : TokenKind → List ℕ → Result (Bool × ℕ) LineKind
-fields_of kind.Name s = Ok (or_none (with_fields (status_begun (take 5 s)) (fields_named (drop 5 s))))
+-- fields of a status register, or a word that names none
+abbrev pub fields_of : TokenKind → List ℕ → Result (Option StatusFields) LineKind
+fields_of kind.Name s = Ok (with_fields (status_begun (take 5 s)) (fields_named (drop 5 s)))
 fields_of _ s = Err Syntax
 
-abbrev pub fields : List ℕ → List Token → Result (Bool × ℕ) LineKind
+abbrev pub fields : List ℕ → List Token → Result (Option StatusFields) LineKind
 fields text [] = Err Syntax
 fields text (t ∷ []) = fields_of t.kind (piece text t)
 fields text (t ∷ u ∷ ts) = Err Syntax

@@ -18,8 +18,8 @@ use crate::operands::{
 };
 use asm_expr::kinds::both;
 use asm_expr::or_kind;
-use asm_expr::read::expression;
-use asm_model::{Expr, ExprItem, HalfOffset, Indexing, Register, Shift, Token, Value};
+use asm_expr::read::shared_expression;
+use asm_model::{Expr, ExprItem, HalfOffset, Indexing, Register, SharedText, Shift, Token, Value};
 use sdt_fault::kinds::LineKind;
 use sdt_fault::{List, NoMemory};
 use std::alloc::Global;
@@ -51,7 +51,7 @@ pub struct Addressed {
 pub fn zero(alloc: Global) -> Result<Expr, NoMemory>
     ensures { IfOk result (λ number. number ≡ addresses.zero) }
 {
-    let mut items = Vec::new(alloc);
+    let mut items = Vec::with_capacity(alloc, 1)?;
     items.push(ExprItem::Constant(Value::Number(0)))?;
     Ok(Expr {
         items: List::from_vec(items),
@@ -61,7 +61,7 @@ pub fn zero(alloc: Global) -> Result<Expr, NoMemory>
 /// A register with a sign.
 fn with_sign(
     alloc: Global,
-    text: &[u8],
+    text: &SharedText,
     subtract: bool,
     tokens: &[Token],
 ) -> Result<Result<(bool, Register), LineKind>, NoMemory>
@@ -75,7 +75,7 @@ fn with_sign(
 /// A register, before which a minus may stand.
 fn signed_register(
     alloc: Global,
-    text: &[u8],
+    text: &SharedText,
     tokens: &[Token],
 ) -> Result<Result<(bool, Register), LineKind>, NoMemory>
     ensures { IfOk result (λ signed. signed ≡ addresses.signed_register text.now tokens.now) }
@@ -101,20 +101,20 @@ fn number_shift(scale: Result<Scale, LineKind>) -> Result<Shift, LineKind>
 /// A number as an offset.
 fn number_offset(
     alloc: Global,
-    text: &[u8],
+    text: &SharedText,
     tokens: &[Token],
 ) -> Result<Result<Offset, LineKind>, NoMemory>
     ensures { IfOk result
         (λ offset. says.Expression text.now (λ v. offset_is.Number v) tokens.now offset) }
 {
-    let value = or_kind!(expression(alloc, text, tokens)?);
+    let value = or_kind!(shared_expression(alloc, text, tokens)?);
     Ok(Ok(Offset::Number(value)))
 }
 
 /// An offset without a shift.
 fn plain_offset(
     alloc: Global,
-    text: &[u8],
+    text: &SharedText,
     tokens: &[Token],
 ) -> Result<Result<Offset, LineKind>, NoMemory>
     ensures { IfOk result (λ offset. addresses.ReadsOffset text.now tokens.now None offset) }
@@ -133,7 +133,7 @@ fn plain_offset(
 /// A shift of an offset.
 fn offset_shift(
     alloc: Global,
-    text: &[u8],
+    text: &SharedText,
     tokens: &[Token],
 ) -> Result<Result<Shift, LineKind>, NoMemory>
     ensures { IfOk result (λ read. (scale : Result Scale LineKind)
@@ -147,7 +147,7 @@ fn offset_shift(
 /// An offset.
 fn any_offset(
     alloc: Global,
-    text: &[u8],
+    text: &SharedText,
     tokens: &[Token],
     shift: Option<&[Token]>,
 ) -> Result<Result<Offset, LineKind>, NoMemory>
@@ -169,7 +169,7 @@ fn any_offset(
 /// A base and an offset.
 fn at(
     alloc: Global,
-    text: &[u8],
+    text: &SharedText,
     indexing: Indexing,
     base: &[Token],
     tokens: &[Token],
@@ -192,7 +192,7 @@ fn at(
 /// A base alone.
 fn bare_base(
     alloc: Global,
-    text: &[u8],
+    text: &SharedText,
     indexing: Indexing,
     base: &[Token],
 ) -> Result<Result<Addressed, LineKind>, NoMemory>
@@ -211,7 +211,7 @@ fn bare_base(
 /// A base and an offset with a shift, where offsets have one.
 fn scaled_at(
     alloc: Global,
-    text: &[u8],
+    text: &SharedText,
     indexing: Indexing,
     shifts: bool,
     operands: (&[Token], &[Token], &[Token]),
@@ -236,7 +236,7 @@ fn scaled_at(
 /// What stands in brackets.
 fn inside(
     alloc: Global,
-    text: &[u8],
+    text: &SharedText,
     indexing: Indexing,
     shifts: bool,
     cut: Cut<'_>,
@@ -255,7 +255,7 @@ fn inside(
 }
 
 /// The tokens in brackets, and whether `!` stands behind them.
-fn bracketed<'a>(text: &[u8], tokens: &'a [Token]) -> (Option<&'a [Token]>, bool)
+fn bracketed<'a>(text: &SharedText, tokens: &'a [Token]) -> (Option<&'a [Token]>, bool)
     ensures { (option_copied result.0, result.1) ≡ addresses.bracketed text.now tokens.now }
 {
     let (tokens, mark) = marked(text, b"!", tokens);
@@ -275,7 +275,7 @@ fn before_of(mark: bool) -> Indexing
 /// An address with its offset in the brackets, which may have a shift where `shifts`.
 pub fn before(
     alloc: Global,
-    text: &[u8],
+    text: &SharedText,
     shifts: bool,
     tokens: &[Token],
 ) -> Result<Result<Addressed, LineKind>, NoMemory>
@@ -295,7 +295,7 @@ pub fn before(
 }
 
 /// The base alone in brackets.
-pub fn base<'a>(text: &[u8], tokens: &'a [Token]) -> Option<&'a [Token]>
+pub fn base<'a>(text: &SharedText, tokens: &'a [Token]) -> Option<&'a [Token]>
     ensures { option_copied result ≡ addresses.base text.now tokens.now }
 {
     let (content, mark) = bracketed(text, tokens);
@@ -308,7 +308,7 @@ pub fn base<'a>(text: &[u8], tokens: &'a [Token]) -> Option<&'a [Token]>
 /// An address with its offset behind the brackets.
 pub fn after(
     alloc: Global,
-    text: &[u8],
+    text: &SharedText,
     brackets: &[Token],
     tokens: &[Token],
     shift: Option<&[Token]>,
@@ -339,7 +339,7 @@ fn translated_of(
 }
 
 /// Whether brackets hold a base alone.
-fn is_base(text: &[u8], base: Option<&[Token]>) -> bool
+fn is_base(text: &SharedText, base: Option<&[Token]>) -> bool
     ensures { result ≡ addresses.is_base text.now (option_copied base.entry) }
 {
     let Some(tokens) = base else {
@@ -353,7 +353,7 @@ fn is_base(text: &[u8], base: Option<&[Token]>) -> bool
 
 /// An address with its offset in the brackets, with the suffix T or without it.
 pub fn before_as(
-    text: &[u8],
+    text: &SharedText,
     translated: bool,
     tokens: &[Token],
     address: Result<Addressed, LineKind>,

@@ -26,8 +26,10 @@ use crate::transfers::{HalfTransfer, Transfer, block, transfer_half, word_transf
 use arm_isa::{HalfKind, Operation};
 use asm_expr::kinds::both;
 use asm_expr::or_kind;
-use asm_expr::read::expression;
-use asm_model::{ArmLine, Expr, PseudoLine, Register, Token, TokenKind, What};
+use asm_expr::read::shared_expression;
+use asm_model::{
+    ArmLine, Expr, PseudoLine, Register, SharedText, StatusFields, Token, TokenKind, What,
+};
 use sdt_fault::NoMemory;
 use sdt_fault::kinds::LineKind;
 use sdt_word::Condition;
@@ -102,7 +104,7 @@ fn data_of(
 /// Data processing, from its registers and the tokens of its second operand.
 fn data(
     alloc: Global,
-    text: &[u8],
+    text: &SharedText,
     process: Process,
     registers: Result<(Register, Register), LineKind>,
     second: (&[Token], Option<&[Token]>),
@@ -125,7 +127,7 @@ fn no_register() -> Result<Register, LineKind>
 /// MOV and MVN.
 fn move_line(
     alloc: Global,
-    text: &[u8],
+    text: &SharedText,
     process: Process,
     rd: &[Token],
     second: (&[Token], Option<&[Token]>),
@@ -142,7 +144,7 @@ fn move_line(
 /// TST, TEQ, CMP and CMN.
 fn comparison_line(
     alloc: Global,
-    text: &[u8],
+    text: &SharedText,
     process: Process,
     rn: &[Token],
     second: (&[Token], Option<&[Token]>),
@@ -159,7 +161,7 @@ fn comparison_line(
 /// The other operations of data processing.
 fn sum_line(
     alloc: Global,
-    text: &[u8],
+    text: &SharedText,
     process: Process,
     registers: (&[Token], &[Token]),
     second: (&[Token], Option<&[Token]>),
@@ -173,7 +175,7 @@ fn sum_line(
     data(alloc, text, process, registers, second)
 }
 
-fn moves(alloc: Global, text: &[u8], process: Process, cut: Cut<'_>) -> ParsedOperation
+fn moves(alloc: Global, text: &SharedText, process: Process, cut: Cut<'_>) -> ParsedOperation
     ensures { IfOk result
         (λ said. lines.ReadsMove text.now process.condition process.operation process.set_flags
         (cut_of cut.entry) said) }
@@ -187,7 +189,7 @@ fn moves(alloc: Global, text: &[u8], process: Process, cut: Cut<'_>) -> ParsedOp
     }
 }
 
-fn comparisons(alloc: Global, text: &[u8], process: Process, cut: Cut<'_>) -> ParsedOperation
+fn comparisons(alloc: Global, text: &SharedText, process: Process, cut: Cut<'_>) -> ParsedOperation
     ensures { IfOk result
         (λ said. lines.ReadsComparison text.now process.condition process.operation
         process.set_flags (cut_of cut.entry) said) }
@@ -201,7 +203,7 @@ fn comparisons(alloc: Global, text: &[u8], process: Process, cut: Cut<'_>) -> Pa
     }
 }
 
-fn sums(alloc: Global, text: &[u8], process: Process, cut: Cut<'_>) -> ParsedOperation
+fn sums(alloc: Global, text: &SharedText, process: Process, cut: Cut<'_>) -> ParsedOperation
     ensures { IfOk result
         (λ said. lines.ReadsSum text.now process.condition process.operation process.set_flags
         (cut_of cut.entry) said) }
@@ -215,7 +217,12 @@ fn sums(alloc: Global, text: &[u8], process: Process, cut: Cut<'_>) -> ParsedOpe
     }
 }
 
-fn data_words(alloc: Global, text: &[u8], process: Process, tokens: &[Token]) -> ParsedOperation
+fn data_words(
+    alloc: Global,
+    text: &SharedText,
+    process: Process,
+    tokens: &[Token],
+) -> ParsedOperation
     ensures { IfOk result
         (λ said. lines.ReadsShape text.now process.condition process.operation process.set_flags
         (words.shape_of process.operation)
@@ -237,7 +244,7 @@ fn data_words(alloc: Global, text: &[u8], process: Process, tokens: &[Token]) ->
 
 fn multiply(
     alloc: Global,
-    text: &[u8],
+    text: &SharedText,
     condition: Condition,
     set_flags: bool,
     cut: Cut<'_>,
@@ -264,7 +271,7 @@ fn multiply(
 
 fn multiply_accumulate(
     alloc: Global,
-    text: &[u8],
+    text: &SharedText,
     condition: Condition,
     set_flags: bool,
     cut: Cut<'_>,
@@ -291,7 +298,7 @@ fn multiply_accumulate(
 
 fn multiplication(
     alloc: Global,
-    text: &[u8],
+    text: &SharedText,
     condition: Condition,
     accumulate: bool,
     set_flags: bool,
@@ -315,7 +322,12 @@ pub struct LongProduct {
     pub set_flags: bool,
 }
 
-fn multiply_long(alloc: Global, text: &[u8], word: LongProduct, cut: Cut<'_>) -> ParsedOperation
+fn multiply_long(
+    alloc: Global,
+    text: &SharedText,
+    word: LongProduct,
+    cut: Cut<'_>,
+) -> ParsedOperation
     ensures { IfOk result (λ said. said
         ≡ lines.multiply_long text.now word.condition word.signed word.accumulate word.set_flags
         (cut_of cut.entry)) }
@@ -341,7 +353,7 @@ fn multiply_long(alloc: Global, text: &[u8], word: LongProduct, cut: Cut<'_>) ->
 /// A base alone in brackets.
 fn based(
     alloc: Global,
-    text: &[u8],
+    text: &SharedText,
     tokens: &[Token],
 ) -> Result<Result<Register, LineKind>, NoMemory>
     ensures { IfOk result (λ rn. rn ≡ lines.based text.now (addresses.base text.now tokens.now)) }
@@ -355,7 +367,7 @@ fn based(
 /// Rd, Rm, and Rn in brackets.
 fn swap_registers(
     alloc: Global,
-    text: &[u8],
+    text: &SharedText,
     rd: &[Token],
     rm: &[Token],
     address: &[Token],
@@ -370,7 +382,7 @@ fn swap_registers(
 
 fn swap(
     alloc: Global,
-    text: &[u8],
+    text: &SharedText,
     condition: Condition,
     byte: bool,
     cut: Cut<'_>,
@@ -392,7 +404,7 @@ fn swap(
     }
 }
 
-fn exchange(alloc: Global, text: &[u8], condition: Condition, cut: Cut<'_>) -> ParsedOperation
+fn exchange(alloc: Global, text: &SharedText, condition: Condition, cut: Cut<'_>) -> ParsedOperation
     ensures { IfOk result (λ said. said ≡ lines.exchange text.now condition (cut_of cut.entry)) }
 {
     match cut {
@@ -404,16 +416,21 @@ fn exchange(alloc: Global, text: &[u8], condition: Condition, cut: Cut<'_>) -> P
     }
 }
 
-fn read_status(alloc: Global, text: &[u8], condition: Condition, cut: Cut<'_>) -> ParsedOperation
+fn read_status(
+    alloc: Global,
+    text: &SharedText,
+    condition: Condition,
+    cut: Cut<'_>,
+) -> ParsedOperation
     ensures { IfOk result (λ said. said ≡ lines.read_status text.now condition (cut_of cut.entry)) }
 {
     match cut {
         Cut::Two(rd, status) => {
             let rd = register(alloc, text, rd)?;
-            let (rd, saved) = or_kind!(both(rd, lists::status(text, status)));
+            let (rd, status) = or_kind!(both(rd, lists::status(text, status)));
             Ok(Ok(What::Arm(ArmLine::ReadStatus {
                 condition,
-                saved,
+                status,
                 rd,
             })))
         }
@@ -424,9 +441,9 @@ fn read_status(alloc: Global, text: &[u8], condition: Condition, cut: Cut<'_>) -
 /// A number or a register, written to a status register.
 fn status_value(
     alloc: Global,
-    text: &[u8],
+    text: &SharedText,
     condition: Condition,
-    fields: Result<(bool, u8), LineKind>,
+    fields: Result<Option<StatusFields>, LineKind>,
     tokens: &[Token],
 ) -> ParsedOperation
     ensures { IfOk result
@@ -435,21 +452,19 @@ fn status_value(
 {
     match without_first(text, b"#", tokens) {
         Some(number) => {
-            let value = expression(alloc, text, number)?;
-            let ((saved, fields), value) = or_kind!(both(fields, value));
+            let value = shared_expression(alloc, text, number)?;
+            let (fields, value) = or_kind!(both(fields, value));
             Ok(Ok(What::Arm(ArmLine::WriteStatusImmediate {
                 condition,
-                saved,
                 fields,
                 value,
             })))
         }
         None => {
             let rm = register(alloc, text, tokens)?;
-            let ((saved, fields), rm) = or_kind!(both(fields, rm));
+            let (fields, rm) = or_kind!(both(fields, rm));
             Ok(Ok(What::Arm(ArmLine::WriteStatus {
                 condition,
-                saved,
                 fields,
                 rm,
             })))
@@ -457,7 +472,12 @@ fn status_value(
     }
 }
 
-fn write_status(alloc: Global, text: &[u8], condition: Condition, cut: Cut<'_>) -> ParsedOperation
+fn write_status(
+    alloc: Global,
+    text: &SharedText,
+    condition: Condition,
+    cut: Cut<'_>,
+) -> ParsedOperation
     ensures { IfOk result
         (λ said. lines.ReadsWriteStatus text.now condition (cut_of cut.entry) said) }
 {
@@ -471,7 +491,7 @@ fn write_status(alloc: Global, text: &[u8], condition: Condition, cut: Cut<'_>) 
 
 fn branch(
     alloc: Global,
-    text: &[u8],
+    text: &SharedText,
     condition: Condition,
     link: bool,
     tokens: &[Token],
@@ -480,7 +500,7 @@ fn branch(
         (λ said. says.Expression text.now
         (λ e. what.Arm (line.Branch condition link e)) tokens.now said) }
 {
-    let target = or_kind!(expression(alloc, text, tokens)?);
+    let target = or_kind!(shared_expression(alloc, text, tokens)?);
     Ok(Ok(What::Arm(ArmLine::Branch {
         condition,
         link,
@@ -489,7 +509,7 @@ fn branch(
 }
 
 /// A number, before which # may stand.
-pub fn without_hash<'a>(text: &[u8], tokens: &'a [Token]) -> &'a [Token]
+pub fn without_hash<'a>(text: &SharedText, tokens: &'a [Token]) -> &'a [Token]
     ensures { result.now
         ≡ lines.without_hash tokens.now (operands.without_first text.now lines.hash tokens.now) }
 {
@@ -499,12 +519,17 @@ pub fn without_hash<'a>(text: &[u8], tokens: &'a [Token]) -> &'a [Token]
     }
 }
 
-fn interrupt(alloc: Global, text: &[u8], condition: Condition, tokens: &[Token]) -> ParsedOperation
+fn interrupt(
+    alloc: Global,
+    text: &SharedText,
+    condition: Condition,
+    tokens: &[Token],
+) -> ParsedOperation
     ensures { IfOk result
         (λ said. says.Expression text.now
         (λ e. what.Arm (line.SoftwareInterrupt condition e)) tokens.now said) }
 {
-    let number = or_kind!(expression(alloc, text, tokens)?);
+    let number = or_kind!(shared_expression(alloc, text, tokens)?);
     Ok(Ok(What::Arm(ArmLine::SoftwareInterrupt { condition, number })))
 }
 
@@ -528,7 +553,7 @@ fn address_line(condition: Condition, long: bool, rd: Register, target: Expr) ->
 
 fn address(
     alloc: Global,
-    text: &[u8],
+    text: &SharedText,
     condition: Condition,
     long: bool,
     cut: Cut<'_>,
@@ -538,7 +563,7 @@ fn address(
 {
     match cut {
         Cut::Two(rd, target) => {
-            let target = expression(alloc, text, target)?;
+            let target = shared_expression(alloc, text, target)?;
             let rd = register(alloc, text, rd)?;
             let (rd, target) = or_kind!(both(rd, target));
             Ok(Ok(address_line(condition, long, rd, target)))
@@ -560,7 +585,7 @@ pub fn no_operation(tokens: &[Token]) -> Result<What, LineKind>
 /// What the tokens behind an operation word say.
 fn of_word(
     alloc: Global,
-    text: &[u8],
+    text: &SharedText,
     mnemonic: Mnemonic,
     condition: Condition,
     tokens: &[Token],
@@ -658,7 +683,7 @@ pub fn unnamed(kind: TokenKind) -> LineKind
 /// What the tokens behind an operation say, or the fault where nothing names it.
 pub fn instruction(
     alloc: Global,
-    text: &[u8],
+    text: &SharedText,
     fault: LineKind,
     word: Option<(Mnemonic, Condition)>,
     tokens: &[Token],

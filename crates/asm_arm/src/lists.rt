@@ -9,24 +9,31 @@ ghost use Rattle.asm_arm.specs.Lists as lists;
 use crate::mnemonics::{begin, behind};
 use crate::operands::{between, marked, register, register_of};
 use asm_expr::kinds::both;
-use asm_expr::operands::{first_operand, is, piece_of};
+use asm_expr::operands::{first_operand, is};
 use asm_expr::or_kind;
+use asm_expr::parts::piece_of;
 use asm_expr::rows::row_of;
-use asm_model::{ListItem, Register, Token, TokenKind};
+use asm_model::{ListItem, Register, SharedText, StatusFields, StatusRegister, Token, TokenKind};
 use sdt_fault::kinds::LineKind;
 use sdt_fault::{List, NoMemory};
 use std::alloc::Global;
 
-/// The status registers: whether it is the saved one.
-static STATUS: [(&[u8], bool); 2] = [(b"CPSR", false), (b"SPSR", true)];
+/// The status registers.
+static STATUS: [(&[u8], StatusRegister); 2] = [
+    (b"CPSR", StatusRegister::Current),
+    (b"SPSR", StatusRegister::Saved),
+];
 
 /// The same, before fields.
-static STATUS_WITH_FIELDS: [(&[u8], bool); 2] = [(b"CPSR_", false), (b"SPSR_", true)];
+static STATUS_WITH_FIELDS: [(&[u8], StatusRegister); 2] = [
+    (b"CPSR_", StatusRegister::Current),
+    (b"SPSR_", StatusRegister::Saved),
+];
 
 /// A base, and whether `!` stands behind it.
 pub fn base(
     alloc: Global,
-    text: &[u8],
+    text: &SharedText,
     tokens: &[Token],
 ) -> Result<Result<(Register, bool), LineKind>, NoMemory>
     ensures { IfOk result (λ base. base ≡ lists.base text.now tokens.now) }
@@ -39,12 +46,12 @@ pub fn base(
 /// A register of a list.
 fn one_register(
     alloc: Global,
-    text: &[u8],
+    text: &SharedText,
     token: Token,
 ) -> Result<Result<ListItem, LineKind>, NoMemory>
     ensures { IfOk result (λ item. item ≡ lists.item text.now (token ∷ [])) }
 {
-    let register = or_kind!(register_of(alloc, token.kind, piece_of(text, token))?);
+    let register = or_kind!(register_of(alloc, text, token)?);
     Ok(Ok(ListItem::One(register)))
 }
 
@@ -62,7 +69,7 @@ fn range_of(
 /// All registers from one to another.
 fn register_range(
     alloc: Global,
-    text: &[u8],
+    text: &SharedText,
     first: Token,
     sign: Token,
     last: Token,
@@ -72,15 +79,15 @@ fn register_range(
     if !is(piece_of(text, sign), b"-") {
         return Ok(Err(LineKind::Syntax));
     }
-    let first = register_of(alloc, first.kind, piece_of(text, first))?;
-    let last = register_of(alloc, last.kind, piece_of(text, last))?;
+    let first = register_of(alloc, text, first)?;
+    let last = register_of(alloc, text, last)?;
     Ok(range_of(first, last))
 }
 
 /// An entry of a list.
 fn item(
     alloc: Global,
-    text: &[u8],
+    text: &SharedText,
     tokens: &[Token],
 ) -> Result<Result<ListItem, LineKind>, NoMemory>
     ensures { IfOk result (λ item. item ≡ lists.item text.now tokens.now) }
@@ -110,13 +117,13 @@ fn with_one_more(
 /// The entries of a list.
 fn items(
     alloc: Global,
-    text: &[u8],
+    text: &SharedText,
     tokens: &[Token],
 ) -> Result<Result<List<ListItem>, LineKind>, NoMemory>
     ensures { IfOk result (λ all. all
         ≡ lists.items text.now (model.operands_at text.now 0 tokens.now)) }
 {
-    let mut so_far = Ok(List::from_vec(Vec::new(alloc)));
+    let mut so_far = Ok(List::from_vec(Vec::with_capacity(alloc, tokens.len() / 2 + 1)?));
     let mut left = tokens;
     'operands: loop {
         let (operand, behind) = first_operand(text, left);
@@ -130,7 +137,7 @@ fn items(
 }
 
 /// Whether tokens are `{PC}` alone.
-fn is_pc(text: &[u8], tokens: &[Token]) -> bool
+fn is_pc(text: &SharedText, tokens: &[Token]) -> bool
     ensures { result ≡ lists.is_pc text.now tokens.now }
 {
     match tokens {
@@ -144,7 +151,7 @@ fn is_pc(text: &[u8], tokens: &[Token]) -> bool
 fn pc_alone(alloc: Global) -> Result<List<ListItem>, NoMemory>
     ensures { IfOk result (λ list. list ≡ lists.pc_alone) }
 {
-    let mut items = Vec::new(alloc);
+    let mut items = Vec::with_capacity(alloc, 1)?;
     items.push(ListItem::One(Register::Number(15)))?;
     Ok(List::from_vec(items))
 }
@@ -152,7 +159,7 @@ fn pc_alone(alloc: Global) -> Result<List<ListItem>, NoMemory>
 /// A register list.
 fn list(
     alloc: Global,
-    text: &[u8],
+    text: &SharedText,
     tokens: &[Token],
 ) -> Result<Result<List<ListItem>, LineKind>, NoMemory>
     ensures { IfOk result (λ list. list ≡ lists.list text.now tokens.now) }
@@ -169,7 +176,7 @@ fn list(
 /// A register list, and whether `^` stands behind it.
 pub fn register_list(
     alloc: Global,
-    text: &[u8],
+    text: &SharedText,
     tokens: &[Token],
 ) -> Result<Result<(List<ListItem>, bool), LineKind>, NoMemory>
     ensures { IfOk result (λ list. list ≡ lists.register_list text.now tokens.now) }
@@ -181,7 +188,7 @@ pub fn register_list(
 
 /// A token as a status register, or as a word that names none.
 #[tactic(auto, unfolding(crate::specs::Lists::status_named))]
-fn status_of(kind: TokenKind, word: &[u8]) -> Result<Option<bool>, LineKind>
+fn status_of(kind: TokenKind, word: &[u8]) -> Result<Option<StatusRegister>, LineKind>
     ensures { result ≡ lists.status_of kind word.now }
 {
     match kind {
@@ -191,7 +198,7 @@ fn status_of(kind: TokenKind, word: &[u8]) -> Result<Option<bool>, LineKind>
 }
 
 /// A status register, or a word that names none.
-pub fn status(text: &[u8], tokens: &[Token]) -> Result<Option<bool>, LineKind>
+pub fn status(text: &SharedText, tokens: &[Token]) -> Result<Option<StatusRegister>, LineKind>
     ensures { result ≡ lists.status text.now tokens.now }
 {
     match tokens {
@@ -256,9 +263,9 @@ fn fields_named(letters: &[u8]) -> Option<u8>
     )
 }
 
-/// A token as a status register with its fields; no fields where the word names none.
+/// A token as fields of a status register, or as a word that names none.
 #[tactic(auto, unfolding(crate::specs::Lists::status_begun))]
-fn fields_of(kind: TokenKind, word: &[u8]) -> Result<(bool, u8), LineKind>
+fn fields_of(kind: TokenKind, word: &[u8]) -> Result<Option<StatusFields>, LineKind>
     ensures { result ≡ lists.fields_of kind word.now }
 {
     match kind {
@@ -266,15 +273,15 @@ fn fields_of(kind: TokenKind, word: &[u8]) -> Result<(bool, u8), LineKind>
             row_of(begin(word, 5), &STATUS_WITH_FIELDS),
             fields_named(behind(word, 5)),
         ) {
-            (Some(saved), Some(fields)) => Ok((saved, fields)),
-            _ => Ok((false, 0)),
+            (Some(register), Some(mask)) => Ok(Some(StatusFields { register, mask })),
+            _ => Ok(None),
         },
         _ => Err(LineKind::Syntax),
     }
 }
 
-/// A status register with its fields; no fields where the word names none.
-pub fn fields(text: &[u8], tokens: &[Token]) -> Result<(bool, u8), LineKind>
+/// Fields of a status register, or a word that names none.
+pub fn fields(text: &SharedText, tokens: &[Token]) -> Result<Option<StatusFields>, LineKind>
     ensures { result ≡ lists.fields text.now tokens.now }
 {
     match tokens {

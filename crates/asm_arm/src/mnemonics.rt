@@ -367,10 +367,26 @@ fn stemmed(stem: Stem, rest: &[u8]) -> Option<(Mnemonic, Condition)>
     }
 }
 
+/// Whether a word and a name have the same first letter, in any case.
+fn begins_alike(word: &[u8], name: &[u8]) -> bool
+    ensures { result ≡ stems.begins_alike word.now name.now }
+{
+    let Some((letter, _)) = word.split_first() else {
+        return true;
+    };
+    let Some((first, _)) = name.split_first() else {
+        return true;
+    };
+    letter.to_ascii_lowercase() == first.to_ascii_lowercase()
+}
+
 /// What a word says that begins with the name of a stem; None where it doesn't.
 fn begun(word: &[u8], name: &[u8], stem: Stem) -> Option<(Mnemonic, Condition)>
     ensures { result ≡ stems.begun word.now (name.now, stem) }
 {
+    if !begins_alike(word, name) {
+        return None;
+    }
     if is_called(name, begin(word, name.len())) {
         return stemmed(stem, behind(word, name.len()));
     }

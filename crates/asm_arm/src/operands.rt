@@ -4,6 +4,8 @@ ghost use Rattle.std.specs.Prelude.{◌≡◌, ◌∷◌, [], IfOk, length, take
 ghost use Rattle.std.specs.Option.{option_copied};
 ghost use Rattle.sdt_fault.specs.declared.kinds.LineKind.{LineKind};
 ghost use Rattle.asm_model.specs.Operands as model;
+ghost use Rattle.asm_model.specs.declared.operands.Register.TheVariants as register_is;
+ghost use Rattle.asm_model.specs.Parts as parts;
 ghost use Rattle.asm_model.specs.Readings as readings;
 ghost use Rattle.asm_model.specs.Registers as registers;
 ghost use Rattle.asm_model.specs.Says as says;
@@ -13,14 +15,14 @@ ghost use Rattle.asm_arm.specs.declared.operands.Scale.TheVariants as scale;
 ghost use Rattle.asm_arm.specs.declared.operands.Second.TheVariants as second;
 
 use asm_expr::kinds::both;
-use asm_expr::operands::{first_operand, is, piece_of};
-use asm_expr::parts::inside;
-use asm_expr::read::expression;
+use asm_expr::operands::{first_operand, is};
+use asm_expr::parts::{piece_of, shared_inside, shared_piece};
+use asm_expr::read::shared_expression;
 use asm_expr::rows::row_of;
 use asm_expr::{or_kind, register_named};
-use asm_model::{Expr, Register, Shift, Token, TokenKind, is_called};
+use asm_model::{Expr, Register, RegisterName, SharedText, Shift, Token, TokenKind, is_called};
+use sdt_fault::NoMemory;
 use sdt_fault::kinds::LineKind;
-use sdt_fault::{NoMemory, Text};
 use sdt_word::ShiftKind;
 use std::alloc::Global;
 
@@ -73,7 +75,7 @@ pub enum Second {
 }
 
 /// The operands of the tokens behind an operation.
-pub fn cut_operands<'a>(text: &[u8], tokens: &'a [Token]) -> Cut<'a>
+pub fn cut_operands<'a>(text: &SharedText, tokens: &'a [Token]) -> Cut<'a>
     ensures { cut_of result ≡ operands.cut (model.operands text.now tokens.now) }
 {
     if tokens.is_empty() {
@@ -87,7 +89,7 @@ pub fn cut_operands<'a>(text: &[u8], tokens: &'a [Token]) -> Cut<'a>
 }
 
 /// Operands behind one.
-fn with_one<'a>(text: &[u8], first: &'a [Token], tokens: &'a [Token]) -> Cut<'a>
+fn with_one<'a>(text: &SharedText, first: &'a [Token], tokens: &'a [Token]) -> Cut<'a>
     ensures { cut_of result ≡ operands.cut (first.now ∷ model.operands_at text.now 0 tokens.now) }
 {
     let (second, behind) = first_operand(text, tokens);
@@ -99,7 +101,7 @@ fn with_one<'a>(text: &[u8], first: &'a [Token], tokens: &'a [Token]) -> Cut<'a>
 
 /// Operands behind two.
 fn with_two<'a>(
-    text: &[u8],
+    text: &SharedText,
     first: &'a [Token],
     second: &'a [Token],
     tokens: &'a [Token],
@@ -116,7 +118,7 @@ fn with_two<'a>(
 
 /// Operands behind three.
 fn with_three<'a>(
-    text: &[u8],
+    text: &SharedText,
     first: &'a [Token],
     second: &'a [Token],
     third: &'a [Token],
@@ -147,7 +149,7 @@ pub fn with_second<A: Drop, B: Drop>(
 }
 
 /// The tokens behind a sign that stands in front.
-pub fn without_first<'a>(text: &[u8], sign: &[u8], tokens: &'a [Token]) -> Option<&'a [Token]>
+pub fn without_first<'a>(text: &SharedText, sign: &[u8], tokens: &'a [Token]) -> Option<&'a [Token]>
     ensures { option_copied result ≡ operands.without_first text.now sign.now tokens.now }
 {
     match tokens {
@@ -162,11 +164,11 @@ pub fn without_first<'a>(text: &[u8], sign: &[u8], tokens: &'a [Token]) -> Optio
 }
 
 /// The bytes of the last token; none where there is no token.
-fn last_piece<'a>(text: &'a [u8], tokens: &[Token]) -> &'a [u8]
+fn last_piece<'a>(text: &'a SharedText, tokens: &[Token]) -> &'a [u8]
     ensures { result.now ≡ operands.last_piece text.now tokens.now }
 {
     match tokens.last() {
-        None => &text[..0],
+        None => &text.as_slice()[..0],
         Some(token) => piece_of(text, *token),
     }
 }
@@ -182,7 +184,7 @@ fn front(tokens: &[Token]) -> &[Token]
 }
 
 /// The tokens before a sign that stands at the end.
-fn without_last<'a>(text: &[u8], sign: &[u8], tokens: &'a [Token]) -> Option<&'a [Token]>
+fn without_last<'a>(text: &SharedText, sign: &[u8], tokens: &'a [Token]) -> Option<&'a [Token]>
     ensures { option_copied result ≡ operands.without_last text.now sign.now tokens.now }
 {
     if is(last_piece(text, tokens), sign) {
@@ -192,7 +194,7 @@ fn without_last<'a>(text: &[u8], sign: &[u8], tokens: &'a [Token]) -> Option<&'a
 }
 
 /// Tokens behind which a mark may stand, and whether it does.
-pub fn marked<'a>(text: &[u8], mark: &[u8], tokens: &'a [Token]) -> (&'a [Token], bool)
+pub fn marked<'a>(text: &SharedText, mark: &[u8], tokens: &'a [Token]) -> (&'a [Token], bool)
     ensures { (result.0.now, result.1) ≡ operands.marked text.now mark.now tokens.now }
 {
     if is(last_piece(text, tokens), mark) {
@@ -203,7 +205,7 @@ pub fn marked<'a>(text: &[u8], mark: &[u8], tokens: &'a [Token]) -> (&'a [Token]
 
 /// What stands between two brackets.
 pub fn between<'a>(
-    text: &[u8],
+    text: &SharedText,
     left: &[u8],
     right: &[u8],
     tokens: &'a [Token],
@@ -216,28 +218,37 @@ pub fn between<'a>(
     }
 }
 
-/// A name as a register.
-fn named(alloc: Global, name: &[u8]) -> Result<Register, NoMemory>
-    ensures { IfOk result (λ register. register
-        ≡ operands.named name.now (registers.register_named name.now)) }
+/// A register by its name.
+fn by_name(alloc: Global, name: SharedText) -> Result<Register, NoMemory>
+    ensures { IfOk result (λ register. register ≡ register_is.Named name) }
 {
-    match register_named(name) {
+    Ok(Register::Named(RegisterName::of(alloc, name)?))
+}
+
+/// A name as a register.
+fn named(alloc: Global, text: &SharedText, token: Token) -> Result<Register, NoMemory>
+    ensures { IfOk result (λ register. register
+        ≡ operands.named (parts.piece text.now token)
+        (registers.register_named (parts.piece text.now token))) }
+{
+    match register_named(piece_of(text, token)) {
         Some(number) => Ok(Register::Number(number)),
-        None => Ok(Register::Named(Text::from_slice(alloc, name)?)),
+        None => by_name(alloc, shared_piece(text, token)?),
     }
 }
 
 /// A token as a register.
 pub fn register_of(
     alloc: Global,
-    kind: TokenKind,
-    piece: &[u8],
+    text: &SharedText,
+    token: Token,
 ) -> Result<Result<Register, LineKind>, NoMemory>
-    ensures { IfOk result (λ register. register ≡ operands.register_of kind piece.now) }
+    ensures { IfOk result (λ register. register
+        ≡ operands.register_of token.kind (parts.piece text.now token)) }
 {
-    match kind {
-        TokenKind::Name => Ok(Ok(named(alloc, piece)?)),
-        TokenKind::Barred => Ok(Ok(Register::Named(Text::from_slice(alloc, inside(piece))?))),
+    match token.kind {
+        TokenKind::Name => Ok(Ok(named(alloc, text, token)?)),
+        TokenKind::Barred => Ok(Ok(by_name(alloc, shared_inside(text, token)?)?)),
         _ => Ok(Err(LineKind::Syntax)),
     }
 }
@@ -245,14 +256,14 @@ pub fn register_of(
 /// Tokens as a register alone.
 pub fn register(
     alloc: Global,
-    text: &[u8],
+    text: &SharedText,
     tokens: &[Token],
 ) -> Result<Result<Register, LineKind>, NoMemory>
     ensures { IfOk result (λ register. register ≡ operands.register text.now tokens.now) }
 {
     match tokens {
         [] => Ok(Err(LineKind::Syntax)),
-        [token] => register_of(alloc, token.kind, piece_of(text, *token)),
+        [token] => register_of(alloc, text, *token),
         [_, _, ..] => Ok(Err(LineKind::Syntax)),
     }
 }
@@ -260,7 +271,7 @@ pub fn register(
 /// Two registers.
 pub fn two_registers(
     alloc: Global,
-    text: &[u8],
+    text: &SharedText,
     first: &[Token],
     second: &[Token],
 ) -> Result<Result<(Register, Register), LineKind>, NoMemory>
@@ -273,7 +284,7 @@ pub fn two_registers(
 /// Three registers.
 pub fn three_registers(
     alloc: Global,
-    text: &[u8],
+    text: &SharedText,
     first: &[Token],
     second: &[Token],
     third: &[Token],
@@ -288,7 +299,7 @@ pub fn three_registers(
 /// Four registers.
 pub fn four_registers(
     alloc: Global,
-    text: &[u8],
+    text: &SharedText,
     first: &[Token],
     second: &[Token],
     third: &[Token],
@@ -315,21 +326,21 @@ fn extended(word: &[u8]) -> Result<Scale, LineKind>
 /// A number as the amount of a shift.
 fn amount(
     alloc: Global,
-    text: &[u8],
+    text: &SharedText,
     kind: ShiftKind,
     tokens: &[Token],
 ) -> Result<Result<Scale, LineKind>, NoMemory>
     ensures { IfOk result
         (λ shift. says.Expression text.now (λ a. scale.By kind a) tokens.now shift) }
 {
-    let amount = or_kind!(expression(alloc, text, tokens)?);
+    let amount = or_kind!(shared_expression(alloc, text, tokens)?);
     Ok(Ok(Scale::By { kind, amount }))
 }
 
 /// A register as the amount of a shift.
 fn register_amount(
     alloc: Global,
-    text: &[u8],
+    text: &SharedText,
     kind: ShiftKind,
     tokens: &[Token],
 ) -> Result<Result<Scale, LineKind>, NoMemory>
@@ -343,7 +354,7 @@ fn register_amount(
 /// The amount of a shift.
 fn shifted_by(
     alloc: Global,
-    text: &[u8],
+    text: &SharedText,
     kind: Option<ShiftKind>,
     tokens: &[Token],
 ) -> Result<Result<Scale, LineKind>, NoMemory>
@@ -362,7 +373,7 @@ fn shifted_by(
 #[tactic(auto, unfolding(crate::specs::Operands::shift_named))]
 pub fn shift_of(
     alloc: Global,
-    text: &[u8],
+    text: &SharedText,
     tokens: &[Token],
 ) -> Result<Result<Scale, LineKind>, NoMemory>
     ensures { IfOk result (λ shift. operands.ReadsScale text.now tokens.now shift) }
@@ -397,20 +408,20 @@ fn scaled(rm: Register, scale: Scale) -> Second
 /// A number as the second operand.
 fn number_operand(
     alloc: Global,
-    text: &[u8],
+    text: &SharedText,
     tokens: &[Token],
 ) -> Result<Result<Second, LineKind>, NoMemory>
     ensures { IfOk result
         (λ operand. says.Expression text.now (λ v. second.Number v) tokens.now operand) }
 {
-    let value = or_kind!(expression(alloc, text, tokens)?);
+    let value = or_kind!(shared_expression(alloc, text, tokens)?);
     Ok(Ok(Second::Number(value)))
 }
 
 /// A number, or a register without a shift.
 fn plain_operand(
     alloc: Global,
-    text: &[u8],
+    text: &SharedText,
     tokens: &[Token],
 ) -> Result<Result<Second, LineKind>, NoMemory>
     ensures { IfOk result (λ operand. operands.ReadsSecond text.now tokens.now None operand) }
@@ -428,7 +439,7 @@ fn plain_operand(
 /// The second operand of data processing.
 pub fn second_operand(
     alloc: Global,
-    text: &[u8],
+    text: &SharedText,
     tokens: &[Token],
     shift: Option<&[Token]>,
 ) -> Result<Result<Second, LineKind>, NoMemory>

@@ -15,9 +15,10 @@ use crate::operands::{Cut, register, without_first};
 use arm_isa::HalfKind;
 use asm_expr::kinds::both;
 use asm_expr::or_kind;
-use asm_expr::read::expression;
+use asm_expr::read::shared_expression;
 use asm_model::{
-    Address, ArmLine, BlockMode, ListItem, PseudoLine, Register, RegisterList, Token, What,
+    Address, ArmLine, BlockMode, ListItem, PseudoLine, Register, RegisterList, SharedText, Token,
+    What,
 };
 use sdt_fault::kinds::LineKind;
 use sdt_fault::{List, NoMemory};
@@ -104,7 +105,7 @@ fn transfer_line(
 /// A transfer, from the tokens of its register and the reading of its address.
 fn transferred(
     alloc: Global,
-    text: &[u8],
+    text: &SharedText,
     word: Transfer,
     rd: &[Token],
     address: Result<Addressed, LineKind>,
@@ -120,7 +121,7 @@ fn transferred(
 /// A number that is loaded.
 fn loaded_constant(
     alloc: Global,
-    text: &[u8],
+    text: &SharedText,
     condition: Condition,
     rd: &[Token],
     tokens: &[Token],
@@ -128,7 +129,7 @@ fn loaded_constant(
     ensures { IfOk result
         (λ said. lines.ReadsConstant text.now condition true rd.now tokens.now said) }
 {
-    let value = expression(alloc, text, tokens)?;
+    let value = shared_expression(alloc, text, tokens)?;
     let rd = register(alloc, text, rd)?;
     let (rd, value) = or_kind!(both(rd, value));
     Ok(Ok(What::Pseudo(PseudoLine::LoadConstant {
@@ -141,7 +142,7 @@ fn loaded_constant(
 /// A number behind an equals sign, for LDR alone.
 fn constant(
     alloc: Global,
-    text: &[u8],
+    text: &SharedText,
     word: Transfer,
     rd: &[Token],
     tokens: &[Token],
@@ -165,7 +166,7 @@ fn constant(
 /// A label that is loaded from or stored to.
 fn label(
     alloc: Global,
-    text: &[u8],
+    text: &SharedText,
     word: Transfer,
     rd: &[Token],
     tokens: &[Token],
@@ -180,7 +181,7 @@ fn label(
     if word.translated {
         return Ok(Err(LineKind::Syntax));
     }
-    let target = expression(alloc, text, tokens)?;
+    let target = shared_expression(alloc, text, tokens)?;
     let rd = register(alloc, text, rd)?;
     let (rd, target) = or_kind!(both(rd, target));
     Ok(Ok(What::Arm(ArmLine::TransferImmediate {
@@ -195,7 +196,7 @@ fn label(
 /// A transfer with one operand behind Rd, in brackets.
 fn in_brackets(
     alloc: Global,
-    text: &[u8],
+    text: &SharedText,
     word: Transfer,
     rd: &[Token],
     tokens: &[Token],
@@ -212,7 +213,7 @@ fn in_brackets(
 /// A transfer with one operand behind Rd, which isn't in brackets.
 fn constant_or_label(
     alloc: Global,
-    text: &[u8],
+    text: &SharedText,
     word: Transfer,
     rd: &[Token],
     tokens: &[Token],
@@ -230,7 +231,7 @@ fn constant_or_label(
 /// A transfer with one operand behind Rd.
 fn place(
     alloc: Global,
-    text: &[u8],
+    text: &SharedText,
     word: Transfer,
     rd: &[Token],
     tokens: &[Token],
@@ -248,7 +249,7 @@ fn place(
 /// A transfer with its offset behind the brackets.
 fn moved(
     alloc: Global,
-    text: &[u8],
+    text: &SharedText,
     word: Transfer,
     rd: &[Token],
     brackets: &[Token],
@@ -263,7 +264,12 @@ fn moved(
     transferred(alloc, text, word, rd, address)
 }
 
-pub fn word_transfer(alloc: Global, text: &[u8], word: Transfer, cut: Cut<'_>) -> ParsedOperation
+pub fn word_transfer(
+    alloc: Global,
+    text: &SharedText,
+    word: Transfer,
+    cut: Cut<'_>,
+) -> ParsedOperation
     ensures { IfOk result
         (λ said. lines.ReadsTransfer text.now word.condition word.load word.byte word.translated
         (cut_of cut.entry) said) }
@@ -310,7 +316,7 @@ fn half_line(alloc: Global, word: HalfTransfer, rd: Register, address: Addressed
 
 fn half_moved(
     alloc: Global,
-    text: &[u8],
+    text: &SharedText,
     word: HalfTransfer,
     rd: &[Token],
     address: Result<Addressed, LineKind>,
@@ -325,7 +331,7 @@ fn half_moved(
 
 fn half_before(
     alloc: Global,
-    text: &[u8],
+    text: &SharedText,
     word: HalfTransfer,
     rd: &[Token],
     tokens: &[Token],
@@ -340,7 +346,7 @@ fn half_before(
 
 fn half_after(
     alloc: Global,
-    text: &[u8],
+    text: &SharedText,
     word: HalfTransfer,
     rd: &[Token],
     brackets: &[Token],
@@ -356,7 +362,7 @@ fn half_after(
 
 pub fn transfer_half(
     alloc: Global,
-    text: &[u8],
+    text: &SharedText,
     word: HalfTransfer,
     cut: Cut<'_>,
 ) -> ParsedOperation
@@ -373,7 +379,7 @@ pub fn transfer_half(
 
 pub fn block(
     alloc: Global,
-    text: &[u8],
+    text: &SharedText,
     condition: Condition,
     load: bool,
     mode: BlockMode,

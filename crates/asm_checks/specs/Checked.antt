@@ -9,7 +9,8 @@ use Rattle.asm_model.specs.Forms.{same}
 use Rattle.asm_model.specs.Kinds.{told_kind}
 use Rattle.asm_model.specs.Labels.{defined_by}
 use Rattle.asm_model.specs.Laid.{LaidLine, statements_of}
-use Rattle.asm_model.specs.LayoutKinds.{is_entry, no_area_kinds, contents_kinds, contents_behind, area_kinds, name_kinds, names_behind, first_equal, settled_kinds, in_thumb_area, state_kinds}
+use Rattle.asm_model.specs.LayoutKinds.{is_entry, no_area_kinds, contents_kinds, contents_behind, area_kinds, name_kinds}
+use Rattle.asm_model.specs.LayoutKinds.{names_behind, first_equal, settled_kinds, in_thumb_area, state_kinds}
 use Rattle.asm_model.specs.OwnKinds.{own_kinds}
 use Rattle.asm_checks.specs.declared.checks.Checks.{Checks}
 use Rattle.asm_checks.specs.Areas.{AreAreasOf, IsExponent}

@@ -11,10 +11,10 @@ ghost use Rattle.asm_checks.specs.Areas as areas_of;
 ghost use Rattle.asm_checks.specs.Areas.{AreAreasOf, IsExponent, IsNoted};
 
 use asm_expr::told::{first_told, kind_if};
-use asm_model::{AreaAttributes, Contents, DirectiveLine, What};
+use asm_model::{AreaAttributes, Contents, DirectiveLine, SharedText, What};
 use asm_sets::NameMap;
+use sdt_fault::NoMemory;
 use sdt_fault::kinds::LineKind;
-use sdt_fault::{NoMemory, Text};
 use std::alloc::Global;
 
 /// The attributes of an area.
@@ -98,7 +98,7 @@ fn marks_of(attributes: &AreaAttributes, exponent: u32) -> AreaMarks
 }
 
 /// The attributes of the area with the name.
-fn marks_in(areas: &NameMap<AreaMarks>, name: &Text) -> Option<AreaMarks>
+fn marks_in(areas: &NameMap<AreaMarks>, name: &SharedText) -> Option<AreaMarks>
     ensures { result ≡ areas_of.marks_in areas.now name.now }
 {
     areas.find(name)
@@ -108,7 +108,7 @@ fn marks_in(areas: &NameMap<AreaMarks>, name: &Text) -> Option<AreaMarks>
 fn note(
     alloc: Global,
     areas: &mut NameMap<AreaMarks>,
-    name: &Text,
+    name: &SharedText,
     attributes: &AreaAttributes,
     exponent: Result<u32, LineKind>,
 ) -> Result<(), NoMemory>
@@ -142,7 +142,7 @@ fn is_otherwise(
 fn named_kind(
     alloc: Global,
     areas: &mut NameMap<AreaMarks>,
-    name: &Text,
+    name: &SharedText,
     attributes: &AreaAttributes,
     exponent: Result<u32, LineKind>,
 ) -> Result<Option<LineKind>, NoMemory>

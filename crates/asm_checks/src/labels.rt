@@ -6,8 +6,7 @@ ghost use Rattle.std.specs.Option.{option_copied};
 ghost use Rattle.asm_model.specs.Labels as defined;
 ghost use Rattle.asm_model.specs.LayoutKinds as layout;
 
-use asm_model::{DirectiveLine, Expr, ExprItem, Statement, What};
-use sdt_fault::Text;
+use asm_model::{DirectiveLine, Expr, ExprItem, SharedText, Statement, What};
 
 /// Whether a label on a directive is one of its place.
 fn is_place(line: &DirectiveLine) -> bool
@@ -54,7 +53,7 @@ pub fn has_place(statement: &Statement) -> bool
 }
 
 /// The name that a statement defines.
-pub fn own_name(statement: &Statement) -> Option<&Text>
+pub fn own_name(statement: &Statement) -> Option<&SharedText>
     ensures { layout.listed (option_copied result)
         ≡ layout.own_name (defined.defined_by statement.now) }
 {

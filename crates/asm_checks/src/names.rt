@@ -9,13 +9,13 @@ ghost use Rattle.asm_model.specs.LayoutKinds as layout;
 ghost use Rattle.asm_sets.specs.Sets.{HaveSame};
 
 use crate::labels::own_name;
-use asm_model::{Statement, imported_name};
+use asm_model::{SharedText, Statement, imported_name};
 use asm_sets::NameSet;
-use sdt_fault::{NoMemory, Text};
+use sdt_fault::NoMemory;
 use std::alloc::Global;
 
 /// Whether a name is in the set; from now on it is.
-fn was_there(alloc: Global, names: &mut NameSet, name: &Text) -> Result<bool, NoMemory>
+fn was_there(alloc: Global, names: &mut NameSet, name: &SharedText) -> Result<bool, NoMemory>
     ensures answer { IfOk result (λ there. there ≡ list_any (same name.now) names.old) }
     ensures more { OnOk result (HaveSame names.new (name.now ∷ names.old)) }
 {
@@ -23,7 +23,7 @@ fn was_there(alloc: Global, names: &mut NameSet, name: &Text) -> Result<bool, No
 }
 
 /// Whether a name is in the set, where there is a name; from now on it is.
-fn is_again(alloc: Global, names: &mut NameSet, name: Option<&Text>) -> Result<bool, NoMemory>
+fn is_again(alloc: Global, names: &mut NameSet, name: Option<&SharedText>) -> Result<bool, NoMemory>
     ensures answer { IfOk result (λ again. again
         ≡ list_any (λ n. list_any (same n) names.old) (layout.listed (option_copied name.entry))) }
     ensures more { OnOk result

@@ -6,7 +6,7 @@ ghost use Rattle.asm_model.specs.OwnKinds as own;
 
 use crate::large::has_large;
 use asm_expr::told::{first_told, kind_if};
-use asm_model::{Address, ArmLine, DirectiveLine, Indexing, Statement, What};
+use asm_model::{Address, ArmLine, DirectiveLine, ImportMark, Indexing, Statement, What};
 use sdt_fault::kinds::LineKind;
 
 fn is_bad_index(indexing: Indexing) -> bool
@@ -32,9 +32,9 @@ fn is_bad_arm(line: &ArmLine) -> bool
     ensures { result ≡ own.is_bad_arm line.now }
 {
     match line {
-        ArmLine::ReadStatus { saved, .. } => saved.is_none(),
+        ArmLine::ReadStatus { status, .. } => status.is_none(),
         ArmLine::WriteStatus { fields, .. } | ArmLine::WriteStatusImmediate { fields, .. } => {
-            *fields == 0
+            fields.is_none()
         }
         ArmLine::TransferImmediate { address, .. } => is_bad_address(address),
         ArmLine::TransferShifted { indexing, .. } => is_bad_index(*indexing),
@@ -52,13 +52,25 @@ fn is_bad_arm(line: &ArmLine) -> bool
     }
 }
 
-/// Whether the attributes of an area are bad, or a mark is another than WEAK.
+/// Whether a mark is another word than WEAK.
+fn is_bad_mark(mark: ImportMark) -> bool
+    ensures { result ≡ own.is_bad_mark mark }
+{
+    match mark {
+        ImportMark::Other => true,
+        _ => false,
+    }
+}
+
+/// Whether the attributes of an area or the mark of an import are bad.
 fn is_bad_directive(line: &DirectiveLine) -> bool
     ensures { result ≡ own.is_bad_directive line.now }
 {
     match line {
         DirectiveLine::Area { attributes, .. } => attributes.has_bad_word,
-        DirectiveLine::Import { weak, .. } | DirectiveLine::Extern { weak, .. } => weak.is_none(),
+        DirectiveLine::Import { mark, .. } | DirectiveLine::Extern { mark, .. } => {
+            is_bad_mark(*mark)
+        }
         DirectiveLine::Entry
         | DirectiveLine::End
         | DirectiveLine::Export { .. }

@@ -8,16 +8,16 @@ ghost use Rattle.source_model.specs.Objects as objects;
 ghost use Rattle.asm_checks.specs.Starts.{begun, is_next, with_area, AreStarts, IsLineOf, IsSmall};
 
 use aof_object::AreaParts;
-use asm_model::{AreaAttributes, Contents, DirectiveLine, What};
+use asm_model::{AreaAttributes, Contents, DirectiveLine, SharedText, What};
+use sdt_fault::NoMemory;
 use sdt_fault::kinds::LineKind;
-use sdt_fault::{NoMemory, Text};
 use std::alloc::Global;
 use std::marker::Model;
 
 /// An area by its lines so far.
 #[derive(Debug, Drop)]
 pub struct AreaStart {
-    pub name: Text,
+    pub name: SharedText,
     /// The object format's attributes.
     pub attributes: u32,
 }
@@ -133,7 +133,7 @@ impl Starts {
 
     fn begin(
         &mut self,
-        name: &Text,
+        name: &SharedText,
         attributes: &AreaAttributes,
         thumb: bool,
         exponent: Result<u32, LineKind>,
@@ -141,7 +141,7 @@ impl Starts {
         ensures { OnOk result (IsSmall exponent → self.new
             ≡ self.old ++ begun name.now attributes.now thumb exponent ∷ []) }
     {
-        let name = name.try_clone(self.alloc)?;
+        let name = name.share()?;
         let attributes = attributes_word(attributes, or_two(exponent), thumb);
         self.areas.push(AreaStart { name, attributes })?;
         Ok(())
@@ -150,7 +150,7 @@ impl Starts {
     /// Notes an AREA.
     fn note_area(
         &mut self,
-        name: &Text,
+        name: &SharedText,
         attributes: &AreaAttributes,
         area: Option<u32>,
         thumb: bool,

@@ -1,5 +1,5 @@
 -- Steps of the code of lines that stay. This project's.
-use Rattle.std.specs.Prelude.{◌≡◌, ℕ, List, [], ◌∷◌, ◌++◌, ◌||◌, Bool, Option, Some, None}
+use Rattle.std.specs.Prelude.{◌≡◌, ◌≤◌, ℕ, List, [], ◌∷◌, ◌++◌, ◌||◌, length, take, Bool, Option, Some, None}
 use Rattle.std.specs.List.{list_any}
 use Rattle.asm_model.specs.declared.lines.Flat.{Flat}
 use Rattle.asm_model.specs.declared.lines.Line.{Line}
@@ -43,3 +43,7 @@ Pushes flat name number thumb old new = Becomes old new (noted flat name number 
 abbrev pub IsFlat : LineCursor → List ℕ → Option Flat → Type 0
 IsFlat at text None = cursor_lines at ≡ []
 IsFlat at text (Some flat) = (l : Line) × (ls : List Line) × (cursor_lines at ≡ l ∷ ls) × (flat ≡ flat_of l text)
+
+-- a text begins with a word
+abbrev pub Begins : List ℕ → List ℕ → Type 0
+Begins word text = (length word ≤ length text) × (word ≡ take (length word) text)

@@ -18,6 +18,7 @@ use crate::steps::{Depth, Frame, Next};
 use asm_expr::operands::is;
 use asm_expr::told::{first_told, kind_if};
 use asm_lines::bytes::is_digit;
+use asm_model::SharedText;
 use asm_variables::expansion::{Definition, Expansion, Scope};
 use asm_variables::line_fields::Words;
 use asm_variables::maps::put;
@@ -25,12 +26,12 @@ use asm_variables::operands::arguments;
 use asm_variables::prototypes::{is_barred, is_name};
 use expand_model::{Parameter, Prototype};
 use indexmap::IndexMap;
+use sdt_fault::NoMemory;
 use sdt_fault::kinds::LineKind;
-use sdt_fault::{NoMemory, Text};
 use std::alloc::Global;
 
 /// Whether there is a parameter for a label.
-fn takes_label(label: &Option<Text>) -> bool
+fn takes_label(label: &Option<SharedText>) -> bool
     ensures { result ≡ prototypes.takes_label label.now }
 {
     match label {
@@ -92,31 +93,35 @@ fn call_fault(
 }
 
 /// The text for which a parameter stands.
-fn argument_for(alloc: Global, parameter: &Parameter, text: Option<&Text>) -> Result<Text, NoMemory>
+fn argument_for(
+    alloc: Global,
+    parameter: &Parameter,
+    text: Option<&SharedText>,
+) -> Result<SharedText, NoMemory>
     ensures { IfOk result (λ t. t ≡ argument_text parameter.now (option_copied text.entry)) }
 {
     let Some(text) = text else {
-        return Text::from_slice(alloc, b"");
+        return SharedText::from_slice(alloc, b"");
     };
     if is(text.as_slice(), b"|") {
-        return parameter.otherwise.try_clone(alloc);
+        return parameter.otherwise.share();
     }
-    text.try_clone(alloc)
+    text.share()
 }
 
 /// Notes the text for which a parameter stands.
 fn put_argument(
     alloc: Global,
-    map: &mut IndexMap<Text, Text>,
+    map: &mut IndexMap<SharedText, SharedText>,
     parameter: &Parameter,
-    text: Option<&Text>,
+    text: Option<&SharedText>,
 ) -> Result<(), NoMemory>
     ensures { OnOk result
         (PutsRow parameter.now.name
         (argument_text parameter.now (option_copied text.entry)) map.old map.new) }
 {
     let value = argument_for(alloc, parameter, text)?;
-    let name = parameter.name.try_clone(alloc)?;
+    let name = parameter.name.share()?;
     put(map, name, value)
 }
 
@@ -124,8 +129,8 @@ fn put_argument(
 fn rows_of(
     alloc: Global,
     parameters: &[Parameter],
-    texts: &[Text],
-) -> Result<IndexMap<Text, Text>, NoMemory>
+    texts: &[SharedText],
+) -> Result<IndexMap<SharedText, SharedText>, NoMemory>
     ensures { IfOk result (λ map. HasRows map (prototypes.argument_rows parameters.now texts.now)) }
 {
     let mut map = IndexMap::new(alloc);
@@ -138,8 +143,8 @@ fn rows_of(
 /// Notes the label, where a parameter takes it.
 fn put_label(
     alloc: Global,
-    map: &mut IndexMap<Text, Text>,
-    parameter: &Option<Text>,
+    map: &mut IndexMap<SharedText, SharedText>,
+    parameter: &Option<SharedText>,
     label: &[u8],
 ) -> Result<(), NoMemory>
     ensures { OnOk result (PutsLabel parameter.now label.now map.old map.new) }
@@ -147,8 +152,8 @@ fn put_label(
     match parameter {
         None => Ok(()),
         Some(name) => {
-            let name = name.try_clone(alloc)?;
-            let value = Text::from_slice(alloc, label)?;
+            let name = name.share()?;
+            let value = SharedText::from_slice(alloc, label)?;
             put(map, name, value)
         }
     }
@@ -159,7 +164,7 @@ fn scope_of(
     alloc: Global,
     prototype: &Prototype,
     label: &[u8],
-    texts: &[Text],
+    texts: &[SharedText],
 ) -> Result<Scope, NoMemory>
     ensures { IfOk result (λ scope. IsScopeOf prototype.now label.now texts.now scope) }
 {

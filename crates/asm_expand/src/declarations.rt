@@ -14,7 +14,7 @@ use crate::faults::{is_long, label_fault, long_fault, settle};
 use crate::line_cursors::LineCursor;
 use crate::steps::Next;
 use asm_expr::told::{first_told, kind_if};
-use asm_model::{Expr, Value};
+use asm_model::{Expr, SharedText, Value};
 use asm_variables::expansion::Expansion;
 use asm_variables::line_fields::Words;
 use asm_variables::operands::operand_text;
@@ -22,7 +22,7 @@ use asm_variables::prototypes::name_of;
 use asm_variables::values::value_of;
 use expand_model::Sort;
 use sdt_fault::kinds::LineKind;
-use sdt_fault::{Bytes, NoMemory, Text};
+use sdt_fault::{Bytes, NoMemory};
 use std::alloc::Global;
 
 /// What a variable has before it is set.
@@ -50,7 +50,7 @@ fn is_of(sort: Sort, value: &Value) -> bool
 
 /// The fault of a global variable more.
 #[tactic(auto, using(asm_model::proofs::FaultLemmas::told_by_parts))]
-fn global_fault(state: &Expansion, words: Words<'_>, name: &Text) -> Option<LineKind>
+fn global_fault(state: &Expansion, words: Words<'_>, name: &SharedText) -> Option<LineKind>
     ensures { GlobalFault state.now (words_shown words.entry) name.now result }
 {
     let known = state.tables.globals.contains_key(name);
@@ -77,7 +77,7 @@ pub fn say_global(
     let Some(name) = name_of(operand_text(words.behind)) else {
         return Ok(Next::Bad(at, LineKind::Syntax));
     };
-    let name = Text::from_slice(alloc, name)?;
+    let name = SharedText::from_slice(alloc, name)?;
     if let Some(kind) = global_fault(state, words, &name) {
         return Ok(Next::Bad(at, kind));
     }
@@ -87,7 +87,7 @@ pub fn say_global(
 
 /// The fault of a local variable more.
 #[tactic(auto, using(asm_model::proofs::FaultLemmas::told_by_parts))]
-fn local_fault(state: &Expansion, words: Words<'_>, name: &Text) -> Option<LineKind>
+fn local_fault(state: &Expansion, words: Words<'_>, name: &SharedText) -> Option<LineKind>
     ensures { LocalFault state.now (words_shown words.entry) name.now result }
 {
     let known = state.tables.locals.contains_key(name);
@@ -117,7 +117,7 @@ pub fn say_local(
     let Some(name) = name_of(operand_text(words.behind)) else {
         return Ok(Next::Bad(at, LineKind::Syntax));
     };
-    let name = Text::from_slice(alloc, name)?;
+    let name = SharedText::from_slice(alloc, name)?;
     if let Some(kind) = local_fault(state, words, &name) {
         return Ok(Next::Bad(at, kind));
     }
@@ -129,7 +129,7 @@ pub fn say_local(
 }
 
 /// The fault of a variable that is to have a value of the type.
-fn target_fault(state: &Expansion, sort: Sort, name: &Text) -> Option<LineKind>
+fn target_fault(state: &Expansion, sort: Sort, name: &SharedText) -> Option<LineKind>
     ensures { TargetFault state.now sort name.now result }
 {
     match state.tables.variable(name) {
@@ -143,7 +143,7 @@ fn target_fault(state: &Expansion, sort: Sort, name: &Text) -> Option<LineKind>
 fn set_fault(
     state: &Expansion,
     sort: Sort,
-    name: &Text,
+    name: &SharedText,
     operand: &Result<Expr, LineKind>,
 ) -> Option<LineKind>
     ensures { SetFault state.now sort name.now operand.now result }
@@ -185,7 +185,7 @@ pub fn say_set(
     let Some(name) = name_of(words.label) else {
         return Ok(Next::Bad(at, LineKind::Syntax));
     };
-    let name = Text::from_slice(alloc, name)?;
+    let name = SharedText::from_slice(alloc, name)?;
     let value = value_of(alloc, state, operand)?;
     let typed = of_type(sort, value);
     let told = set_fault(state, sort, &name, operand);

@@ -12,7 +12,7 @@ use crate::faults::is_long;
 use crate::line_cursors::LineCursor;
 use crate::steps::{End, Next};
 use asm_expr::told::{first_told, kind_if};
-use asm_model::Line;
+use asm_model::{Line, SharedText};
 use asm_variables::expansion::{Definition, Expansion};
 use asm_variables::line_fields::raw_words_of;
 use asm_variables::maps::{add, is_among};
@@ -21,7 +21,7 @@ use asm_variables::prototypes::prototype_of;
 use expand_model::{Operation, Parameter, Prototype};
 use indexmap::IndexSet;
 use sdt_fault::kinds::LineKind;
-use sdt_fault::{List, NoMemory, Text};
+use sdt_fault::{List, NoMemory};
 use std::alloc::Global;
 use std::rc::Rc;
 
@@ -29,7 +29,7 @@ fn line_copy(alloc: Global, line: &Line) -> Result<Line, NoMemory>
     ensures { IfOk result (λ copy. copy ≡ line.now) }
 {
     let source = line.source.share()?;
-    let text = line.text.try_clone(alloc)?;
+    let text = line.text.share()?;
     Ok(Line {
         source,
         number: line.number,
@@ -116,7 +116,7 @@ fn is_repeated(alloc: Global, prototype: &Prototype) -> Result<bool, NoMemory>
 /// Whether the parameter's name is among these; where it isn't, it is noted.
 fn note_name(
     alloc: Global,
-    seen: &mut IndexSet<Text>,
+    seen: &mut IndexSet<SharedText>,
     parameter: &Parameter,
 ) -> Result<bool, NoMemory>
     ensures { IfOk result (λ b. Notes parameter.now.name b seen.old seen.new) }
@@ -124,7 +124,7 @@ fn note_name(
     if is_among(seen, &parameter.name) {
         return Ok(true);
     }
-    let name = parameter.name.try_clone(alloc)?;
+    let name = parameter.name.share()?;
     add(seen, name)?;
     Ok(false)
 }
@@ -133,7 +133,7 @@ fn note_name(
 fn has_twice(
     alloc: Global,
     parameters: &[Parameter],
-    seen: &mut IndexSet<Text>,
+    seen: &mut IndexSet<SharedText>,
 ) -> Result<bool, NoMemory>
     requires { IsRepeated [] false seen.old }
     ensures { IfOk result (λ b. IsRepeated parameters.now b seen.new) }
@@ -162,7 +162,7 @@ fn has_long(prototype: &Prototype) -> bool
     has_long_parameter(prototype.parameters.as_slice())
 }
 
-fn has_long_label(label: &Option<Text>) -> bool
+fn has_long_label(label: &Option<SharedText>) -> bool
     ensures { result ≡ list_any prototypes.is_long (listed label.now) }
 {
     match label {

@@ -9,6 +9,7 @@ ghost use Rattle.expand_model.specs.Steps.{Stop, Closed, Left};
 ghost use Rattle.expand_model.specs.Steps as model;
 ghost use Rattle.asm_variables.specs.Known.{WasRead};
 ghost use Rattle.asm_expand.specs.FirstLines.{IsCalled, IsKind, IsRead, Reads, ReadsLine, ReadsText, SaysAlone, SaysGet, TakesOperand, kind_shown, said_by};
+ghost use Rattle.asm_expand.specs.Plain.{Begins};
 ghost use Rattle.asm_expand.specs.Saying.{Says, SaysFrom, depth_of, most_flats};
 ghost use Rattle.asm_variables.specs.Steps.{words_shown};
 
@@ -26,7 +27,7 @@ use asm_expr::read::expression;
 use asm_expr::told::{first_told, kind_if};
 use asm_lines::scan::scan;
 use asm_lines::split::LINE_BYTES;
-use asm_model::Expr;
+use asm_model::{Expr, SharedText};
 use asm_variables::expansion::{Definition, Expansion};
 use asm_variables::line_fields::{Words, words_of};
 use asm_variables::operands::operand_text;
@@ -75,7 +76,7 @@ fn macro_called(
     let Some(name) = name_of(word) else {
         return Ok(None);
     };
-    let name = Text::from_slice(alloc, name)?;
+    let name = SharedText::from_slice(alloc, name)?;
     match state.macros.get(&name) {
         None => Ok(None),
         Some(called) => Ok(Some(called.copy()?)),
@@ -254,12 +255,13 @@ fn say(
     depth: Depth,
     state: &mut Expansion,
     at: LineCursor,
-    text: &[u8],
+    text: &SharedText,
     words: Words<'_>,
     kind: Kind,
     operand: &Result<Expr, LineKind>,
 ) -> Result<Next, NoMemory>
-    requires { WasRead operand.now }
+    requires read { WasRead operand.now }
+    requires begins { Begins words.label.now text.now }
     ensures says { IfOk result (λ next. SaysFrom at state.old state.new next (λ sources s l ls.
         said_by sources (depth_of depth) l text.now (words_shown words.entry) operand.now s ls
         (kind_shown kind))) }
@@ -279,20 +281,21 @@ fn read_text(
     depth: Depth,
     state: &mut Expansion,
     at: LineCursor,
-    text: &[u8],
+    flat: &SharedText,
 ) -> Result<Next, NoMemory>
     ensures says { IfOk result
-        (λ next. ReadsText at text.now (depth_of depth) state.old state.new next) }
+        (λ next. ReadsText at flat.now (depth_of depth) state.old state.new next) }
     ensures visits { state.new.visits ≤ state.old.visits }
     ensures flats { length state.new.flats.items ≤ length state.old.flats.items + 1 }
 {
+    let text = flat.as_slice();
     if text.len() > LINE_BYTES {
         return Ok(Next::Bad(at, LineKind::TooMany));
     }
     let words = words_of(text);
     let kind = kind_of(alloc, state, words)?;
     let operand = operand_of(alloc, &kind, words.operation, text)?;
-    say(alloc, depth, state, at, text, words, kind, &operand)
+    say(alloc, depth, state, at, flat, words, kind, &operand)
 }
 
 /// What a line with this text says, which has dollars.
@@ -301,16 +304,19 @@ fn read_dollars(
     depth: Depth,
     state: &mut Expansion,
     at: LineCursor,
-    text: &[u8],
+    text: &SharedText,
 ) -> Result<Next, NoMemory>
     ensures says { IfOk result
         (λ next. ReadsLine at text.now (depth_of depth) state.old state.new next) }
     ensures visits { state.new.visits ≤ state.old.visits }
     ensures flats { length state.new.flats.items ≤ length state.old.flats.items + 1 }
 {
-    match substitute(alloc, &state.tables, text)? {
+    match substitute(alloc, &state.tables, text.as_slice())? {
         None => Ok(Next::Bad(at, LineKind::UnknownWord)),
-        Some(text) => read_text(alloc, depth, state, at, text.as_slice()),
+        Some(bytes) => {
+            let flat = SharedText::from_vec(alloc, bytes)?;
+            read_text(alloc, depth, state, at, &flat)
+        }
     }
 }
 
@@ -320,14 +326,14 @@ fn read_line(
     depth: Depth,
     state: &mut Expansion,
     at: LineCursor,
-    text: &[u8],
+    text: &SharedText,
 ) -> Result<Next, NoMemory>
     ensures says { IfOk result
         (λ next. ReadsLine at text.now (depth_of depth) state.old state.new next) }
     ensures visits { state.new.visits ≤ state.old.visits }
     ensures flats { length state.new.flats.items ≤ length state.old.flats.items + 1 }
 {
-    if has_dollar(text) {
+    if has_dollar(text.as_slice()) {
         return read_dollars(alloc, depth, state, at, text);
     }
     read_text(alloc, depth, state, at, text)
@@ -345,13 +351,13 @@ pub fn read(
     ensures visits { IfOk result (λ next. IsRead next state.old.visits state.new.visits) }
     ensures flats { most_flats state.new ≤ most_flats state.old }
 {
-    let here = at.copy()?;
-    let Some(line) = here.first() else {
+    let Some(line) = at.first() else {
         return Ok(Next::Stop(End::Over));
     };
+    let text = line.text.share()?;
     if state.visits == 0 {
         return Ok(Next::Bad(at, LineKind::TooMany));
     }
     state.visit();
-    read_line(alloc, depth, state, at, line.text.as_slice())
+    read_line(alloc, depth, state, at, &text)
 }

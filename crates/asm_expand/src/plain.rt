@@ -1,25 +1,26 @@
 //! Lines that are no part of expansion: they stay.
 
 ghost use Rattle.std.specs.Prelude.{◌≡◌, ◌+◌, ◌≤◌, length, IfOk, OnOk};
+ghost use Rattle.asm_model.specs.Says.{between_bars};
 ghost use Rattle.expand_model.specs.Steps as model;
 ghost use Rattle.expand_model.specs.Words.{as_name};
 ghost use Rattle.asm_variables.specs.Known.{WasRead};
-ghost use Rattle.asm_expand.specs.Plain.{IsFlat, IsNumber, Labels, Numbers, Pushes};
+ghost use Rattle.asm_expand.specs.Plain.{Begins, IsFlat, IsNumber, Labels, Numbers, Pushes};
 ghost use Rattle.asm_expand.specs.Saying.{Says};
 ghost use Rattle.asm_variables.specs.Steps.{words_shown};
 
 use crate::line_cursors::LineCursor;
 use crate::steps::{End, Next};
 use asm_expr::operands::is;
-use asm_model::{Expr, Flat, is_called};
+use asm_model::{Expr, Flat, SharedText, is_called};
 use asm_variables::expansion::Expansion;
 use asm_variables::line_fields::Words;
 use asm_variables::maps::{add, put};
-use asm_variables::prototypes::name_of;
+use asm_variables::prototypes::{is_barred, is_name};
 use asm_variables::values::known_number;
 use indexmap::{IndexMap, IndexSet};
+use sdt_fault::NoMemory;
 use sdt_fault::kinds::LineKind;
-use sdt_fault::{Bytes, NoMemory, Text};
 use std::alloc::Global;
 
 /// Whether an operation is EQU.
@@ -42,14 +43,32 @@ fn state_behind(word: &[u8], thumb: bool) -> bool
     thumb
 }
 
-/// The name in a label field.
-fn label_name(alloc: Global, label: &[u8]) -> Result<Option<Text>, NoMemory>
+/// What stands between the first and the last byte of a label field, with which a text begins.
+fn inner_name(text: &SharedText, label: &[u8]) -> Result<SharedText, NoMemory>
+    requires { Begins label.now text.now }
+    ensures { IfOk result (λ name. name ≡ between_bars label.now) }
+{
+    if label.len() < 2 {
+        return text.part(0, 0);
+    }
+    let name = text.part(1, label.len() - 1)?;
+    Ok(name)
+}
+
+/// The name in a label field, with which a text begins.
+fn label_name(text: &SharedText, label: &[u8]) -> Result<Option<SharedText>, NoMemory>
+    requires { Begins label.now text.now }
     ensures { IfOk result (λ name. name ≡ as_name label.now) }
 {
-    match name_of(label) {
-        None => Ok(None),
-        Some(name) => Ok(Some(Text::from_slice(alloc, name)?)),
+    if is_name(label) {
+        let name = text.part(0, label.len())?;
+        return Ok(Some(name));
     }
+    if is_barred(label) {
+        let inner = inner_name(text, label)?;
+        return Ok(Some(inner));
+    }
+    Ok(None)
 }
 
 /// The number that an EQU makes of its name.
@@ -71,8 +90,8 @@ fn equ_number(
 /// Notes the number of a name that has none yet.
 fn note_number(
     alloc: Global,
-    numbers: &mut IndexMap<Text, u32>,
-    name: &Option<Text>,
+    numbers: &mut IndexMap<SharedText, u32>,
+    name: &Option<SharedText>,
     number: Option<u32>,
 ) -> Result<(), NoMemory>
     ensures { OnOk result (Numbers name.now number numbers.old numbers.new) }
@@ -86,12 +105,12 @@ fn note_number(
     if numbers.contains_key(name) {
         return Ok(());
     }
-    let key = name.try_clone(alloc)?;
+    let key = name.share()?;
     put(numbers, key, number)
 }
 
 /// Notes a name in a label field.
-fn note_label(labels: &mut IndexSet<Text>, name: Option<Text>) -> Result<(), NoMemory>
+fn note_label(labels: &mut IndexSet<SharedText>, name: Option<SharedText>) -> Result<(), NoMemory>
     ensures { OnOk result (Labels name labels.old labels.new) }
 {
     match name {
@@ -105,7 +124,7 @@ fn push_flat(
     alloc: Global,
     state: &mut Expansion,
     flat: Flat,
-    name: Option<Text>,
+    name: Option<SharedText>,
     number: Option<u32>,
     thumb: bool,
 ) -> Result<(), NoMemory>
@@ -121,17 +140,18 @@ fn push_flat(
 }
 
 /// The flat line that a line becomes.
-fn flat_at(alloc: Global, at: &LineCursor, text: &[u8]) -> Result<Option<Flat>, NoMemory>
+fn flat_at(at: &LineCursor, text: &SharedText) -> Result<Option<Flat>, NoMemory>
     ensures { IfOk result (λ flat. IsFlat at.now text.now flat) }
 {
     let Some(line) = at.first() else {
         return Ok(None);
     };
     let source = line.source.share()?;
+    let text = text.share()?;
     Ok(Some(Flat {
         source,
         number: line.number,
-        text: Bytes::from_slice(alloc, text)?,
+        text,
     }))
 }
 
@@ -140,11 +160,12 @@ pub fn say_plain(
     alloc: Global,
     state: &mut Expansion,
     at: LineCursor,
-    text: &[u8],
+    text: &SharedText,
     words: Words<'_>,
     operand: &Result<Expr, LineKind>,
 ) -> Result<Next, NoMemory>
-    requires { WasRead operand.now }
+    requires read { WasRead operand.now }
+    requires begins { Begins words.label.now text.now }
     ensures says { IfOk result (λ next. Says at state.old state.new next (λ s l ls.
         model.plain_line l text.now (words_shown words.entry) operand.now s ls)) }
     ensures visits { state.new.visits ≤ state.old.visits }
@@ -152,9 +173,9 @@ pub fn say_plain(
 {
     let ends = is_called(b"END", words.operation);
     let thumb = state_behind(words.operation, state.thumb);
-    let name = label_name(alloc, words.label)?;
+    let name = label_name(text, words.label)?;
     let number = equ_number(alloc, state, words.operation, operand)?;
-    let Some(flat) = flat_at(alloc, &at, text)? else {
+    let Some(flat) = flat_at(&at, text)? else {
         return Ok(Next::Stop(End::Over));
     };
     push_flat(alloc, state, flat, name, number, thumb)?;

@@ -48,13 +48,12 @@ pub said_fault : (flat : Flat) (ts : List Token) (text : List ℕ) (s : Sentence
     → SaysDirective flat ts (Err k)
 said_fault flat ts text s o d r k et es eo ed h e = let all = said flat ts text s o d r et es eo ed h in rw e at all
 
-pub said_statement : {E : Type 0} (flat : Flat) (ts : List Token) (text : List ℕ) (s : Sentence) (o : Option Directive) (d : Directive)
+pub said_statement : (flat : Flat) (ts : List Token) (text : List ℕ) (s : Sentence) (o : Option Directive) (d : Directive)
     (r : Result (Option (List ℕ) × DirectiveLine) LineKind)
-    (label : Option (List ℕ)) (l : DirectiveLine) (q : Result Said E)
+    (label : Option (List ℕ)) (l : DirectiveLine) (x : Said)
     → text ≡ flat.text → s ≡ sentence ts → o ≡ directive_of text s.operation → o ≡ Some d → IsReadAs text s d r → r ≡ Ok (label, l)
-    → IfOk q (λ x. x ≡ Ok (statement_of flat label l)) → IfOk q (λ x. SaysDirective flat ts x)
-said_statement flat ts text s o d r label l (Err f) et es eo ed h e same = tt
-said_statement flat ts text s o d r label l (Ok x) et es eo ed h e same =
+    → x ≡ Ok (statement_of flat label l) → SaysDirective flat ts x
+said_statement flat ts text s o d r label l x et es eo ed h e same =
     let all = said flat ts text s o d r et es eo ed h in
     let found : SaysDirective flat ts (Ok (statement_of flat label l)) = rw e at all in
     subst (SaysDirective flat ts) (sym same) found

@@ -9,11 +9,12 @@ ghost use Rattle.asm_expr.specs.AreaSteps.{ReadsAlignment, TakesAttribute, IsWri
 ghost use Rattle.asm_expr.specs.AreaSteps.{operands_behind, has_bad_word_in, with_alignment};
 
 use crate::kinds::both;
-use crate::operands::{first_operand, is, piece_of};
+use crate::operands::{first_operand, is};
 use crate::or_kind;
-use crate::read::expression;
+use crate::parts::piece_of;
+use crate::read::shared_expression;
 use crate::rows::row_of;
-use asm_model::{AreaAttributes, Attribute, Contents, Expr, Token, TokenKind};
+use asm_model::{AreaAttributes, Attribute, Contents, Expr, SharedText, Token, TokenKind};
 use sdt_fault::kinds::LineKind;
 use sdt_fault::{List, NoMemory};
 use std::alloc::Global;
@@ -164,7 +165,7 @@ fn word_attribute(kind: TokenKind, word: &[u8]) -> Result<Option<Expr>, LineKind
 }
 
 /// Whether two tokens begin an alignment.
-fn begins_alignment(text: &[u8], word: Token, sign: Token) -> bool
+fn begins_alignment(text: &SharedText, word: Token, sign: Token) -> bool
     ensures { result ≡ areas.begins_alignment text.now word sign }
 {
     match attribute_named(piece_of(text, word)) {
@@ -179,7 +180,7 @@ fn begins_alignment(text: &[u8], word: Token, sign: Token) -> bool
 }
 
 /// The attribute that an operand writes.
-fn attribute_in(text: &[u8], operand: &[Token]) -> Option<Attribute>
+fn attribute_in(text: &SharedText, operand: &[Token]) -> Option<Attribute>
     ensures { result ≡ areas.attribute_in text.now operand.now }
 {
     match operand {
@@ -197,19 +198,19 @@ fn attribute_in(text: &[u8], operand: &[Token]) -> Option<Attribute>
 /// The number of an alignment.
 fn alignment(
     alloc: Global,
-    text: &[u8],
+    text: &SharedText,
     tokens: &[Token],
 ) -> Result<Result<Option<Expr>, LineKind>, NoMemory>
     ensures { IfOk result (λ reading. ReadsAlignment text.now tokens.now reading) }
 {
-    let number = or_kind!(expression(alloc, text, tokens)?);
+    let number = or_kind!(shared_expression(alloc, text, tokens)?);
     Ok(Ok(Some(number)))
 }
 
 /// What an operand reads as: the number of an alignment, where it is one.
 fn read_attribute(
     alloc: Global,
-    text: &[u8],
+    text: &SharedText,
     operand: &[Token],
 ) -> Result<Result<Option<Expr>, LineKind>, NoMemory>
     ensures { IfOk result (λ reading. areas.ReadsAttribute text.now operand.now reading) }
@@ -259,7 +260,7 @@ pub struct Written {
 
 impl Written {
     /// One operand more.
-    fn take(self, alloc: Global, text: &[u8], operand: &[Token]) -> Result<Written, NoMemory>
+    fn take(self, alloc: Global, text: &SharedText, operand: &[Token]) -> Result<Written, NoMemory>
         ensures { IfOk result (λ written. TakesAttribute text.now operand.now self written) }
     {
         let Written {
@@ -289,7 +290,7 @@ fn no_alignments(alloc: Global) -> List<Expr>
 }
 
 /// The attributes that operands write.
-fn read_attributes(alloc: Global, text: &[u8], tokens: &[Token]) -> Result<Written, NoMemory>
+fn read_attributes(alloc: Global, text: &SharedText, tokens: &[Token]) -> Result<Written, NoMemory>
     ensures { IfOk result
         (λ written. IsWritten text.now (operands.operands_at text.now 0 tokens.now) written) }
 {
@@ -332,7 +333,7 @@ fn attributes_with(
 /// The attributes behind the name of an area, where there are operands behind it.
 pub fn attributes(
     alloc: Global,
-    text: &[u8],
+    text: &SharedText,
     behind: Option<&[Token]>,
 ) -> Result<Result<AreaAttributes, LineKind>, NoMemory>
     ensures { IfOk result

@@ -4,18 +4,18 @@ ghost use Rattle.std.specs.Prelude.{◌≡◌, ◌∷◌, IfOk};
 ghost use Rattle.asm_model.specs.declared.tokens.TokenKind.TheVariants as kind;
 ghost use Rattle.asm_model.specs.Directives as directives;
 ghost use Rattle.asm_model.specs.Forms as forms;
+ghost use Rattle.asm_model.specs.Parts as parts;
 ghost use Rattle.asm_model.specs.Says as says;
 ghost use Rattle.asm_expr.specs.SentenceSteps.{sentence_of, IsReadAs};
 
 use crate::directive_names::directive_named;
 use crate::kinds::both;
-use crate::operands::piece_of;
-use crate::parts::inside;
-use crate::read::expression;
+use crate::parts::{piece_of, shared_inside, shared_piece};
+use crate::read::shared_expression;
 use crate::readings::{area, bare, boundary, expressions, import, name_alone, register};
-use asm_model::{Directive, DirectiveLine, LabelNeed, Token, TokenKind};
+use asm_model::{Directive, DirectiveLine, LabelNeed, SharedText, Token, TokenKind};
+use sdt_fault::NoMemory;
 use sdt_fault::kinds::LineKind;
-use sdt_fault::{NoMemory, Text};
 use std::alloc::Global;
 
 /// What a directive asks of the label field.
@@ -64,12 +64,12 @@ fn is_short(piece: &[u8]) -> bool
 }
 
 /// A local label, which is kept behind a bar.
-fn local(alloc: Global, digits: &[u8]) -> Result<Text, NoMemory>
+fn local(alloc: Global, digits: &[u8]) -> Result<SharedText, NoMemory>
     ensures { IfOk result (λ name. name ≡ 124 ∷ digits.now) }
 {
     let mut name = Vec::from_slice(alloc, b"|")?;
     name.extend_from_slice(digits)?;
-    Ok(Text::from_vec(name))
+    SharedText::from_vec(alloc, name)
 }
 
 /// A number as a label.
@@ -77,7 +77,7 @@ fn numeric_label(
     alloc: Global,
     need: LabelNeed,
     piece: &[u8],
-) -> Result<Result<Option<Text>, LineKind>, NoMemory>
+) -> Result<Result<Option<SharedText>, LineKind>, NoMemory>
     ensures { IfOk result (λ label. label ≡ says.label_of need kind.Number piece.now) }
 {
     match need {
@@ -95,15 +95,16 @@ fn numeric_label(
 fn label_of(
     alloc: Global,
     need: LabelNeed,
-    kind: TokenKind,
-    piece: &[u8],
-) -> Result<Result<Option<Text>, LineKind>, NoMemory>
-    ensures { IfOk result (λ label. label ≡ says.label_of need kind piece.now) }
+    text: &SharedText,
+    token: Token,
+) -> Result<Result<Option<SharedText>, LineKind>, NoMemory>
+    ensures { IfOk result (λ label. label
+        ≡ says.label_of need token.kind (parts.piece text.now token)) }
 {
-    match kind {
-        TokenKind::Name => Ok(Ok(Some(Text::from_slice(alloc, piece)?))),
-        TokenKind::Barred => Ok(Ok(Some(Text::from_slice(alloc, inside(piece))?))),
-        TokenKind::Number => numeric_label(alloc, need, piece),
+    match token.kind {
+        TokenKind::Name => Ok(Ok(Some(shared_piece(text, token)?))),
+        TokenKind::Barred => Ok(Ok(Some(shared_inside(text, token)?))),
+        TokenKind::Number => numeric_label(alloc, need, piece_of(text, token)),
         _ => Ok(Err(LineKind::Syntax)),
     }
 }
@@ -112,13 +113,13 @@ fn label_of(
 pub fn label_field(
     alloc: Global,
     need: LabelNeed,
-    text: &[u8],
+    text: &SharedText,
     token: Option<Token>,
-) -> Result<Result<Option<Text>, LineKind>, NoMemory>
+) -> Result<Result<Option<SharedText>, LineKind>, NoMemory>
     ensures { IfOk result (λ label. label ≡ says.label_field need text.now token) }
 {
     match token {
-        Some(token) => label_of(alloc, need, token.kind, piece_of(text, token)),
+        Some(token) => label_of(alloc, need, text, token),
         None => match need {
             LabelNeed::Optional => Ok(Ok(None)),
             _ => Ok(Err(LineKind::Syntax)),
@@ -180,7 +181,7 @@ macro_rules! made {
 /// What the operands of a directive read as.
 fn reading(
     alloc: Global,
-    text: &[u8],
+    text: &SharedText,
     directive: Directive,
     tokens: &[Token],
 ) -> Result<Result<DirectiveLine, LineKind>, NoMemory>
@@ -192,28 +193,28 @@ fn reading(
         Directive::Entry => Ok(bare(DirectiveLine::Entry, tokens)),
         Directive::End => Ok(bare(DirectiveLine::End, tokens)),
         Directive::Export => {
-            made!(name_alone(alloc, text, tokens)?, name => DirectiveLine::Export { name })
+            made!(name_alone(text, tokens)?, name => DirectiveLine::Export { name })
         }
         Directive::Import => {
-            made!(import(alloc, text, tokens)?, (name, weak) => DirectiveLine::Import { name, weak })
+            made!(import(text, tokens)?, (name, mark) => DirectiveLine::Import { name, mark })
         }
         Directive::Extern => {
-            made!(import(alloc, text, tokens)?, (name, weak) => DirectiveLine::Extern { name, weak })
+            made!(import(text, tokens)?, (name, mark) => DirectiveLine::Extern { name, mark })
         }
         Directive::Keep => {
-            made!(name_alone(alloc, text, tokens)?, name => DirectiveLine::Keep { name })
+            made!(name_alone(text, tokens)?, name => DirectiveLine::Keep { name })
         }
         Directive::Equ => {
-            made!(expression(alloc, text, tokens)?, value => DirectiveLine::Equ { value })
+            made!(shared_expression(alloc, text, tokens)?, value => DirectiveLine::Equ { value })
         }
         Directive::Rn => register(alloc, text, tokens),
         Directive::Rout => Ok(bare(DirectiveLine::Rout, tokens)),
         Directive::Assert => {
-            made!(expression(alloc, text, tokens)?, condition => DirectiveLine::Assert { condition })
+            made!(shared_expression(alloc, text, tokens)?, condition => DirectiveLine::Assert { condition })
         }
         Directive::Nofp => Ok(bare(DirectiveLine::Nofp, tokens)),
         Directive::Opt => {
-            made!(expression(alloc, text, tokens)?, options => DirectiveLine::Opt { options })
+            made!(shared_expression(alloc, text, tokens)?, options => DirectiveLine::Opt { options })
         }
         Directive::Ttl => Ok(bare(DirectiveLine::Ttl, tokens)),
         Directive::Subt => Ok(bare(DirectiveLine::Subt, tokens)),
@@ -221,16 +222,16 @@ fn reading(
             made!(expressions(alloc, text, tokens)?, values => DirectiveLine::Constants { item, values })
         }
         Directive::Space => {
-            made!(expression(alloc, text, tokens)?, size => DirectiveLine::Space { size })
+            made!(shared_expression(alloc, text, tokens)?, size => DirectiveLine::Space { size })
         }
         Directive::Align => boundary(alloc, text, tokens),
         Directive::Ltorg => Ok(bare(DirectiveLine::Ltorg, tokens)),
         Directive::Data => Ok(bare(DirectiveLine::Data, tokens)),
         Directive::Map => {
-            made!(expression(alloc, text, tokens)?, value => DirectiveLine::Map { value })
+            made!(shared_expression(alloc, text, tokens)?, value => DirectiveLine::Map { value })
         }
         Directive::Field => {
-            made!(expression(alloc, text, tokens)?, size => DirectiveLine::Field { size })
+            made!(shared_expression(alloc, text, tokens)?, size => DirectiveLine::Field { size })
         }
         Directive::Code16 => Ok(bare(DirectiveLine::Code16, tokens)),
         Directive::Code32 => Ok(bare(DirectiveLine::Code32, tokens)),
@@ -242,10 +243,10 @@ fn reading(
 /// The label and the directive of a line.
 pub fn read_directive(
     alloc: Global,
-    text: &[u8],
+    text: &SharedText,
     sentence: Sentence<'_>,
     directive: Directive,
-) -> Result<Result<(Option<Text>, DirectiveLine), LineKind>, NoMemory>
+) -> Result<Result<(Option<SharedText>, DirectiveLine), LineKind>, NoMemory>
     ensures { IfOk result (λ read. IsReadAs text.now (sentence_of sentence.entry) directive read) }
 {
     let label = label_field(alloc, label_need(directive), text, sentence.label)?;
@@ -254,7 +255,7 @@ pub fn read_directive(
 }
 
 /// The directive that an operation names.
-pub fn directive_of(text: &[u8], operation: Option<Token>) -> Option<Directive>
+pub fn directive_of(text: &SharedText, operation: Option<Token>) -> Option<Directive>
     ensures { result ≡ says.directive_of text.now operation }
 {
     match operation {

@@ -30,7 +30,7 @@ fn entry_copy(alloc: Global, entry: &LaidName) -> Result<LaidName, NoMemory>
     ensures { IfOk result (λ copy. copy ≡ entry.now) }
 {
     Ok(LaidName {
-        name: entry.name.try_clone(alloc)?,
+        name: entry.name.share()?,
         meaning: meaning_copy(alloc, &entry.meaning)?,
         area: entry.area,
         offset: entry.offset,

@@ -1,14 +1,14 @@
 //! Names with an index.
 
-ghost use Rattle.std.specs.Prelude.{◌≡◌, ◌∷◌, ◌++◌, ◌-◌, ◌<◌, ◌^◌, [], ℕ, List, length, OnOk, OnErr};
+ghost use Rattle.std.specs.Prelude.{◌≡◌, ◌∷◌, ◌++◌, ◌-◌, ◌<◌, ◌^◌, [], ℕ, List, length, IfOk, OnOk, OnErr};
 ghost use Rattle.std.specs.Option.{option_copied};
 ghost use Rattle.asm_model.specs.Meaning.{named_in};
 ghost use Rattle.asm_expr.specs.Known.{place_in};
 ghost use Rattle.asm_expr.specs.Places.{entry as entry_at, one_entry, or_number};
 
-use asm_model::LaidName;
+use asm_model::{LaidName, SharedText};
 use indexmap::IndexMap;
-use sdt_fault::{NoMemory, Text};
+use sdt_fault::NoMemory;
 use std::alloc::Global;
 use std::marker::Model;
 
@@ -17,7 +17,7 @@ use std::marker::Model;
 pub struct KnownNames {
     entries: Vec<LaidName>,
     /// The place of the first entry with each name.
-    places: IndexMap<Text, u32>,
+    places: IndexMap<SharedText, u32>,
 }
 
 impl Model for KnownNames {
@@ -33,7 +33,11 @@ impl Model for KnownNames {
 }
 
 /// Notes the place of a name that has none yet. An `Err` changes nothing.
-fn note(places: &mut IndexMap<Text, u32>, name: Text, place: u32) -> Result<(), NoMemory>
+fn note(
+    places: &mut IndexMap<SharedText, u32>,
+    name: SharedText,
+    place: u32,
+) -> Result<(), NoMemory>
     ensures ok { OnOk result ((q : List ℕ) → place_in places.new q
         ≡ or_number (place_in places.old q) name place q) }
     ensures err { OnErr result ((q : List ℕ) → place_in places.new q ≡ place_in places.old q) }
@@ -46,7 +50,7 @@ fn note(places: &mut IndexMap<Text, u32>, name: Text, place: u32) -> Result<(), 
 fn put(
     alloc: Global,
     entries: &mut Vec<LaidName>,
-    places: &mut IndexMap<Text, u32>,
+    places: &mut IndexMap<SharedText, u32>,
     entry: LaidName,
     place: u32,
 ) -> Result<(), NoMemory>
@@ -57,7 +61,7 @@ fn put(
     ensures unchanged { OnErr result ((q : List ℕ) → place_in places.new q
         ≡ place_in places.old q) }
 {
-    let name = entry.name.try_clone(alloc)?;
+    let name = entry.name.share()?;
     entries.push(entry)?;
     if note(places, name, place).is_err() {
         entries.pop();
@@ -87,6 +91,16 @@ impl KnownNames {
         }
     }
 
+    /// No names, with room for so many.
+    pub fn with_capacity(alloc: Global, capacity: usize) -> Result<KnownNames, NoMemory>
+        ensures { IfOk result (λ names. names ≡ []) }
+    {
+        Ok(KnownNames {
+            entries: Vec::with_capacity(alloc, capacity)?,
+            places: IndexMap::with_capacity(alloc, capacity)?,
+        })
+    }
+
     /// One entry more, behind the others. An `Err` changes nothing.
     pub fn add(&mut self, alloc: Global, entry: LaidName) -> Result<(), NoMemory>
         requires { length self.old < 2 ^ 32 - 1 }
@@ -100,7 +114,7 @@ impl KnownNames {
     }
 
     /// The first entry with the name.
-    pub fn find(&self, name: &Text) -> Option<&LaidName>
+    pub fn find(&self, name: &SharedText) -> Option<&LaidName>
         ensures { option_copied result ≡ named_in name.now self.now }
     {
         let place = self.places.get(name).copied();

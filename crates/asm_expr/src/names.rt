@@ -8,8 +8,7 @@ ghost use Rattle.asm_expr.specs.Places.{one_entry};
 ghost use Rattle.asm_expr.specs.Seeing.{listed, seen_names};
 
 use crate::known::KnownNames;
-use asm_model::LaidName;
-use sdt_fault::Text;
+use asm_model::{LaidName, SharedText};
 
 /// What an expression is evaluated with.
 #[derive(Clone, Copy, Debug)]
@@ -37,7 +36,7 @@ fn is(a: &[u8], b: &[u8]) -> bool
 }
 
 /// An entry, where it has the name.
-fn own_named<'a>(own: Option<&'a LaidName>, name: &Text) -> Option<&'a LaidName>
+fn own_named<'a>(own: Option<&'a LaidName>, name: &SharedText) -> Option<&'a LaidName>
     ensures { option_copied result ≡ named_in name.now (one_entry (option_copied own.entry)) }
 {
     match own {
@@ -52,7 +51,7 @@ fn own_named<'a>(own: Option<&'a LaidName>, name: &Text) -> Option<&'a LaidName>
 }
 
 /// The first entry with the name among names that may be there.
-fn later_named<'a>(later: Option<&'a KnownNames>, name: &Text) -> Option<&'a LaidName>
+fn later_named<'a>(later: Option<&'a KnownNames>, name: &SharedText) -> Option<&'a LaidName>
     ensures { option_copied result ≡ named_in name.now (listed (option_copied later.entry)) }
 {
     match later {
@@ -62,7 +61,7 @@ fn later_named<'a>(later: Option<&'a KnownNames>, name: &Text) -> Option<&'a Lai
 }
 
 /// The first entry with the name among the known ones.
-fn known_named<'a>(seen: &Seen<'a>, name: &Text) -> Option<&'a LaidName>
+fn known_named<'a>(seen: &Seen<'a>, name: &SharedText) -> Option<&'a LaidName>
     ensures { option_copied result
         ≡ named_in name.now (seen.now.names.now ++ one_entry (option_copied seen.now.own)) }
 {
@@ -74,7 +73,7 @@ fn known_named<'a>(seen: &Seen<'a>, name: &Text) -> Option<&'a LaidName>
 }
 
 /// The first entry with the name.
-pub fn entry_named<'a>(seen: &Seen<'a>, name: &Text) -> Option<&'a LaidName>
+pub fn entry_named<'a>(seen: &Seen<'a>, name: &SharedText) -> Option<&'a LaidName>
     ensures { option_copied result ≡ named_in name.now (seen_names seen.now).list }
 {
     if let Some(entry) = known_named(seen, name) {

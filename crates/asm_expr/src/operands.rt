@@ -4,18 +4,10 @@ ghost use Rattle.std.specs.Prelude.{◌≡◌, ◌<◌, ◌^◌, ◌==◌, ◌&&
 ghost use Rattle.std.specs.Option.{option_copied};
 ghost use Rattle.asm_model.specs.Forms.{same};
 ghost use Rattle.asm_model.specs.Operands as operands;
-ghost use Rattle.asm_model.specs.Parts as parts;
 ghost use Rattle.asm_expr.specs.Steps.{IsComma, CutsOperands};
 
-use crate::parts::piece;
-use asm_model::Token;
-
-/// The bytes of a token.
-pub fn piece_of(text: &[u8], token: Token) -> &[u8]
-    ensures { result.now ≡ parts.piece text.now token }
-{
-    piece(text, token.start as usize, token.end as usize)
-}
+use crate::parts::piece_of;
+use asm_model::{SharedText, Token};
 
 /// Whether a slice is a word.
 pub fn is(piece: &[u8], word: &[u8]) -> bool
@@ -74,7 +66,7 @@ fn cuts(depth: usize, word: &[u8]) -> bool
 }
 
 /// Where the first comma outside brackets stands.
-fn comma(text: &[u8], tokens: &[Token]) -> Option<usize>
+fn comma(text: &SharedText, tokens: &[Token]) -> Option<usize>
     ensures { IsComma text.now tokens.now result }
 {
     let mut depth = 0;
@@ -91,7 +83,10 @@ fn comma(text: &[u8], tokens: &[Token]) -> Option<usize>
 }
 
 /// The first operand, and the tokens behind the comma after it.
-pub fn first_operand<'a>(text: &[u8], tokens: &'a [Token]) -> (&'a [Token], Option<&'a [Token]>)
+pub fn first_operand<'a>(
+    text: &SharedText,
+    tokens: &'a [Token],
+) -> (&'a [Token], Option<&'a [Token]>)
     ensures { CutsOperands text.now tokens.now (result.0.now) (option_copied result.1) }
 {
     match comma(text, tokens) {

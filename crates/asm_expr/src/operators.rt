@@ -14,9 +14,9 @@ ghost use Rattle.asm_model.specs.declared.exprs.BinaryOp.TheVariants as op;
 
 use crate::names::{Seen, entry_named};
 use crate::or_kind;
-use asm_model::{BinaryOp, LaidName, UnaryOp, Value};
+use asm_model::{BinaryOp, LaidName, SharedText, UnaryOp, Value};
 use sdt_fault::kinds::LineKind;
-use sdt_fault::{Bytes, NoMemory, Text};
+use sdt_fault::{Bytes, NoMemory};
 use std::alloc::Global;
 use std::cmp::Ordering;
 
@@ -187,7 +187,7 @@ fn entry_at(entry: Option<&LaidName>) -> Option<(u32, u32)>
 }
 
 /// The area of a symbol and its offset there.
-fn stands_at(seen: &Seen<'_>, symbol: &Text) -> Option<(u32, u32)>
+fn stands_at(seen: &Seen<'_>, symbol: &SharedText) -> Option<(u32, u32)>
     ensures { result ≡ meaning.stands_at (seen_names seen.now) symbol.now }
 {
     if symbol.as_slice().is_empty() {
@@ -219,9 +219,9 @@ fn distance(a: Option<(u32, u32)>, p: u32, b: Option<(u32, u32)>, q: u32) -> Res
 fn between_places(
     seen: &Seen<'_>,
     op: BinaryOp,
-    s: &Text,
+    s: &SharedText,
     p: u32,
-    t: &Text,
+    t: &SharedText,
     q: u32,
 ) -> Result<u32, LineKind>
     ensures { result ≡ meaning.between_places (seen_names seen.now) op s.now p t.now q }
@@ -252,13 +252,13 @@ fn as_words(words: Result<Bytes, LineKind>) -> Result<Value, LineKind>
 
 fn as_place(
     alloc: Global,
-    symbol: &Text,
+    symbol: &SharedText,
     plus: Result<u32, LineKind>,
 ) -> Result<Result<Value, LineKind>, NoMemory>
     ensures { IfOk result (λ value. value ≡ meaning.as_place symbol.now plus) }
 {
     let plus = or_kind!(plus);
-    let symbol = symbol.try_clone(alloc)?;
+    let symbol = symbol.share()?;
     Ok(Ok(Value::Place { symbol, plus }))
 }
 

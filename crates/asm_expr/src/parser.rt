@@ -114,15 +114,15 @@ fn settle(limit: u8, items: &mut Vec<ExprItem>, stack: &mut Vec<Held>) -> Result
 }
 
 impl Parser {
-    /// Nothing was read.
-    pub fn new(alloc: Global) -> Parser
-        ensures { state_of result ≡ parsing.started }
+    /// Nothing was read; there is room for so many items.
+    pub fn with_room(alloc: Global, items: usize) -> Result<Parser, NoMemory>
+        ensures { IfOk result (λ parser. state_of parser ≡ parsing.started) }
     {
-        Parser {
+        Ok(Parser {
             due: Stage::Operand,
-            items: Vec::new(alloc),
+            items: Vec::with_capacity(alloc, items)?,
             stack: Vec::new(alloc),
-        }
+        })
     }
 
     /// Reads a part; false where it can't stand there.

@@ -4,39 +4,18 @@ ghost use Rattle.std.specs.Prelude.{◌≡◌, ◌^◌, ◌<◌, ◌-◌, ◌==�
 ghost use Rattle.asm_model.specs.Forms.{same};
 ghost use Rattle.asm_model.specs.Parts as parts;
 
-use asm_model::{BinaryOp, ExprItem, Part, Token, TokenKind, UnaryOp, Value};
-use sdt_fault::{Bytes, NoMemory, Text};
+use asm_model::{BinaryOp, ExprItem, Part, SharedText, Token, TokenKind, UnaryOp, Value};
+use sdt_fault::{Bytes, NoMemory};
 use std::alloc::Global;
 
 /// The part that a token of the line is.
-pub fn part_of(alloc: Global, text: &[u8], token: Token) -> Result<Part, NoMemory>
+pub fn part_of(alloc: Global, text: &SharedText, token: Token) -> Result<Part, NoMemory>
     ensures { IfOk result (λ part. part ≡ parts.part_of text.now token) }
 {
-    let piece = piece(text, token.start as usize, token.end as usize);
-    part_of_kind(alloc, token.kind, piece)
-}
-
-/// The bytes of a token.
-pub fn piece(text: &[u8], start: usize, end: usize) -> &[u8]
-    ensures { result.now ≡ take (end - start) (drop start text.now) }
-{
-    let end = end.min(text.len());
-    let start = start.min(end);
-    &text[start..end]
-}
-
-fn part_of_kind(alloc: Global, kind: TokenKind, piece: &[u8]) -> Result<Part, NoMemory>
-    ensures { IfOk result (λ part. part ≡ parts.part_of_kind kind piece.now) }
-{
-    match kind {
-        TokenKind::Name => {
-            let name = Text::from_slice(alloc, piece)?;
-            Ok(Part::Operand(ExprItem::Name(name)))
-        }
-        TokenKind::Barred => {
-            let name = Text::from_slice(alloc, inside(piece))?;
-            Ok(Part::Operand(ExprItem::Name(name)))
-        }
+    let piece = piece_of(text, token);
+    match token.kind {
+        TokenKind::Name => Ok(Part::Operand(ExprItem::Name(shared_piece(text, token)?))),
+        TokenKind::Barred => Ok(Part::Operand(ExprItem::Name(shared_inside(text, token)?))),
         TokenKind::Number => Ok(Part::Operand(number_item(piece))),
         TokenKind::Quoted => {
             let words = undoubled(alloc, behind_one(piece))?;
@@ -46,22 +25,47 @@ fn part_of_kind(alloc: Global, kind: TokenKind, piece: &[u8]) -> Result<Part, No
             character_value(piece),
         ))))),
         TokenKind::Braced => braced_part(alloc, piece),
-        TokenKind::Local => {
-            let name = Text::from_slice(alloc, piece)?;
-            Ok(Part::Operand(ExprItem::Local(name)))
-        }
+        TokenKind::Local => Ok(Part::Operand(ExprItem::Local(shared_piece(text, token)?))),
         TokenKind::Sign => Ok(sign_part(piece)),
     }
 }
 
-/// What stands between the first byte and the last.
-pub fn inside(piece: &[u8]) -> &[u8]
-    ensures { result.now ≡ take (length piece.now - 2) (drop 1 piece.now) }
+/// The bytes of a text from a place up to another.
+fn piece(text: &[u8], start: usize, end: usize) -> &[u8]
+    ensures { result.now ≡ take (end - start) (drop start text.now) }
 {
-    if piece.len() < 2 {
-        return &piece[..0];
+    let end = end.min(text.len());
+    let start = start.min(end);
+    &text[start..end]
+}
+
+/// The bytes of a token.
+pub fn piece_of(text: &SharedText, token: Token) -> &[u8]
+    ensures { result.now ≡ parts.piece text.now token }
+{
+    piece(text.as_slice(), token.start as usize, token.end as usize)
+}
+
+/// The bytes of a token as a text that shares them.
+pub fn shared_piece(text: &SharedText, token: Token) -> Result<SharedText, NoMemory>
+    ensures { IfOk result (λ name. name ≡ parts.piece text.now token) }
+{
+    let end = (token.end as usize).min(text.as_slice().len());
+    let start = (token.start as usize).min(end);
+    text.part(start, end)
+}
+
+/// What stands between the first byte of a token and the last, as a text that shares it.
+pub fn shared_inside(text: &SharedText, token: Token) -> Result<SharedText, NoMemory>
+    ensures { IfOk result (λ name. name ≡ take (length (parts.piece text.now token) - 2)
+        (drop 1 (parts.piece text.now token))) }
+{
+    let whole = shared_piece(text, token)?;
+    let count = whole.as_slice().len();
+    if count < 2 {
+        return whole.part(0, 0);
     }
-    &piece[1..piece.len() - 1]
+    whole.part(1, count - 1)
 }
 
 /// What stands behind the first byte.

@@ -9,17 +9,17 @@ ghost use Rattle.asm_expr.specs.Steps.{IsRead};
 
 use crate::parser::Parser;
 use crate::parts::part_of;
-use asm_model::{Expr, Flat, Token, bad_line};
+use asm_model::{Expr, Flat, SharedText, Token, bad_line};
 use sdt_fault::answer::Fault;
 use sdt_fault::kinds::LineKind;
 use sdt_fault::{List, NoMemory};
 use std::alloc::Global;
 
 /// The expression that tokens of a line spell; None where they spell none.
-fn read(alloc: Global, text: &[u8], tokens: &[Token]) -> Result<Option<Expr>, NoMemory>
+fn read(alloc: Global, text: &SharedText, tokens: &[Token]) -> Result<Option<Expr>, NoMemory>
     ensures { IfOk result (λ reading. IsRead (map (parts.part_of text.now) tokens.now) reading) }
 {
-    let mut parser = Parser::new(alloc);
+    let mut parser = Parser::with_room(alloc, tokens.len())?;
     'tokens: for token in tokens {
         let part = part_of(alloc, text, *token)?;
         if !parser.take(part)? {
@@ -34,10 +34,11 @@ fn read(alloc: Global, text: &[u8], tokens: &[Token]) -> Result<Option<Expr>, No
     }
 }
 
-/// What tokens of a line read as: the expression that they spell, or Syntax where they spell none.
-pub fn expression(
+/// What tokens of a line read as: the expression that they spell, or Syntax where they spell none. Its names share the
+/// line's bytes.
+pub fn shared_expression(
     alloc: Global,
-    text: &[u8],
+    text: &SharedText,
     tokens: &[Token],
 ) -> Result<Result<Expr, LineKind>, NoMemory>
     ensures { IfOk result (λ reading. grammar.ParsesTokens text.now tokens.now reading) }
@@ -48,12 +49,24 @@ pub fn expression(
     }
 }
 
+/// What tokens of a text read as: the expression that they spell, or Syntax where they spell none.
+pub fn expression(
+    alloc: Global,
+    text: &[u8],
+    tokens: &[Token],
+) -> Result<Result<Expr, LineKind>, NoMemory>
+    ensures { IfOk result (λ reading. grammar.ParsesTokens text.now tokens.now reading) }
+{
+    let text = SharedText::from_slice(alloc, text)?;
+    shared_expression(alloc, &text, tokens)
+}
+
 /// The expression that consecutive tokens of the line spell; Syntax where they spell none.
 pub fn parse_expr(alloc: Global, line: &Flat, tokens: &[Token]) -> Result<Expr, Fault>
     ensures { Told line.now.source line.now.number
         (grammar.ParsesTokens line.now.text tokens.now) result }
 {
-    match expression(alloc, line.text.as_slice(), tokens)? {
+    match shared_expression(alloc, &line.text, tokens)? {
         Ok(expression) => Ok(expression),
         Err(kind) => Err(bad_line(alloc, line.source.as_text(), line.number, kind)),
     }

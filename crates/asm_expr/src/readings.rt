@@ -3,6 +3,7 @@
 ghost use Rattle.std.specs.Prelude.{◌≡◌, ◌∷◌, ◌++◌, [], IfOk};
 ghost use Rattle.std.specs.Option.{option_copied};
 ghost use Rattle.asm_model.specs.Operands as operands;
+ghost use Rattle.asm_model.specs.Parts as parts;
 ghost use Rattle.asm_model.specs.Readings as readings;
 ghost use Rattle.asm_model.specs.Says as says;
 ghost use Rattle.asm_model.specs.declared.directives.Boundary.TheVariants as limit;
@@ -10,16 +11,17 @@ ghost use Rattle.asm_model.specs.declared.directives.DirectiveLine.TheVariants a
 
 use crate::areas::attributes;
 use crate::kinds::both;
-use crate::operands::{first_operand, is, piece_of};
+use crate::operands::{first_operand, is};
 use crate::or_kind;
-use crate::parts::inside;
-use crate::read::expression;
+use crate::parts::{piece_of, shared_inside, shared_piece};
+use crate::read::shared_expression;
 use crate::registers::register_named;
 use asm_model::{
-    AreaAttributes, Boundary, DirectiveLine, Expr, RnOperand, Token, TokenKind, is_called,
+    AreaAttributes, Boundary, DirectiveLine, Expr, ImportMark, RnOperand, SharedText, Token,
+    TokenKind, is_called,
 };
 use sdt_fault::kinds::LineKind;
-use sdt_fault::{List, NoMemory, Text};
+use sdt_fault::{List, NoMemory};
 use std::alloc::Global;
 
 /// No operands.
@@ -33,64 +35,63 @@ pub fn bare(line: DirectiveLine, tokens: &[Token]) -> Result<DirectiveLine, Line
 }
 
 /// A token as a name.
-fn name_of(alloc: Global, kind: TokenKind, piece: &[u8]) -> Result<Result<Text, LineKind>, NoMemory>
-    ensures { IfOk result (λ name. name ≡ says.name_of kind piece.now) }
+fn name_of(text: &SharedText, token: Token) -> Result<Result<SharedText, LineKind>, NoMemory>
+    ensures { IfOk result (λ name. name ≡ says.name_of token.kind (parts.piece text.now token)) }
 {
-    match kind {
-        TokenKind::Name => Ok(Ok(Text::from_slice(alloc, piece)?)),
-        TokenKind::Barred => Ok(Ok(Text::from_slice(alloc, inside(piece))?)),
+    match token.kind {
+        TokenKind::Name => Ok(Ok(shared_piece(text, token)?)),
+        TokenKind::Barred => Ok(Ok(shared_inside(text, token)?)),
         _ => Ok(Err(LineKind::Syntax)),
     }
 }
 
 /// Tokens as a name alone.
 pub fn name_alone(
-    alloc: Global,
-    text: &[u8],
+    text: &SharedText,
     tokens: &[Token],
-) -> Result<Result<Text, LineKind>, NoMemory>
+) -> Result<Result<SharedText, LineKind>, NoMemory>
     ensures { IfOk result (λ name. name ≡ says.name_alone text.now tokens.now) }
 {
     match tokens {
         [] => Ok(Err(LineKind::Syntax)),
-        [token] => name_of(alloc, token.kind, piece_of(text, *token)),
+        [token] => name_of(text, *token),
         [_, _, ..] => Ok(Err(LineKind::Syntax)),
     }
 }
 
 /// A token as the word WEAK, or as another word.
-fn weak_word(kind: TokenKind, word: &[u8]) -> Result<Option<bool>, LineKind>
-    ensures { result ≡ says.weak_word kind word.now }
+fn mark_of(kind: TokenKind, word: &[u8]) -> Result<ImportMark, LineKind>
+    ensures { result ≡ says.mark_of kind word.now }
 {
     match kind {
         TokenKind::Name => {
             if is_called(b"WEAK", word) {
-                return Ok(Some(true));
+                return Ok(ImportMark::Weak);
             }
-            Ok(None)
+            Ok(ImportMark::Other)
         }
         _ => Err(LineKind::Syntax),
     }
 }
 
 /// A word behind a comma.
-fn weak_behind(text: &[u8], sign: Token, word: Token) -> Result<Option<bool>, LineKind>
-    ensures { result ≡ says.weak_mark text.now (sign ∷ word ∷ []) }
+fn mark_behind(text: &SharedText, sign: Token, word: Token) -> Result<ImportMark, LineKind>
+    ensures { result ≡ says.import_mark text.now (sign ∷ word ∷ []) }
 {
     if is(piece_of(text, sign), b",") {
-        return weak_word(word.kind, piece_of(text, word));
+        return mark_of(word.kind, piece_of(text, word));
     }
     Err(LineKind::Syntax)
 }
 
 /// A word in brackets.
-fn weak_between(
-    text: &[u8],
+fn mark_between(
+    text: &SharedText,
     left: Token,
     word: Token,
     right: Token,
-) -> Result<Option<bool>, LineKind>
-    ensures { result ≡ says.weak_mark text.now (left ∷ word ∷ right ∷ []) }
+) -> Result<ImportMark, LineKind>
+    ensures { result ≡ says.import_mark text.now (left ∷ word ∷ right ∷ []) }
 {
     if !is(piece_of(text, left), b"[") {
         return Err(LineKind::Syntax);
@@ -98,35 +99,34 @@ fn weak_between(
     if !is(piece_of(text, right), b"]") {
         return Err(LineKind::Syntax);
     }
-    weak_word(word.kind, piece_of(text, word))
+    mark_of(word.kind, piece_of(text, word))
 }
 
-/// What stands behind the name of an import: nothing, a mark that it is weak, or another word in its place.
-fn weak_mark(text: &[u8], tokens: &[Token]) -> Result<Option<bool>, LineKind>
-    ensures { result ≡ says.weak_mark text.now tokens.now }
+/// What stands behind the name of an import.
+fn import_mark(text: &SharedText, tokens: &[Token]) -> Result<ImportMark, LineKind>
+    ensures { result ≡ says.import_mark text.now tokens.now }
 {
     match tokens {
-        [] => Ok(Some(false)),
+        [] => Ok(ImportMark::Absent),
         [_] => Err(LineKind::Syntax),
-        [sign, word] => weak_behind(text, *sign, *word),
-        [left, word, right] => weak_between(text, *left, *word, *right),
+        [sign, word] => mark_behind(text, *sign, *word),
+        [left, word, right] => mark_between(text, *left, *word, *right),
         [_, _, _, _, ..] => Err(LineKind::Syntax),
     }
 }
 
-/// A name, and whether it is weak, where that can be told.
+/// A name and its mark.
 pub fn import(
-    alloc: Global,
-    text: &[u8],
+    text: &SharedText,
     tokens: &[Token],
-) -> Result<Result<(Text, Option<bool>), LineKind>, NoMemory>
+) -> Result<Result<(SharedText, ImportMark), LineKind>, NoMemory>
     ensures { IfOk result (λ import. import ≡ says.import_of text.now tokens.now) }
 {
     match tokens {
         [] => Ok(Err(LineKind::Syntax)),
         [token, behind @ ..] => {
-            let name = name_of(alloc, token.kind, piece_of(text, *token))?;
-            Ok(both(name, weak_mark(text, behind)))
+            let name = name_of(text, *token)?;
+            Ok(both(name, import_mark(text, behind)))
         }
     }
 }
@@ -147,17 +147,17 @@ fn with_one_more(
 /// Operands, each of them an expression.
 fn some_expressions(
     alloc: Global,
-    text: &[u8],
+    text: &SharedText,
     tokens: &[Token],
 ) -> Result<Result<List<Expr>, LineKind>, NoMemory>
     ensures { IfOk result
         (λ all. says.Expressions text.now (operands.operands_at text.now 0 tokens.now) all) }
 {
-    let mut so_far = Ok(List::from_vec(Vec::new(alloc)));
+    let mut so_far = Ok(List::from_vec(Vec::with_capacity(alloc, tokens.len() / 2 + 1)?));
     let mut left = tokens;
     'operands: loop {
         let (operand, behind) = first_operand(text, left);
-        let reading = expression(alloc, text, operand)?;
+        let reading = shared_expression(alloc, text, operand)?;
         so_far = with_one_more(so_far, reading)?;
         match behind {
             None => return Ok(so_far),
@@ -169,7 +169,7 @@ fn some_expressions(
 /// One expression or more.
 pub fn expressions(
     alloc: Global,
-    text: &[u8],
+    text: &SharedText,
     tokens: &[Token],
 ) -> Result<Result<List<Expr>, LineKind>, NoMemory>
     ensures { IfOk result
@@ -183,7 +183,7 @@ pub fn expressions(
 
 /// A name and attributes, where both are read.
 fn area_with(
-    name: Result<Text, LineKind>,
+    name: Result<SharedText, LineKind>,
     attributes: Result<AreaAttributes, LineKind>,
 ) -> Result<DirectiveLine, LineKind>
     ensures { result ≡ readings.on_both (λ n a. line.Area n a) name attributes }
@@ -195,7 +195,7 @@ fn area_with(
 /// The operands of AREA.
 pub fn area(
     alloc: Global,
-    text: &[u8],
+    text: &SharedText,
     tokens: &[Token],
 ) -> Result<Result<DirectiveLine, LineKind>, NoMemory>
     ensures { IfOk result
@@ -205,13 +205,13 @@ pub fn area(
         return Ok(Err(LineKind::Syntax));
     }
     let (operand, behind) = first_operand(text, tokens);
-    let name = name_alone(alloc, text, operand)?;
+    let name = name_alone(text, operand)?;
     let attributes = attributes(alloc, text, behind)?;
     Ok(area_with(name, attributes))
 }
 
 /// Tokens as a register alone.
-fn register_alone(text: &[u8], tokens: &[Token]) -> Option<u8>
+fn register_alone(text: &SharedText, tokens: &[Token]) -> Option<u8>
     ensures { result ≡ says.register_alone text.now tokens.now }
 {
     match tokens {
@@ -224,7 +224,7 @@ fn register_alone(text: &[u8], tokens: &[Token]) -> Option<u8>
 /// The operand of RN.
 pub fn register(
     alloc: Global,
-    text: &[u8],
+    text: &SharedText,
     tokens: &[Token],
 ) -> Result<Result<DirectiveLine, LineKind>, NoMemory>
     ensures { IfOk result
@@ -241,12 +241,12 @@ pub fn register(
 /// An expression in the place of a register.
 fn number(
     alloc: Global,
-    text: &[u8],
+    text: &SharedText,
     tokens: &[Token],
 ) -> Result<Result<DirectiveLine, LineKind>, NoMemory>
     ensures { IfOk result (λ line. says.Register text.now None tokens.now line) }
 {
-    let number = or_kind!(expression(alloc, text, tokens)?);
+    let number = or_kind!(shared_expression(alloc, text, tokens)?);
     Ok(Ok(DirectiveLine::Rn {
         register: RnOperand::Number(number),
     }))
@@ -268,12 +268,12 @@ fn behind_multiple(
 /// One operand of ALIGN.
 fn multiple(
     alloc: Global,
-    text: &[u8],
+    text: &SharedText,
     operand: &[Token],
 ) -> Result<Result<DirectiveLine, LineKind>, NoMemory>
     ensures { IfOk result (λ line. says.Aligned text.now (operand.now ∷ []) line) }
 {
-    let of = or_kind!(expression(alloc, text, operand)?);
+    let of = or_kind!(shared_expression(alloc, text, operand)?);
     Ok(Ok(DirectiveLine::Align {
         boundary: Boundary::Multiple { of },
     }))
@@ -282,21 +282,21 @@ fn multiple(
 /// Two operands of ALIGN.
 fn multiple_and_offset(
     alloc: Global,
-    text: &[u8],
+    text: &SharedText,
     first: &[Token],
     second: &[Token],
 ) -> Result<Result<DirectiveLine, LineKind>, NoMemory>
     ensures { IfOk result (λ line. says.Aligned text.now (first.now ∷ second.now ∷ []) line) }
 {
-    let multiple = expression(alloc, text, first)?;
-    let offset = expression(alloc, text, second)?;
+    let multiple = shared_expression(alloc, text, first)?;
+    let offset = shared_expression(alloc, text, second)?;
     Ok(behind_multiple(multiple, offset))
 }
 
 /// The operands of ALIGN.
 pub fn boundary(
     alloc: Global,
-    text: &[u8],
+    text: &SharedText,
     tokens: &[Token],
 ) -> Result<Result<DirectiveLine, LineKind>, NoMemory>
     ensures { IfOk result
@@ -317,7 +317,7 @@ pub fn boundary(
 /// One operand of ALIGN, and the last behind it.
 fn multiple_and_last(
     alloc: Global,
-    text: &[u8],
+    text: &SharedText,
     first: &[Token],
     tokens: &[Token],
 ) -> Result<Result<DirectiveLine, LineKind>, NoMemory>

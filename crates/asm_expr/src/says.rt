@@ -6,45 +6,43 @@ ghost use Rattle.asm_model.specs.Says as says;
 ghost use Rattle.asm_model.specs.Told.{Told};
 
 use crate::directives::{directive_of, parts_of, read_directive};
+use crate::kinds::earlier;
 use crate::or_kind;
-use asm_model::{FileName, Flat, Statement, Token, What, bad_line};
+use asm_model::{FileName, Flat, SharedText, Statement, Token, What, bad_line};
+use sdt_fault::NoMemory;
 use sdt_fault::answer::Fault;
 use sdt_fault::kinds::LineKind;
-use sdt_fault::{NoMemory, Text};
 use std::alloc::Global;
-
-/// The label of a line, and what stands behind it.
-pub type Labelled = Result<(Option<Text>, What), LineKind>;
 
 /// What a line says, or the kind that is told of it.
 pub type ParsedStatement = Result<Option<Statement>, LineKind>;
 
-/// What was read of a line, behind the line's source. It is generic, so that the proof of the exit where memory runs
-/// out does not go through every form of a line.
-fn sourced<W: Drop>(
-    alloc: Global,
+/// The statement of a line with this source, from what was read of the line.
+pub fn statement(
+    source: FileName,
     line: &Flat,
-    read: Result<W, LineKind>,
-) -> Result<Result<(FileName, W), LineKind>, NoMemory>
-    ensures { IfOk result (λ r. r ≡ readings.mapped (λ w. (line.now.source, w)) read) }
+    label: Result<Option<SharedText>, LineKind>,
+    what: Result<What, LineKind>,
+) -> ParsedStatement
+    ensures { source ≡ line.now.source
+        → result ≡ readings.on_both (says.statement line.now) label what }
 {
-    let what = or_kind!(read);
-    Ok(Ok((line.source.share()?, what)))
-}
-
-/// The statement of a line.
-pub fn statement(alloc: Global, line: &Flat, read: Labelled) -> Result<ParsedStatement, NoMemory>
-    ensures { IfOk result (λ said. said
-        ≡ readings.mapped (λ p. says.statement line.now p.0 p.1) read) }
-{
-    let (source, (label, what)) = or_kind!(sourced(alloc, line, read)?);
-    Ok(Ok(Some(Statement {
-        source,
-        number: line.number,
-        label,
-        what,
-        is_long: false,
-    })))
+    match what {
+        Ok(what) => match label {
+            Ok(label) => Ok(Some(Statement {
+                source,
+                number: line.number,
+                label,
+                what,
+                is_long: false,
+            })),
+            Err(kind) => Err(kind),
+        },
+        Err(kind) => match label {
+            Ok(_) => Err(kind),
+            Err(other) => Err(earlier(other, kind)),
+        },
+    }
 }
 
 /// The statement that a line says, or the refusal of its fault.
@@ -70,13 +68,14 @@ pub fn said_directive(
 ) -> Result<ParsedStatement, NoMemory>
     ensures { IfOk result (λ said. says.SaysDirective line.now tokens.now said) }
 {
-    let text = line.text.as_slice();
+    let text = &line.text;
     let sentence = parts_of(tokens);
     let Some(directive) = directive_of(text, sentence.operation) else {
         return Ok(Ok(None));
     };
+    let source = line.source.share()?;
     let (label, said) = or_kind!(read_directive(alloc, text, sentence, directive)?);
-    statement(alloc, line, Ok((label, What::Directive(said))))
+    Ok(statement(source, line, Ok(label), Ok(What::Directive(said))))
 }
 
 /// What a line says as a directive, from its tokens; None where it has no operation, or its operation is no

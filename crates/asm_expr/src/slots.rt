@@ -29,7 +29,7 @@ fn entry_value(alloc: Global, entry: &LaidName) -> Result<Result<Value, LineKind
         Meaning::Faulty(kind) => Ok(Err(*kind)),
         Meaning::Register => Ok(Err(LineKind::WrongType)),
         _ => {
-            let symbol = entry.name.try_clone(alloc)?;
+            let symbol = entry.name.share()?;
             Ok(Ok(Value::Place { symbol, plus: 0 }))
         }
     }

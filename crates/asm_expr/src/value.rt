@@ -12,9 +12,11 @@ use crate::names::{Seen, entry_named};
 use crate::operators::{binary, unary};
 use crate::or_kind;
 use crate::slots::{Slot, known, slot_of};
-use asm_model::{BinaryOp, EvalFault, Expr, ExprItem, LaidName, Meaning, UnaryOp, Value};
+use asm_model::{
+    BinaryOp, EvalFault, Expr, ExprItem, LaidName, Meaning, SharedText, UnaryOp, Value,
+};
+use sdt_fault::NoMemory;
 use sdt_fault::kinds::LineKind;
-use sdt_fault::{NoMemory, Text};
 use std::alloc::Global;
 
 /// The number of bytes of the statement that defines a name.
@@ -103,7 +105,7 @@ fn operand<'a>(alloc: Global, seen: &Seen<'a>, item: &'a ExprItem) -> Result<Slo
         ExprItem::Constant(value) => Ok(Slot::Constant(value)),
         ExprItem::TooLarge => Ok(Slot::Fault(LineKind::Constant)),
         ExprItem::Here => {
-            let symbol = Text::from_slice(alloc, b"")?;
+            let symbol = SharedText::from_slice(alloc, b"")?;
             Ok(Slot::Known(Value::Place {
                 symbol,
                 plus: seen.offset,

@@ -115,9 +115,9 @@ module _ (a b : Context) (s : Alike a b) where
       rw (s.number low, s.number high, s.number rm, s.number rs) refl
   instruction_alike (arm.Swap condition byte rd rm rn) = rw (s.number rn, s.number rd, s.number rm) refl
   instruction_alike (arm.BranchExchange condition rm) = rw (s.number rm) refl
-  instruction_alike (arm.ReadStatus condition saved rd) = rw (s.number rd) refl
-  instruction_alike (arm.WriteStatus condition saved fields rm) = rw (s.number rm) refl
-  instruction_alike (arm.WriteStatusImmediate condition saved fields e) = rw (number_alike e) refl
+  instruction_alike (arm.ReadStatus condition status rd) = rw (s.number rd) refl
+  instruction_alike (arm.WriteStatus condition fields rm) = rw (s.number rm) refl
+  instruction_alike (arm.WriteStatusImmediate condition fields e) = rw (number_alike e) refl
   instruction_alike (arm.TransferImmediate condition load byte rd (address.Based rn ix e)) =
       rw (number_alike e, s.number rn, s.number rd) refl
   instruction_alike (arm.TransferImmediate condition load byte rd (address.Label e)) =

@@ -71,3 +71,9 @@ pub all_shown : {A E : Type 0} → (x : Lookup) (f : Context → A) (r : Result 
     → IfOk r (λ v. v ≡ f (context_of x)) → IfOk r (λ v. (c : Context) → Shows x c → v ≡ f c)
 all_shown x f (Ok v) same h = λ c s. h ∙ same c (shown_alike x c s)
 all_shown x f (Err e) same h = tt
+
+pub part_shown : {A B E : Type 0} → (x : Lookup) (part : A → B) (f : Context → B) (r : Result A E)
+    → ((c : Context) → Alike (context_of x) c → f (context_of x) ≡ f c)
+    → IfOk r (λ v. part v ≡ f (context_of x)) → IfOk r (λ v. (c : Context) → Shows x c → part v ≡ f c)
+part_shown x part f (Ok v) same h = λ c s. h ∙ same c (shown_alike x c s)
+part_shown x part f (Err e) same h = tt

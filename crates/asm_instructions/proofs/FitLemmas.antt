@@ -23,6 +23,7 @@ use Rattle.asm_model.specs.declared.operands.HalfOffset.TheVariants as half
 use Rattle.asm_model.specs.declared.operands.Indexing.{Indexing}
 use Rattle.asm_model.specs.declared.operands.Indexing.TheVariants as indexing
 use Rattle.asm_model.specs.declared.operands.ListItem.{ListItem}
+use Rattle.asm_model.specs.declared.operands.StatusFields.{StatusFields}
 use Rattle.asm_model.specs.declared.operands.Register.{Register}
 use Rattle.asm_model.specs.declared.operands.Register.TheVariants as reg
 use Rattle.asm_model.specs.declared.operands.Shift.{Shift}
@@ -31,13 +32,12 @@ use Rattle.asm_model.specs.declared.arm_lines.ArmLine.{ArmLine}
 use Rattle.asm_model.specs.declared.arm_lines.ArmLine.TheVariants as arm
 use Rattle.asm_model.specs.declared.statements.PseudoLine.{PseudoLine}
 use Rattle.asm_model.specs.declared.statements.PseudoLine.TheVariants as pseudo
-use Rattle.asm_model.specs.LayoutKinds.{is_true}
 use Rattle.asm_model.specs.Readings.{and_then, mapped}
-use Rattle.asm_model.specs.Said.{RegisterSaid, OperationSaid, FactorSaid, HalfSaid, IsUntranslated, ArmSaid, PseudoSaid}
+use Rattle.asm_model.specs.Said.{RegisterSaid, OperationSaid, FactorSaid, HalfSaid, IsUntranslated, FieldsSaid, ArmSaid, PseudoSaid}
 use Rattle.source_model.specs.Contexts.{Context, value_of, number_in, or_zero, register, magnitude, is_positive, offset_below, own_offset, from_pc}
 use Rattle.source_model.specs.Registers.{register_in}
 use Rattle.source_model.specs.Immediates.{rotations, turned_back, immediate_among, immediate, negated, twin, with_immediate, twin_instruction, data_immediate, status_of}
-use Rattle.source_model.specs.ArmForms.{amount_field, shift_fields, is_before, writes_back, is_listed_by, list_bits, is_block_before, is_block_up, branch_field, branch_displacement, arm_instruction}
+use Rattle.source_model.specs.ArmForms.{amount_field, shift_fields, is_before, writes_back, is_listed_by, list_bits, is_saved, are_saved, mask_of, is_block_before, is_block_up, branch_field, branch_displacement, arm_instruction}
 use Rattle.source_model.specs.PseudoForms.{adding, address_by, address_instruction, first_part, second_part, two_by, two_of, first_of, long_address, one, pseudo_instructions}
 use Rattle.std.specs.List.{list_any}
 use Rattle.asm_instructions.specs.Fits.{NamesRegisters, Fits, AllFit}
@@ -210,6 +210,10 @@ unfolding data_immediate
 data_fits k o s n d number first to h =
     with_fits k o s n d (immediate number) (twin_instruction k s n d (twin o number)) first to (immediate_fits number) h
     (twin_said k s n d (twin o number) first to (twin_fits o (flag s) n d number h))
+
+mask_fits : (fields : Option StatusFields) → FieldsSaid fields → mask_of fields < 2 ^ 4
+mask_fits None h = omega arith
+mask_fits (Some f) h = h.1
 
 status_fits : (k : Condition) (saved : Bool) (fields : ℕ) (i : Option (ℕ × ℕ)) → fields < 2 ^ 4 → HoldsIn IsOperand i → Holds Fits (status_of k saved fields i)
 status_fits k saved fields None low h = tt
@@ -402,11 +406,12 @@ module _ (c : Context) (named : NamesRegisters c) where
   arm_fits (arm.Swap k byte rd rm rn) h =
       record { fields = (condition_below k, (flag_below byte, (fits_register rn h.2, (fits_register rd h.0, (fits_register rm h.1, tt))))); conditions = tt }
   arm_fits (arm.BranchExchange k rm) h = record { fields = (condition_below k, (fits_register rm h, tt)); conditions = tt }
-  arm_fits (arm.ReadStatus k saved rd) h = record { fields = (condition_below k, (flag_below (is_true saved), (fits_register rd h, tt))); conditions = tt }
-  arm_fits (arm.WriteStatus k saved fields rm) h =
-      record { fields = (condition_below k, (flag_below saved, (h.0, (fits_register rm h.1, tt)))); conditions = tt }
-  arm_fits (arm.WriteStatusImmediate k saved fields e) h =
-      then_holds Fits (λ n. status_of k saved fields (immediate n)) (number_in c e) (λ n. status_fits k saved fields (immediate n) h.0 (immediate_fits n))
+  arm_fits (arm.ReadStatus k status rd) h = record { fields = (condition_below k, (flag_below (is_saved status), (fits_register rd h, tt))); conditions = tt }
+  arm_fits (arm.WriteStatus k fields rm) h =
+      record { fields = (condition_below k, (flag_below (are_saved fields), (mask_fits fields h.0, (fits_register rm h.1, tt)))); conditions = tt }
+  arm_fits (arm.WriteStatusImmediate k fields e) h =
+      then_holds Fits (λ n. status_of k (are_saved fields) (mask_of fields) (immediate n)) (number_in c e)
+      (λ n. status_fits k (are_saved fields) (mask_of fields) (immediate n) (mask_fits fields h.0) (immediate_fits n))
   arm_fits (arm.TransferImmediate k load byte rd (address.Based rn ix e)) h =
       then_holds Fits (λ n. mapped (λ o. instr.TransferImmediate k (is_before ix) o.0 byte (writes_back ix) load (register c rn) (register c rd) o.1)
       (offset_below 4096 n))

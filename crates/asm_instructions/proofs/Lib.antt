@@ -6,3 +6,4 @@ mod RotationLemmas
 pub mod ThumbAlikeLemmas
 pub mod ThumbFitLemmas
 pub mod WordLemmas
+mod LoneLemmas

@@ -1,5 +1,8 @@
 -- What the operands of a line are found by, as code keeps it and as definitions have it. This project's.
-use Rattle.std.specs.Prelude.{◌≡◌, ℕ, ◌<◌, List, Some}
+use Rattle.std.specs.Prelude.{◌≡◌, ℕ, ◌<◌, ◌&&◌, List, Bool, Option, Some}
+use Rattle.asm_model.specs.declared.names.LaidName.{LaidName}
+use Rattle.asm_model.specs.Meaning.{entry_stands_at}
+use Rattle.asm_model.specs.Symbols.{is_in_area, keeps_state}
 use Rattle.asm_names.specs.PlacedLines.{line_of, Sees}
 use Rattle.source_model.specs.Contexts.{Context}
 use Rattle.source_model.specs.Registers.{register_in}
@@ -19,3 +22,7 @@ context_of x = record {
   line = line_of x.line.now;
   registers = x.registers.now;
 }
+
+-- whether a branch to a name with this entry is settled
+abbrev pub is_settled_at : Context → Option LaidName → Bool
+is_settled_at c entry = is_in_area c.line.area (entry_stands_at entry) && keeps_state c.line.thumb entry

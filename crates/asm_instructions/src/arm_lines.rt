@@ -1,31 +1,29 @@
 //! All lines of ARM state.
 
 ghost use Rattle.std.specs.Prelude.{◌≡◌, ◌^◌, nat_lt, Ok, Err, if◌then◌else◌, IfOk};
-ghost use Rattle.std.specs.Option.{option_copied};
 ghost use Rattle.sdt_fault.specs.declared.kinds.LineKind.TheVariants.{OutOfRange};
 ghost use Rattle.arm_isa.specs.declared.instr.ArmInstr.TheVariants as instr;
 ghost use Rattle.asm_model.specs.declared.arm_lines.ArmLine.TheVariants as arm;
-ghost use Rattle.asm_model.specs.LayoutKinds as kinds;
 ghost use Rattle.asm_model.specs.Readings.{and_then};
-ghost use Rattle.asm_model.specs.Said.{IsRead, ArmSaid, ThumbSaid};
-ghost use Rattle.asm_model.specs.SaidParts.{TargetSaid};
+ghost use Rattle.asm_model.specs.Said.{IsRead, ArmSaid};
 ghost use Rattle.source_model.specs.ArmForms as forms;
 ghost use Rattle.source_model.specs.Contexts.{Context};
 ghost use Rattle.source_model.specs.Units as units;
 ghost use Rattle.asm_instructions.specs.Lookups.{Shows, context_of};
 
 use crate::blocks::transfer_block;
-use crate::branches::{branch, target_symbol};
+use crate::branches::{ArmUnit, branch};
 use crate::data::{
-    data_number, data_register_shifted, data_shifted, multiply, multiply_long, status_number, swap,
+    are_saved, data_number, data_register_shifted, data_shifted, is_saved, mask_of, multiply,
+    multiply_long, status_number, swap,
 };
 use crate::lookups::{Lookup, register};
 use crate::transfers::{transfer, transfer_half, transfer_shifted};
 use crate::values::number_there;
 use arm_isa::ArmInstr;
-use asm_model::{ArmLine, Expr, ThumbLine, arm_target, thumb_target};
+use asm_model::{ArmLine, Expr};
+use sdt_fault::NoMemory;
 use sdt_fault::kinds::LineKind;
-use sdt_fault::{NoMemory, Text};
 use sdt_word::Condition;
 use std::alloc::Global;
 
@@ -54,16 +52,6 @@ fn interrupt(
 {
     let number = number_there(alloc, lookup, number)?;
     Ok(interrupt_by(condition, number))
-}
-
-/// Whether a word that may say so does, as SPSR and WEAK do; one that isn't right says nothing.
-pub fn is_true(word: Option<bool>) -> bool
-    ensures { result ≡ kinds.is_true word }
-{
-    match word {
-        Some(word) => word,
-        None => false,
-    }
 }
 
 /// The instruction that a line says with what the lookup finds, or the kind of its fault.
@@ -162,36 +150,34 @@ fn instruction_there(
         }
         ArmLine::ReadStatus {
             condition,
-            saved,
+            status,
             rd,
         } => {
             let rd = register(lookup, rd);
             Ok(Ok(ArmInstr::ReadStatus {
                 condition: *condition,
-                saved: is_true(*saved),
+                saved: is_saved(*status),
                 rd,
             }))
         }
         ArmLine::WriteStatus {
             condition,
-            saved,
             fields,
             rm,
         } => {
             let rm = register(lookup, rm);
             Ok(Ok(ArmInstr::WriteStatus {
                 condition: *condition,
-                saved: *saved,
-                fields: *fields,
+                saved: are_saved(*fields),
+                fields: mask_of(*fields),
                 rm,
             }))
         }
         ArmLine::WriteStatusImmediate {
             condition,
-            saved,
             fields,
             value,
-        } => { status_number(alloc, lookup, *condition, *saved, *fields, value) }
+        } => { status_number(alloc, lookup, *condition, *fields, value) }
         ArmLine::TransferImmediate {
             condition,
             load,
@@ -251,87 +237,43 @@ fn instruction_there(
             condition,
             link,
             target,
-        } => { branch(alloc, lookup, *condition, *link, target) }
+        } => {
+            let (instruction, _) = branch(alloc, lookup, *condition, *link, target)?;
+            Ok(instruction)
+        }
         ArmLine::SoftwareInterrupt { condition, number } => {
             interrupt(alloc, lookup, *condition, number)
         }
     }
 }
 
-/// The instruction that a line says, or the kind of its fault. A branch that is left to the linker holds its number
-/// less how far pc stands behind the start of the area.
-pub fn arm_instruction(
-    alloc: Global,
-    lookup: &Lookup<'_>,
-    line: &ArmLine,
-) -> Result<Result<ArmInstr, LineKind>, NoMemory>
+fn unit_there(alloc: Global, lookup: &Lookup<'_>, line: &ArmLine) -> Result<ArmUnit, NoMemory>
     requires { ArmSaid line.now }
-    ensures { IfOk result (λ i. (c : Context) → Shows lookup.now c → i
-        ≡ forms.arm_instruction c line.now) }
+    ensures instruction { IfOk result (λ unit. unit.0
+        ≡ forms.arm_instruction (context_of lookup.now) line.now) }
+    ensures symbol { IfOk result (λ unit. unit.1
+        ≡ units.branch_symbol (context_of lookup.now) line.now) }
 {
-    instruction_there(alloc, lookup, line)
-}
-
-/// The symbol of a target that is left to the linker.
-fn symbol_of(
-    alloc: Global,
-    lookup: &Lookup<'_>,
-    target: Option<&Expr>,
-) -> Result<Option<Text>, NoMemory>
-    requires { TargetSaid (option_copied target) }
-    ensures { IfOk result (λ s. s
-        ≡ units.target_symbol (context_of lookup.now) (option_copied target.entry)) }
-{
-    match target {
-        None => Ok(None),
-        Some(target) => target_symbol(alloc, lookup, target),
+    if let ArmLine::Branch {
+        condition,
+        link,
+        target,
+    } = line
+    {
+        return branch(alloc, lookup, *condition, *link, target);
     }
+    let instruction = instruction_there(alloc, lookup, line)?;
+    Ok((instruction, None))
 }
 
-fn symbol_there(
-    alloc: Global,
-    lookup: &Lookup<'_>,
-    line: &ArmLine,
-) -> Result<Option<Text>, NoMemory>
+/// The instruction that a line says, or the kind of its fault, and the symbol of a branch that is left to the linker. Such a
+/// branch holds its number less how far pc stands behind the start of the area.
+pub fn arm_unit(alloc: Global, lookup: &Lookup<'_>, line: &ArmLine) -> Result<ArmUnit, NoMemory>
     requires { ArmSaid line.now }
-    ensures { IfOk result (λ s. s ≡ units.branch_symbol (context_of lookup.now) line.now) }
-{
-    symbol_of(alloc, lookup, arm_target(line))
-}
-
-/// The symbol of a branch that is left to the linker.
-pub fn branch_symbol(
-    alloc: Global,
-    lookup: &Lookup<'_>,
-    line: &ArmLine,
-) -> Result<Option<Text>, NoMemory>
-    requires { ArmSaid line.now }
-    ensures { IfOk result (λ s. (c : Context) → Shows lookup.now c → s
+    ensures instruction { IfOk result (λ unit. (c : Context) → Shows lookup.now c → unit.0
+        ≡ forms.arm_instruction c line.now) }
+    ensures symbol { IfOk result (λ unit. (c : Context) → Shows lookup.now c → unit.1
         ≡ units.branch_symbol c line.now) }
 {
-    symbol_there(alloc, lookup, line)
-}
-
-fn link_there(
-    alloc: Global,
-    lookup: &Lookup<'_>,
-    line: &ThumbLine,
-) -> Result<Option<Text>, NoMemory>
-    requires { ThumbSaid line.now }
-    ensures { IfOk result (λ s. s ≡ units.link_symbol (context_of lookup.now) line.now) }
-{
-    symbol_of(alloc, lookup, thumb_target(line))
-}
-
-/// The symbol of a BL of Thumb state that is left to the linker.
-pub fn link_symbol(
-    alloc: Global,
-    lookup: &Lookup<'_>,
-    line: &ThumbLine,
-) -> Result<Option<Text>, NoMemory>
-    requires { ThumbSaid line.now }
-    ensures { IfOk result (λ s. (c : Context) → Shows lookup.now c → s
-        ≡ units.link_symbol c line.now) }
-{
-    link_there(alloc, lookup, line)
+    unit_there(alloc, lookup, line)
 }

@@ -1,26 +1,35 @@
 //! Branches.
 
-ghost use Rattle.std.specs.Prelude.{◌≡◌, Ok, IfOk};
+ghost use Rattle.std.specs.Prelude.{◌≡◌, ◌+◌, Ok, IfOk};
 ghost use Rattle.std.specs.Option.{option_copied};
 ghost use Rattle.arm_isa.specs.declared.instr.ArmInstr.TheVariants as instr;
 ghost use Rattle.asm_model.specs.declared.arm_lines.ArmLine.TheVariants as arm;
 ghost use Rattle.asm_model.specs.declared.values.Value.TheVariants as value;
+ghost use Rattle.asm_model.specs.Meaning as meaning;
+ghost use Rattle.asm_model.specs.Meaning.{named_in};
 ghost use Rattle.asm_model.specs.Readings.{and_then, mapped};
 ghost use Rattle.asm_model.specs.Symbols as symbols;
 ghost use Rattle.asm_model.specs.Said.{IsRead};
 ghost use Rattle.source_model.specs.ArmForms as forms;
+ghost use Rattle.source_model.specs.Contexts as contexts;
 ghost use Rattle.source_model.specs.Contexts.{value_of};
 ghost use Rattle.source_model.specs.Units as units;
-ghost use Rattle.asm_instructions.specs.Lookups.{context_of};
+ghost use Rattle.asm_instructions.specs.Lookups.{context_of, is_settled_at};
 
-use crate::lookups::{Lookup, may_have_symbol, stands_at};
+use crate::lookups::{Lookup, entry_stands_at, lone_place, may_have_symbol};
 use crate::values::{from_pc, value_there};
 use arm_isa::ArmInstr;
-use asm_model::{Expr, LaidName, Meaning, Value};
+use asm_model::{Expr, LaidName, Meaning, SharedText, Value};
+use sdt_fault::NoMemory;
 use sdt_fault::kinds::LineKind;
-use sdt_fault::{NoMemory, Text};
 use sdt_word::Condition;
 use std::alloc::Global;
+
+/// An instruction of ARM state, or the kind of its fault, and the symbol that a branch leaves to the linker.
+pub type ArmUnit = (Result<ArmInstr, LineKind>, Option<SharedText>);
+
+/// What a branch holds, or the kind of its fault, and the symbol that it leaves to the linker.
+pub type Lead = (Result<u32, LineKind>, Option<SharedText>);
 
 /// A displacement modulo 2^32 as the field of a branch.
 fn branch_field(displacement: u32) -> Result<u32, LineKind>
@@ -78,13 +87,13 @@ fn keeps_state(thumb: bool, entry: Option<&LaidName>) -> bool
     }
 }
 
-/// Whether a branch of the line to a symbol is settled here: it is a label of the same area and state, or another place of
-/// the area.
-pub fn is_settled(lookup: &Lookup<'_>, symbol: &Text) -> bool
-    ensures { result ≡ forms.is_settled (context_of lookup.now) symbol.now }
+/// Whether a branch of the line to a name with this entry is settled here: it is a label of the same area and state, or
+/// another place of the area.
+pub fn is_settled(lookup: &Lookup<'_>, entry: Option<&LaidName>) -> bool
+    ensures { result ≡ is_settled_at (context_of lookup.now) (option_copied entry.entry) }
 {
-    if is_in_area(lookup.line.place.area, stands_at(lookup, symbol)) {
-        return keeps_state(lookup.line.place.thumb, lookup.names.find(symbol));
+    if is_in_area(lookup.line.place.area, entry_stands_at(entry)) {
+        return keeps_state(lookup.line.place.thumb, entry);
     }
     false
 }
@@ -99,54 +108,74 @@ pub fn offset_at(place: Option<(u32, u32)>) -> u32
     }
 }
 
-/// The displacement that a branch to a symbol plus a number holds; a symbol that is left to the linker counts as 0.
-fn branch_from(lookup: &Lookup<'_>, symbol: &Text, plus: u32) -> u32
-    ensures { result ≡ forms.branch_from (context_of lookup.now) symbol.now plus }
+/// The displacement to an entry's offset plus a number.
+fn displacement_to(lookup: &Lookup<'_>, entry: Option<&LaidName>, plus: u32) -> u32
+    ensures { result ≡ contexts.from_pc (context_of lookup.now)
+        (forms.offset_at (meaning.entry_stands_at (option_copied entry.entry)) + plus) }
 {
-    if symbol.as_slice().is_empty() {
-        return from_pc(lookup, plus);
-    }
-    if is_settled(lookup, symbol) {
-        let offset = offset_at(stands_at(lookup, symbol));
-        return from_pc(lookup, offset.wrapping_add(plus));
-    }
-    from_pc(lookup, plus)
+    from_pc(lookup, offset_at(entry_stands_at(entry)).wrapping_add(plus))
 }
 
-/// A branch that isn't settled needs a symbol.
-pub fn has_symbol(lookup: &Lookup<'_>, symbol: &Text) -> bool
-    ensures { result ≡ forms.has_symbol (context_of lookup.now) symbol.now }
-{
-    if symbol.as_slice().is_empty() {
-        return true;
-    }
-    if is_settled(lookup, symbol) {
-        return true;
-    }
-    may_have_symbol(lookup.names, symbol)
-}
-
-fn place_displacement(lookup: &Lookup<'_>, symbol: &Text, plus: u32) -> Result<u32, LineKind>
-    ensures { result ≡ forms.branch_displacement (context_of lookup.now)
-        (Ok (value.Place symbol.now plus)) }
-{
-    if has_symbol(lookup, symbol) {
-        return Ok(branch_from(lookup, symbol, plus));
-    }
-    Err(LineKind::BadOperand)
-}
-
-fn branch_displacement(
+/// The displacement that a branch to a symbol with this entry plus a number holds, and the symbol where it is left to the
+/// linker: it then counts as 0.
+fn place_lead(
     lookup: &Lookup<'_>,
-    target: Result<Value, LineKind>,
-) -> Result<u32, LineKind>
-    ensures { result ≡ forms.branch_displacement (context_of lookup.now) target }
+    entry: Option<&LaidName>,
+    symbol: &SharedText,
+    plus: u32,
+) -> Result<Lead, NoMemory>
+    requires { option_copied entry ≡ named_in symbol.now lookup.now.names.now }
+    ensures displacement { IfOk result (λ lead. lead.0
+        ≡ forms.branch_displacement (context_of lookup.now) (Ok (value.Place symbol.now plus))) }
+    ensures symbol { IfOk result (λ lead. lead.1
+        ≡ units.linked_symbol (context_of lookup.now) (Ok (value.Place symbol.now plus))) }
+{
+    if symbol.as_slice().is_empty() {
+        return Ok((Ok(from_pc(lookup, plus)), None));
+    }
+    if is_settled(lookup, entry) {
+        return Ok((Ok(displacement_to(lookup, entry, plus)), None));
+    }
+    let left = symbol.share()?;
+    if may_have_symbol(entry, symbol) {
+        return Ok((Ok(from_pc(lookup, plus)), Some(left)));
+    }
+    Ok((Err(LineKind::BadOperand), Some(left)))
+}
+
+/// The displacement that a branch to a target holds, and the symbol that is left to the linker.
+fn lead_of(lookup: &Lookup<'_>, target: Result<Value, LineKind>) -> Result<Lead, NoMemory>
+    ensures displacement { IfOk result (λ lead. lead.0
+        ≡ forms.branch_displacement (context_of lookup.now) target) }
+    ensures symbol { IfOk result (λ lead. lead.1
+        ≡ units.linked_symbol (context_of lookup.now) target) }
 {
     match target {
-        Ok(Value::Place { symbol, plus }) => place_displacement(lookup, &symbol, plus),
-        Ok(Value::Number(_)) => Err(LineKind::BadOperand),
-        Ok(_) => Err(LineKind::WrongType),
-        Err(kind) => Err(kind),
+        Ok(Value::Place { symbol, plus }) => {
+            place_lead(lookup, lookup.names.find(&symbol), &symbol, plus)
+        }
+        Ok(Value::Number(_)) => Ok((Err(LineKind::BadOperand), None)),
+        Ok(_) => Ok((Err(LineKind::WrongType), None)),
+        Err(kind) => Ok((Err(kind), None)),
+    }
+}
+
+/// The same of an expression. A label alone, as most are, is found once.
+fn lead_there(alloc: Global, lookup: &Lookup<'_>, target: &Expr) -> Result<Lead, NoMemory>
+    requires { IsRead target.now }
+    ensures displacement { IfOk result (λ lead. lead.0
+        ≡ forms.branch_displacement (context_of lookup.now)
+        (value_of (context_of lookup.now) target.now)) }
+    ensures symbol { IfOk result (λ lead. lead.1
+        ≡ units.linked_symbol (context_of lookup.now)
+        (value_of (context_of lookup.now) target.now)) }
+{
+    match lone_place(lookup, target) {
+        Some(entry) => place_lead(lookup, Some(entry), &entry.name, 0),
+        None => {
+            let value = value_there(alloc, lookup, target)?;
+            lead_of(lookup, value)
+        }
     }
 }
 
@@ -167,53 +196,34 @@ fn branch_by(
     })
 }
 
+/// A branch, or the kind of its fault, and the symbol that it leaves to the linker.
 pub fn branch(
     alloc: Global,
     lookup: &Lookup<'_>,
     condition: Condition,
     link: bool,
     target: &Expr,
-) -> Result<Result<ArmInstr, LineKind>, NoMemory>
+) -> Result<ArmUnit, NoMemory>
     requires { IsRead target.now }
-    ensures { IfOk result (λ i. i
+    ensures instruction { IfOk result (λ unit. unit.0
         ≡ forms.arm_instruction (context_of lookup.now) (arm.Branch condition link target.now)) }
+    ensures symbol { IfOk result (λ unit. unit.1
+        ≡ units.branch_symbol (context_of lookup.now) (arm.Branch condition link target.now)) }
 {
-    let value = value_there(alloc, lookup, target)?;
-    let displacement = branch_displacement(lookup, value);
-    Ok(branch_by(condition, link, displacement))
+    let (displacement, symbol) = lead_there(alloc, lookup, target)?;
+    Ok((branch_by(condition, link, displacement), symbol))
 }
 
-/// A symbol that is left to the linker.
-fn unsettled(lookup: &Lookup<'_>, symbol: Text) -> Option<Text>
-    ensures { result ≡ units.linked_symbol (context_of lookup.now) (Ok (value.Place symbol 0)) }
-{
-    if symbol.as_slice().is_empty() {
-        return None;
-    }
-    if is_settled(lookup, &symbol) {
-        return None;
-    }
-    Some(symbol)
-}
-
-fn linked_symbol(lookup: &Lookup<'_>, target: Result<Value, LineKind>) -> Option<Text>
-    ensures { result ≡ units.linked_symbol (context_of lookup.now) target }
-{
-    match target {
-        Ok(Value::Place { symbol, plus: _ }) => unsettled(lookup, symbol),
-        _ => None,
-    }
-}
-
+/// The symbol of a target that is left to the linker.
 pub fn target_symbol(
     alloc: Global,
     lookup: &Lookup<'_>,
     target: &Expr,
-) -> Result<Option<Text>, NoMemory>
+) -> Result<Option<SharedText>, NoMemory>
     requires { IsRead target.now }
     ensures { IfOk result (λ s. s ≡ units.linked_symbol (context_of lookup.now)
         (value_of (context_of lookup.now) target.now)) }
 {
-    let value = value_there(alloc, lookup, target)?;
-    Ok(linked_symbol(lookup, value))
+    let (_, symbol) = lead_there(alloc, lookup, target)?;
+    Ok(symbol)
 }

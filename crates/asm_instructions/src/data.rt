@@ -14,7 +14,7 @@ use crate::lookups::{Lookup, register};
 use crate::shifts::shift_fields;
 use crate::values::number_there;
 use arm_isa::{ArmInstr, Operation};
-use asm_model::{Expr, Register, Shift};
+use asm_model::{Expr, Register, Shift, StatusFields, StatusRegister};
 use sdt_fault::NoMemory;
 use sdt_fault::kinds::LineKind;
 use sdt_word::{Condition, ShiftKind};
@@ -200,32 +200,61 @@ pub fn swap(
     }
 }
 
+/// Whether a status register is the saved one; a word that names none says nothing.
+pub fn is_saved(status: Option<StatusRegister>) -> bool
+    ensures { result ≡ forms.is_saved status }
+{
+    match status {
+        Some(StatusRegister::Saved) => true,
+        _ => false,
+    }
+}
+
+/// Whether fields are those of the saved status register.
+pub fn are_saved(fields: Option<StatusFields>) -> bool
+    ensures { result ≡ forms.are_saved fields }
+{
+    match fields {
+        Some(fields) => is_saved(Some(fields.register)),
+        None => false,
+    }
+}
+
+/// The mask of fields, without a bit where a word names none.
+pub fn mask_of(fields: Option<StatusFields>) -> u8
+    ensures { result ≡ forms.mask_of fields }
+{
+    match fields {
+        Some(fields) => fields.mask,
+        None => 0,
+    }
+}
+
 fn status_with_number(
     condition: Condition,
-    saved: bool,
-    fields: u8,
+    fields: Option<StatusFields>,
     number: Result<u32, LineKind>,
 ) -> Result<ArmInstr, LineKind>
     ensures { result ≡ and_then number
-        (λ n. immediates.status_of condition saved fields (immediates.immediate n)) }
+        (λ n. immediates.status_of condition (forms.are_saved fields) (forms.mask_of fields)
+        (immediates.immediate n)) }
 {
     let number = number?;
-    status_of(condition, saved, fields, number)
+    status_of(condition, are_saved(fields), mask_of(fields), number)
 }
 
 pub fn status_number(
     alloc: Global,
     lookup: &Lookup<'_>,
     condition: Condition,
-    saved: bool,
-    fields: u8,
+    fields: Option<StatusFields>,
     value: &Expr,
 ) -> Result<Result<ArmInstr, LineKind>, NoMemory>
     requires { IsRead value.now }
     ensures { IfOk result (λ i. i
         ≡ forms.arm_instruction (context_of lookup.now)
-        (arm.WriteStatusImmediate condition saved fields value.now)) }
+        (arm.WriteStatusImmediate condition fields value.now)) }
 {
     let number = number_there(alloc, lookup, value)?;
-    Ok(status_with_number(condition, saved, fields, number))
+    Ok(status_with_number(condition, fields, number))
 }

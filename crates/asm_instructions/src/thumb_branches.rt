@@ -1,23 +1,30 @@
 //! Branches of Thumb state.
 
-ghost use Rattle.std.specs.Prelude.{◌≡◌, ◌<◌, ◌≤◌, ◌^◌, Ok, IfOk};
+ghost use Rattle.std.specs.Prelude.{◌≡◌, ◌+◌, ◌<◌, ◌≤◌, ◌^◌, ◌&&◌, not, Ok, IfOk};
+ghost use Rattle.std.specs.Option.{option_copied};
 ghost use Rattle.asm_model.specs.declared.thumb_lines.ThumbLine.TheVariants as thumb;
 ghost use Rattle.asm_model.specs.declared.values.Value.TheVariants as value;
-ghost use Rattle.asm_model.specs.Readings.{and_then};
+ghost use Rattle.asm_model.specs.Labels as labels;
+ghost use Rattle.asm_model.specs.Meaning as meaning;
+ghost use Rattle.asm_model.specs.Meaning.{named_in};
+ghost use Rattle.asm_model.specs.Readings.{and_then, mapped};
 ghost use Rattle.asm_model.specs.Said.{IsRead};
+ghost use Rattle.source_model.specs.ArmForms as arm_forms;
+ghost use Rattle.source_model.specs.Contexts as contexts;
 ghost use Rattle.source_model.specs.Contexts.{value_of};
 ghost use Rattle.source_model.specs.ThumbForms as forms;
+ghost use Rattle.source_model.specs.Units as units;
 ghost use Rattle.asm_instructions.specs.Lookups.{context_of};
 
-use crate::branches::{has_symbol, is_settled, offset_at};
-use crate::lookups::{Lookup, stands_at};
-use crate::thumb_data::ThumbResult;
+use crate::branches::{Lead, is_settled, offset_at};
+use crate::lookups::{Lookup, entry_stands_at, lone_place, may_have_symbol};
+use crate::thumb_data::{ThumbResult, ThumbUnit};
 use crate::thumb_values::offset_below;
 use crate::values::{number_there, value_there};
 use asm_expr::or_kind;
-use asm_model::{Expr, Value};
+use asm_model::{Expr, LaidName, SharedText, Value};
+use sdt_fault::NoMemory;
 use sdt_fault::kinds::LineKind;
-use sdt_fault::{NoMemory, Text};
 use sdt_word::Condition;
 use source_model::ThumbCode;
 use std::alloc::Global;
@@ -50,88 +57,128 @@ fn half_words(limit: u32, displacement: u32) -> Result<u32, LineKind>
     Err(LineKind::OutOfRange)
 }
 
-/// The displacement to a symbol plus a number; a symbol that is left to the linker counts as 0.
-fn thumb_from(lookup: &Lookup<'_>, symbol: &Text, plus: u32) -> u32
-    ensures { result ≡ forms.thumb_from (context_of lookup.now) symbol.now plus }
+/// The displacement to an entry's offset plus a number.
+fn displacement_to(lookup: &Lookup<'_>, entry: Option<&LaidName>, plus: u32) -> u32
+    ensures { result ≡ forms.behind_pc (context_of lookup.now)
+        (arm_forms.offset_at (meaning.entry_stands_at (option_copied entry.entry)) + plus) }
 {
-    if symbol.as_slice().is_empty() {
-        return behind_pc(lookup, plus);
-    }
-    if is_settled(lookup, symbol) {
-        let offset = offset_at(stands_at(lookup, symbol));
-        return behind_pc(lookup, offset.wrapping_add(plus));
-    }
-    behind_pc(lookup, plus)
+    behind_pc(lookup, offset_at(entry_stands_at(entry)).wrapping_add(plus))
 }
 
-fn is_settled_place(lookup: &Lookup<'_>, symbol: &Text) -> bool
-    ensures { result ≡ forms.is_settled_place (context_of lookup.now) symbol.now }
-{
-    if symbol.as_slice().is_empty() {
-        return true;
-    }
-    is_settled(lookup, symbol)
-}
-
-/// Whether a branch may lead to a symbol: all are settled here but BL, which may be left to the linker.
-fn can_branch(link: bool, lookup: &Lookup<'_>, symbol: &Text) -> bool
-    ensures { result ≡ forms.can_branch link (context_of lookup.now) symbol.now }
+/// Whether a branch may be left to the linker: BL may, where a symbol may have the name.
+fn can_link(link: bool, entry: Option<&LaidName>, symbol: &SharedText) -> bool
+    ensures { result ≡ (link && (contexts.is_symbol_entry (option_copied entry.entry) && not
+        (labels.is_hidden symbol.now))) }
 {
     if link {
-        return has_symbol(lookup, symbol);
+        return may_have_symbol(entry, symbol);
     }
-    is_settled_place(lookup, symbol)
+    false
 }
 
-fn place_displacement(
+/// The displacement to a symbol with this entry plus a number, and the symbol where it is left to the linker: it then
+/// counts as 0.
+fn place_lead(
     link: bool,
     lookup: &Lookup<'_>,
-    symbol: &Text,
+    entry: Option<&LaidName>,
+    symbol: &SharedText,
     plus: u32,
-) -> Result<u32, LineKind>
-    ensures { result ≡ forms.thumb_displacement link (context_of lookup.now)
-        (Ok (value.Place symbol.now plus)) }
+) -> Result<Lead, NoMemory>
+    requires { option_copied entry ≡ named_in symbol.now lookup.now.names.now }
+    ensures displacement { IfOk result (λ lead. lead.0
+        ≡ forms.thumb_displacement link (context_of lookup.now)
+        (Ok (value.Place symbol.now plus))) }
+    ensures symbol { IfOk result (λ lead. lead.1
+        ≡ units.linked_symbol (context_of lookup.now) (Ok (value.Place symbol.now plus))) }
 {
-    if can_branch(link, lookup, symbol) {
-        return Ok(thumb_from(lookup, symbol, plus));
+    if symbol.as_slice().is_empty() {
+        return Ok((Ok(behind_pc(lookup, plus)), None));
     }
-    Err(LineKind::BadOperand)
+    if is_settled(lookup, entry) {
+        return Ok((Ok(displacement_to(lookup, entry, plus)), None));
+    }
+    let left = symbol.share()?;
+    if can_link(link, entry, symbol) {
+        return Ok((Ok(behind_pc(lookup, plus)), Some(left)));
+    }
+    Ok((Err(LineKind::BadOperand), Some(left)))
 }
 
-fn displacement(
+/// The displacement to a target, and the symbol that is left to the linker.
+fn lead_of(
     link: bool,
     lookup: &Lookup<'_>,
     target: Result<Value, LineKind>,
-) -> Result<u32, LineKind>
-    ensures { result ≡ forms.thumb_displacement link (context_of lookup.now) target }
+) -> Result<Lead, NoMemory>
+    ensures displacement { IfOk result (λ lead. lead.0
+        ≡ forms.thumb_displacement link (context_of lookup.now) target) }
+    ensures symbol { IfOk result (λ lead. lead.1
+        ≡ units.linked_symbol (context_of lookup.now) target) }
 {
     match target {
-        Ok(Value::Place { symbol, plus }) => place_displacement(link, lookup, &symbol, plus),
-        Ok(Value::Number(_)) => Err(LineKind::BadOperand),
-        Ok(_) => Err(LineKind::WrongType),
-        Err(kind) => Err(kind),
+        Ok(Value::Place { symbol, plus }) => {
+            place_lead(link, lookup, lookup.names.find(&symbol), &symbol, plus)
+        }
+        Ok(Value::Number(_)) => Ok((Err(LineKind::BadOperand), None)),
+        Ok(_) => Ok((Err(LineKind::WrongType), None)),
+        Err(kind) => Ok((Err(kind), None)),
     }
 }
 
-/// The field of a branch to a target, below a limit.
+/// The same of an expression. A label alone, as most are, is found once.
+fn lead_there(
+    alloc: Global,
+    lookup: &Lookup<'_>,
+    link: bool,
+    target: &Expr,
+) -> Result<Lead, NoMemory>
+    requires { IsRead target.now }
+    ensures displacement { IfOk result (λ lead. lead.0
+        ≡ forms.thumb_displacement link (context_of lookup.now)
+        (value_of (context_of lookup.now) target.now)) }
+    ensures symbol { IfOk result (λ lead. lead.1
+        ≡ units.linked_symbol (context_of lookup.now)
+        (value_of (context_of lookup.now) target.now)) }
+{
+    match lone_place(lookup, target) {
+        Some(entry) => place_lead(link, lookup, Some(entry), &entry.name, 0),
+        None => {
+            let value = value_there(alloc, lookup, target)?;
+            lead_of(link, lookup, value)
+        }
+    }
+}
+
+fn field_of(limit: u32, displacement: Result<u32, LineKind>) -> Result<u32, LineKind>
+    requires positive { 0 < limit }
+    requires narrow { limit ≤ 2 ^ 22 }
+    ensures is { result ≡ and_then displacement (forms.half_words limit) }
+    ensures below { IfOk result (λ field. field < limit) }
+{
+    half_words(limit, displacement?)
+}
+
+/// The field of a branch to a target, below a limit, and the symbol that is left to the linker.
 fn field_to(
     alloc: Global,
     lookup: &Lookup<'_>,
     link: bool,
     limit: u32,
     target: &Expr,
-) -> Result<Result<u32, LineKind>, NoMemory>
+) -> Result<Lead, NoMemory>
     requires read { IsRead target.now }
     requires positive { 0 < limit }
     requires narrow { limit ≤ 2 ^ 22 }
-    ensures is { IfOk result (λ f. f
+    ensures is { IfOk result (λ lead. lead.0
         ≡ and_then (forms.thumb_displacement link (context_of lookup.now)
         (value_of (context_of lookup.now) target.now)) (forms.half_words limit)) }
-    ensures below { IfOk result (λ f. IfOk f (λ field. field < limit)) }
+    ensures below { IfOk result (λ lead. IfOk lead.0 (λ field. field < limit)) }
+    ensures symbol { IfOk result (λ lead. lead.1 ≡ units.linked_symbol (context_of lookup.now)
+        (value_of (context_of lookup.now) target.now)) }
 {
-    let value = value_there(alloc, lookup, target)?;
-    let distance = or_kind!(displacement(link, lookup, value));
-    Ok(half_words(limit, distance))
+    let (displacement, symbol) = lead_there(alloc, lookup, link, target)?;
+    Ok((field_of(limit, displacement), symbol))
 }
 
 pub fn branch_conditional(
@@ -145,7 +192,8 @@ pub fn branch_conditional(
         ≡ forms.thumb_instruction (context_of lookup.now)
         (thumb.BranchConditional condition target.now)) }
 {
-    let field = or_kind!(field_to(alloc, lookup, false, 256, target)?);
+    let (field, _) = field_to(alloc, lookup, false, 256, target)?;
+    let field = or_kind!(field);
     let offset = field as u8;
     Ok(Ok(ThumbCode::One(ThumbInstr::BranchConditional { condition, offset })))
 }
@@ -155,19 +203,30 @@ pub fn branch(alloc: Global, lookup: &Lookup<'_>, target: &Expr) -> ThumbResult
     ensures { IfOk result (λ i. i
         ≡ forms.thumb_instruction (context_of lookup.now) (thumb.Branch target.now)) }
 {
-    let field = or_kind!(field_to(alloc, lookup, false, 0x800, target)?);
+    let (field, _) = field_to(alloc, lookup, false, 0x800, target)?;
+    let field = or_kind!(field);
     let offset = field as u16;
     Ok(Ok(ThumbCode::One(ThumbInstr::Branch { offset })))
 }
 
-/// BL: both halves.
-pub fn branch_link(alloc: Global, lookup: &Lookup<'_>, target: &Expr) -> ThumbResult
-    requires { IsRead target.now }
-    ensures { IfOk result (λ i. i
-        ≡ forms.thumb_instruction (context_of lookup.now) (thumb.BranchLink target.now)) }
+fn pair_of(field: Result<u32, LineKind>) -> Result<ThumbCode, LineKind>
+    requires { IfOk field (λ field. field < 2 ^ 22) }
+    ensures { result ≡ mapped forms.pair_fields field }
 {
-    let field = or_kind!(field_to(alloc, lookup, true, 0x40_0000, target)?);
-    Ok(Ok(ThumbCode::Pair((field / 0x800) as u16, (field % 0x800) as u16)))
+    let field = field?;
+    Ok(ThumbCode::Pair((field / 0x800) as u16, (field % 0x800) as u16))
+}
+
+/// BL: both halves, and the symbol that it leaves to the linker.
+pub fn branch_link(alloc: Global, lookup: &Lookup<'_>, target: &Expr) -> Result<ThumbUnit, NoMemory>
+    requires { IsRead target.now }
+    ensures code { IfOk result (λ unit. unit.0
+        ≡ forms.thumb_instruction (context_of lookup.now) (thumb.BranchLink target.now)) }
+    ensures symbol { IfOk result (λ unit. unit.1
+        ≡ units.link_symbol (context_of lookup.now) (thumb.BranchLink target.now)) }
+{
+    let (field, symbol) = field_to(alloc, lookup, true, 0x40_0000, target)?;
+    Ok((pair_of(field), symbol))
 }
 
 pub fn software_interrupt(alloc: Global, lookup: &Lookup<'_>, number: &Expr) -> ThumbResult

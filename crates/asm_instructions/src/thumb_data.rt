@@ -16,7 +16,7 @@ use crate::thumb_values::{immediate_below, low, low_number, low_three, low_two, 
 use crate::values::number_there;
 use asm_expr::kinds::both;
 use asm_expr::or_kind;
-use asm_model::{Expr, Register, ThumbOperand};
+use asm_model::{Expr, Register, SharedText, ThumbOperand};
 use sdt_fault::NoMemory;
 use sdt_fault::kinds::LineKind;
 use sdt_word::ShiftKind;
@@ -26,6 +26,9 @@ use thumb_isa::{HighOperation, ImmediateOperation, ThumbInstr, ThumbOperation, T
 
 /// What a line says, or the kind of its fault.
 pub type ThumbResult = Result<Result<ThumbCode, LineKind>, NoMemory>;
+
+/// What a line of Thumb state says, or the kind of its fault, and the symbol that a BL leaves to the linker.
+pub type ThumbUnit = (Result<ThumbCode, LineKind>, Option<SharedText>);
 
 /// An instruction alone.
 pub fn one(instruction: Result<ThumbInstr, LineKind>) -> Result<ThumbCode, LineKind>

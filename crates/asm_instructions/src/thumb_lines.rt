@@ -5,14 +5,15 @@ ghost use Rattle.asm_model.specs.declared.statements.PseudoLine.TheVariants as p
 ghost use Rattle.asm_model.specs.Said.{IsRead, PseudoSaid, ThumbSaid};
 ghost use Rattle.source_model.specs.Contexts.{Context};
 ghost use Rattle.source_model.specs.ThumbForms as forms;
+ghost use Rattle.source_model.specs.Units as units;
 ghost use Rattle.asm_instructions.specs.Lookups.{Shows, context_of};
 ghost use Rattle.asm_instructions.specs.ThumbGroups.{IsWide};
 
 use crate::lookups::Lookup;
 use crate::thumb_branches::{branch, branch_conditional, branch_link, software_interrupt};
 use crate::thumb_data::{
-    ThumbResult, add_subtract, adjust_stack, data_immediate, data_register, high_register,
-    load_address, shift_immediate,
+    ThumbResult, ThumbUnit, add_subtract, adjust_stack, data_immediate, data_register,
+    high_register, load_address, shift_immediate,
 };
 use crate::thumb_transfers::{
     load_literal, push_pop, transfer_half, transfer_immediate, transfer_multiple,
@@ -110,19 +111,42 @@ fn instruction_there(alloc: Global, lookup: &Lookup<'_>, line: &ThumbLine) -> Th
         }
         ThumbLine::SoftwareInterrupt { number } => software_interrupt(alloc, lookup, number),
         ThumbLine::Branch { target } => branch(alloc, lookup, target),
-        ThumbLine::BranchLink { target } => branch_link(alloc, lookup, target),
+        ThumbLine::BranchLink { target } => {
+            let (code, _) = branch_link(alloc, lookup, target)?;
+            Ok(code)
+        }
         _ => wide_there(alloc, lookup, line),
     }
 }
 
-/// What a line of Thumb state says, or the kind of its fault. A BL that is left to the linker holds its number less how
-/// far pc stands behind the start of the area.
-pub fn thumb_instruction(alloc: Global, lookup: &Lookup<'_>, line: &ThumbLine) -> ThumbResult
+fn unit_there(alloc: Global, lookup: &Lookup<'_>, line: &ThumbLine) -> Result<ThumbUnit, NoMemory>
     requires { ThumbSaid line.now }
-    ensures { IfOk result (λ i. (c : Context) → Shows lookup.now c → i
-        ≡ forms.thumb_instruction c line.now) }
+    ensures code { IfOk result (λ unit. unit.0
+        ≡ forms.thumb_instruction (context_of lookup.now) line.now) }
+    ensures symbol { IfOk result (λ unit. unit.1
+        ≡ units.link_symbol (context_of lookup.now) line.now) }
 {
-    instruction_there(alloc, lookup, line)
+    if let ThumbLine::BranchLink { target } = line {
+        return branch_link(alloc, lookup, target);
+    }
+    let code = instruction_there(alloc, lookup, line)?;
+    Ok((code, None))
+}
+
+/// What a line of Thumb state says, or the kind of its fault, and the symbol of a BL that is left to the linker. Such a BL
+/// holds its number less how far pc stands behind the start of the area.
+pub fn thumb_unit(
+    alloc: Global,
+    lookup: &Lookup<'_>,
+    line: &ThumbLine,
+) -> Result<ThumbUnit, NoMemory>
+    requires { ThumbSaid line.now }
+    ensures code { IfOk result (λ unit. (c : Context) → Shows lookup.now c → unit.0
+        ≡ forms.thumb_instruction c line.now) }
+    ensures symbol { IfOk result (λ unit. (c : Context) → Shows lookup.now c → unit.1
+        ≡ units.link_symbol c line.now) }
+{
+    unit_there(alloc, lookup, line)
 }
 
 fn word_offset(word: Option<u32>) -> Result<u32, LineKind>

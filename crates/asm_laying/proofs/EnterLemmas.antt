@@ -53,7 +53,7 @@ pub reaches : (d : List LaidName) (s : Statement) (before : List LaidLine) (old 
     → next ≡ stepped s.what old.behind → new.behind ≡ next → Enters (area_named s.what) old.areas new.areas
     → ((pieces : List Piece) → IsBehind pieces new.areas.ends → offset ≡ aligned_end new.areas.current pieces old.behind.thumb s.what)
     → new.map ≡ old.map → new.names ≡ old.names → new.all_known ≡ old.all_known → label ≡ (old.behind.thumb && next.code)
-    → Reaches d s before new (record { area = new.areas.current; offset = offset; map = old.map; thumb = old.behind.thumb; label_thumb = label })
+    → Reaches d s before new (record { area = new.areas.current; offset = offset; map = old.map; thumb = old.behind.thumb; thumb_label = label })
 reaches d s before old new next offset label h steps standing enters starts map names known thumbed =
     let area = area_behind (s ∷ statements_of before) in
     let pieces = pieces_of before in
@@ -70,6 +70,6 @@ reaches d s before old new next offset label h steps standing enters starts map 
             starts pieces areas.ends ∙ ap (λ a. aligned_end a pieces old.behind.thumb s.what) areas.here ∙ ap (λ t. aligned_end area pieces t s.what) thumb;
         map = h.map;
         thumb = thumb;
-        label_thumb = thumbed ∙ ap (λ t. t && next.code) thumb ∙ ap (λ c. thumb_behind (statements_of before) && c) code;
+        thumb_label = thumbed ∙ ap (λ t. t && next.code) thumb ∙ ap (λ c. thumb_behind (statements_of before) && c) code;
       };
     }

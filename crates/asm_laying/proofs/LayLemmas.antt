@@ -1,5 +1,6 @@
 -- A line more.
 use Rattle.std.proofs.Common.{◌≡◌, ◌<◌, ◌≤◌, ℕ, ◌+◌, ◌%◌, ◌^◌, ◌&&◌, Bool, true, false, List, [], ◌∷◌, ◌++◌, length, Option, Some, None, refl, sym, ap, ◌∙◌, subst, arith, nat_lt, min, slice_get, append-nil, append_assoc}
+use Rattle.std.specs.Borrow.{Bor}
 use Rattle.std.specs.Prelude.{Result, Ok, Err}
 use Rattle.std.proofs.lemmas.Bool.{lt-ltb, le-ltb}
 use Rattle.sdt_fault.specs.declared.kinds.LineKind.{LineKind}
@@ -28,9 +29,8 @@ use Rattle.asm_offsets.specs.Running.{Standing, piece, IsStanding, IsBehind, IsP
 use Rattle.asm_offsets.specs.Laws.{ExtentsArePlaceable}
 use Rattle.asm_expr.specs.Places.{number_in}
 use Rattle.asm_laying.specs.declared.finding.Equated.{Equated}
-use Rattle.asm_laying.specs.declared.finding.Location.{Location}
 use Rattle.asm_laying.specs.declared.laying.Laying.{Laying}
-use Rattle.asm_laying.specs.declared.laying.PlacedStatement.{PlacedStatement}
+use Rattle.asm_laying.specs.declared.laying.LaidStatement.{LaidStatement}
 use Rattle.asm_names.specs.declared.placed_lines.StatementPlace.{StatementPlace}
 use Rattle.asm_names.specs.Defining.{own_entry}
 use Rattle.asm_names.specs.Steps.{one_entry}
@@ -213,7 +213,7 @@ fits_low a b c d h g f = le-ltb area_bytes (c + d) (omega arith)
 fits_not : (a b c d : ℕ) → a ≡ c → b ≡ d → 2 ^ 24 < a + b → nat_lt area_bytes (c + d) ≡ true
 fits_not a b c d h g f = lt-ltb area_bytes (c + d) (omega arith)
 
-pub told_too_large : (d : List LaidName) (s : Statement) (before : List LaidLine) (location : Location) (x : Code) (map : ℕ) (equal : Equated)
+pub told_too_large : (d : List LaidName) (s : Statement) (before : List LaidLine) (location : StatementPlace) (x : Code) (map : ℕ) (equal : Equated)
     → IsLocation s before location
     → AreNeeded d location (names_behind d s before) s (Ok x) (Ok map) equal
     → 2 ^ 24 < offset_of location.area (pieces_of before) (extent_of_code x) + size_behind location.area (pieces_of before) (extent_of_code x)
@@ -239,23 +239,24 @@ both_hold : (a b : Bool) → (a && b) ≡ true → (a ≡ true) × (b ≡ true)
 both_hold true b h = (refl, h)
 both_hold false b h = absurd (cc)
 
-abbrev placed_at : Location → ℕ → ℕ → StatementPlace
-placed_at location offset size =
-    record { area = location.area; offset = offset; size = size; thumb = location.thumb; thumb_label = location.label_thumb; map = location.map }
-
-pub lays : (d : List LaidName) (s : Statement) (before : List LaidLine) (old new : Laying) (location : Location) (x : Code) (map : ℕ) (equal : Equated)
+pub lays : (d : List LaidName) (t : Bor Statement) (before : List LaidLine) (old new : Laying) (location : StatementPlace) (x : Code) (map : ℕ) (equal : Equated)
     (p : Put)
-    → IsAt d s before old → IsLocation s before location
-    → AreNeeded d location (names_behind d s before) s (Ok x) (Ok map) equal
+    → IsAt d t.now before old → IsLocation t.now before location
+    → AreNeeded d location (names_behind d t.now before) t.now (Ok x) (Ok map) equal
     → IsPlaced location.area (extent_of_code x) (pieces_of before) new.areas.ends p → length new.areas.ends ≡ length old.areas.ends
     → new.behind ≡ old.behind → new.map ≡ map → new.areas.numbers ≡ old.areas.numbers → new.areas.count ≡ old.areas.count
     → new.areas.current ≡ old.areas.current
-    → new.names ≡ old.names ++ one_entry (own_entry (defined_by s) location.area location.offset (Some p.size) location.label_thumb location.map)
-    ++ one_entry equal.entry ++ imported_entries (imported_in s.what)
+    → new.names ≡ old.names ++ one_entry (own_entry (defined_by t.now) location.area location.offset (Some p.size) location.thumb_label location.map)
+    ++ one_entry equal.entry ++ imported_entries (imported_in t.now.what)
     → new.all_known ≡ (old.all_known && equal.known)
-    → (strings : List Bool) → strings ≡ string_marks (names_behind d s before) s.what
-    → IsLaid d (laid_behind d s before) before new (record { place = placed_at location p.offset p.size; literal = p.literal; strings = strings })
-lays d s before old new location x map equal p at sp found placed long behind mapped numbers count current names known strings marked =
+    → (strings : List Bool) → strings ≡ string_marks (names_behind d t.now before) t.now.what
+    → IsLaid d (laid_behind d t.now before) before new (record {
+      line = record { statement = t; place = location; size = p.size };
+      literal = p.literal;
+      strings = strings;
+    })
+lays d t before old new location x map equal p at sp found placed long behind mapped numbers count current names known strings marked =
+    let s = t.now in
     let area = area_behind (s ∷ statements_of before) in
     let pieces = pieces_of before in
     let r = names_behind d s before in
@@ -267,19 +268,25 @@ lays d s before old new location x map equal p at sp found placed long behind ma
     (subst (λ a. IsPlaced a (extent_of_code x) pieces new.areas.ends p) sp.area placed)) in
     let offset : p.offset ≡ l.offset = here.offset ∙ sym (starts_there area pieces r s.what e.0 e.1) in
     let size : p.size ≡ l.size = here.size ∙ ap (λ q. size_behind area pieces (taken q)) (sym e.1) in
-    let mine = one_entry (own_entry (defined_by s) location.area location.offset (Some p.size) location.label_thumb location.map) in
+    let mine = one_entry (own_entry (defined_by s) location.area location.offset (Some p.size) location.thumb_label location.map) in
     let import = imported_entries (imported_in s.what) in
     let own_eq : mine ≡ one_entry (own_entry (defined_by s) area (offset_behind s before) (Some l.size) (is_thumb_label s (statements_of before))
     (map_behind before)) =
-    ap one_entry (own_there (defined_by s) location.area area location.offset (offset_behind s before) (Some p.size) (Some l.size) location.label_thumb
+    ap one_entry (own_there (defined_by s) location.area area location.offset (offset_behind s before) (Some p.size) (Some l.size) location.thumb_label
     (is_thumb_label s (statements_of before)) location.map (map_behind before)
-    sp.area sp.offset (ap Some size) sp.label_thumb sp.map) in
+    sp.area sp.offset (ap Some size) sp.thumb_label sp.map) in
     let equal_eq : one_entry equal.entry ≡ equal_names d area r (defined_by s) = found.equal_is.entry ∙ ap (λ a. equal_names d a r (defined_by s)) sp.area in
     record {
       told = told_large d s before e.0 location.map map false e.1 (sym found.after_is) (fits_low p.offset p.size l.offset l.size offset size here.fits);
-      place = record { area = sp.area; offset = offset; size = size; thumb = sp.thumb; thumb_label = sp.label_thumb; map = sp.map };
-      literal = here.literal ∙ ap (λ q. entry_behind area pieces (taken q)) (sym e.1);
-      strings = marked;
+      statement = record {
+        line = record {
+          statement = refl;
+          place = record { area = sp.area; offset = sp.offset; thumb = sp.thumb; thumb_label = sp.thumb_label; map = sp.map };
+          size = size;
+        };
+        literal = here.literal ∙ ap (λ q. entry_behind area pieces (taken q)) (sym e.1);
+        strings = marked;
+      };
       laying = record {
         standing = behind ∙ at.standing;
         areas = record {
@@ -300,20 +307,20 @@ lays d s before old new location x map equal p at sp found placed long behind ma
 
 -- ---- other answers
 
-pub told_no_extent : (d : List LaidName) (s : Statement) (before : List LaidLine) (location : Location) (k : LineKind) (map : Result ℕ LineKind)
+pub told_no_extent : (d : List LaidName) (s : Statement) (before : List LaidLine) (location : StatementPlace) (k : LineKind) (map : Result ℕ LineKind)
     (equal : Equated)
     → AreNeeded d location (names_behind d s before) s (Err k) map equal
     → told_of (laid_behind d s before) ≡ Some k
 told_no_extent d s before location k map equal found = told_extent d s before k (fault_is k (extent_of (names_behind d s before) s.what) found.extent_is)
 
-pub told_no_map : (d : List LaidName) (s : Statement) (before : List LaidLine) (location : Location) (x : Code) (k : LineKind) (equal : Equated)
+pub told_no_map : (d : List LaidName) (s : Statement) (before : List LaidLine) (location : StatementPlace) (x : Code) (k : LineKind) (equal : Equated)
     → AreNeeded d location (names_behind d s before) s (Ok x) (Err k) equal
     → told_of (laid_behind d s before) ≡ Some k
 told_no_map d s before location x k equal found =
     let e = coded_is x (extent_of (names_behind d s before) s.what) found.extent_is in
     told_map d s before e.0 location.map k e.1 (sym found.after_is)
 
-pub may_place : (d : List LaidName) (s : Statement) (before : List LaidLine) (state : Laying) (location : Location) → Reaches d s before state location
+pub may_place : (d : List LaidName) (s : Statement) (before : List LaidLine) (state : Laying) (location : StatementPlace) → Reaches d s before state location
     → IsThere location.area state.areas.ends
 may_place d s before state location h =
     there_same state.areas.current location.area state.areas.ends state.areas.ends (h.location.area ∙ sym h.at.areas.here) refl h.at.areas.there
@@ -322,8 +329,8 @@ pub fits_all : ExtentsArePlaceable → (s : Names) (w : What) (r : Result Code L
 fits_all law s w (Ok x) h = found_fits law s w x h
 fits_all law s w (Err k) h = tt
 
-pub tells : (d : List LaidName) (s : Statement) (before : List LaidLine) (location : Location) (number : Result ℕ LineKind)
-    (placed : Result PlacedStatement LineKind) (state : Laying)
+pub tells : (d : List LaidName) (s : Statement) (before : List LaidLine) (location : StatementPlace) (number : Result ℕ LineKind)
+    (placed : Result LaidStatement LineKind) (state : Laying)
     → IsLocation s before location → number ≡ said_number (names_behind d s before) s.what → IsPlacedLine d (laid_behind d s before) before state placed
     → Tells d (laid_behind d s before) before state (record { area = location.area; thumb = location.thumb; number = number; placed = placed })
 tells d s before location number placed state sp h g = record { area = sp.area; thumb = sp.thumb; number = h; placed = g }

@@ -26,7 +26,7 @@ use Rattle.asm_names.specs.Steps.{one_entry}
 use Rattle.asm_model.specs.Said.{IsRead, WhatSaid}
 use Rattle.asm_laying.specs.declared.finding.Equated.{Equated}
 use Rattle.asm_laying.specs.declared.finding.StatementValues.{StatementValues}
-use Rattle.asm_laying.specs.declared.finding.Location.{Location}
+use Rattle.asm_names.specs.declared.placed_lines.StatementPlace.{StatementPlace}
 use Rattle.asm_laying.specs.Laying.{unsized_entry, names_shown, DefinedRead, IsEquated, IsFound, IsLocation}
 
 -- ---- the line's own name
@@ -46,18 +46,18 @@ own_there x a b o p n m t u k j e f g h i = rw (e, f, g, h, i) refl
 
 -- ---- what is seen at the location is what the line sees
 
-shown : (d : List LaidName) (s : Statement) (before : List LaidLine) (names : List LaidName) (own : Option LaidName) (p : Location) → IsLocation s before p
+shown : (d : List LaidName) (s : Statement) (before : List LaidLine) (names : List LaidName) (own : Option LaidName) (p : StatementPlace) → IsLocation s before p
     → names ≡ seen_behind d (lines_of before) → own ≡ unsized_entry (defined_by s) p
     → names_shown d names (one_entry own) p ≡ names_behind d s before
 shown d s before names own p sp known owned =
     let label = is_thumb_label s (statements_of before) in
     let owns : one_entry own ≡ own_names (definition_behind d s before None) =
-    ap one_entry (owned ∙ own_there (defined_by s) p.area (area_behind (s ∷ statements_of before)) p.offset (offset_behind s before) None None p.label_thumb
-    label p.map (map_behind before) sp.area sp.offset refl sp.label_thumb sp.map)
+    ap one_entry (owned ∙ own_there (defined_by s) p.area (area_behind (s ∷ statements_of before)) p.offset (offset_behind s before) None None p.thumb_label
+    label p.map (map_behind before) sp.area sp.offset refl sp.thumb_label sp.map)
     ∙ own_is d (defined_by s) (area_behind (s ∷ statements_of before)) (offset_behind s before) None label (map_behind before) in
     rw (known, owns, sp.area, sp.offset, sp.map, sp.thumb) refl
 
-pub found_shown : (d : List LaidName) (s : Statement) (before : List LaidLine) (names : List LaidName) (own : Option LaidName) (p : Location)
+pub found_shown : (d : List LaidName) (s : Statement) (before : List LaidLine) (names : List LaidName) (own : Option LaidName) (p : StatementPlace)
     (f : StatementValues) → IsLocation s before p
     → names ≡ seen_behind d (lines_of before) → own ≡ unsized_entry (defined_by s) p
     → IsFound d p (names_shown d names (one_entry own) p) s f → IsFound d p (names_behind d s before) s f

@@ -16,7 +16,7 @@ use Rattle.asm_model.specs.Laid.{LaidLine, statements_of, lines_of, taken, piece
 use Rattle.asm_model.specs.Trees.{tree_of}
 use Rattle.asm_model.specs.LayoutKinds.{fault_kinds, map_kinds, area_bytes}
 use Rattle.asm_names.specs.Defining.{own_entry}
-use Rattle.asm_names.specs.PlacedLines.{IsPlace}
+use Rattle.asm_names.specs.PlacedLines.{IsLine}
 use Rattle.asm_names.specs.Steps.{one_entry}
 use Rattle.asm_offsets.specs.Running.{IsBehind, entry_behind}
 use Rattle.asm_offsets.specs.declared.extents.Extent.{Extent as Code}
@@ -25,11 +25,11 @@ use Rattle.layout_laws.specs.Final.{IsEqualKnown, AreEqualsKnown}
 use Rattle.asm_model.specs.Said.{IsRead}
 use Rattle.asm_laying.specs.declared.finding.Equated.{Equated}
 use Rattle.asm_laying.specs.declared.finding.StatementValues.{StatementValues}
-use Rattle.asm_laying.specs.declared.finding.Location.{Location}
+use Rattle.asm_names.specs.declared.placed_lines.StatementPlace.{StatementPlace}
 use Rattle.asm_laying.specs.declared.laying.Ended.{Ended}
 use Rattle.asm_laying.specs.declared.laying.LaidOutcome.{LaidOutcome}
 use Rattle.asm_laying.specs.declared.laying.Laying.{Laying}
-use Rattle.asm_laying.specs.declared.laying.PlacedStatement.{PlacedStatement}
+use Rattle.asm_laying.specs.declared.laying.LaidStatement.{LaidStatement}
 use Rattle.asm_laying.specs.Carried.{behind, most_statements}
 use Rattle.asm_laying.specs.Numbered.{AreNumbered}
 use Rattle.asm_laying.specs.Reading.{all_capped, coded, map_after, said_number, string_marks}
@@ -69,12 +69,12 @@ Ends state e = (declared : List LaidName) (before : List LaidLine) → IsLaying 
 -- ---- a statement more
 
 -- where a statement stands behind lines
-pub record IsLocation (s : Statement) (before : List LaidLine) (p : Location) : Type 0 where
+pub record IsLocation (s : Statement) (before : List LaidLine) (p : StatementPlace) : Type 0 where
   pub area : p.area ≡ area_behind (s ∷ statements_of before)
   pub offset : p.offset ≡ offset_behind s before
   pub map : p.map ≡ map_behind before
   pub thumb : p.thumb ≡ thumb_behind (statements_of before)
-  pub label_thumb : p.label_thumb ≡ is_thumb_label s (statements_of before)
+  pub thumb_label : p.thumb_label ≡ is_thumb_label s (statements_of before)
 
 -- the state when a statement is reached, before what it takes up is known
 pub record IsAt (declared : List LaidName) (s : Statement) (before : List LaidLine) (state : Laying) : Type 0 where
@@ -84,12 +84,12 @@ pub record IsAt (declared : List LaidName) (s : Statement) (before : List LaidLi
   pub names : state.names ≡ seen_behind declared (lines_of before)
   pub known : state.all_known ≡ true → AreEqualsKnown before
 
-pub record Reaches (declared : List LaidName) (s : Statement) (before : List LaidLine) (state : Laying) (p : Location) : Type 0 where
+pub record Reaches (declared : List LaidName) (s : Statement) (before : List LaidLine) (state : Laying) (p : StatementPlace) : Type 0 where
   pub at : IsAt declared s before state
   pub location : IsLocation s before p
 
 -- a statement more is reached
-abbrev pub Enters : Statement → Laying → Laying → Location → Type 0
+abbrev pub Enters : Statement → Laying → Laying → StatementPlace → Type 0
 Enters s old new p = (declared : List LaidName) (before : List LaidLine) → IsLaying declared before old → Reaches declared s before new p
 
 -- ---- what a statement's values are needed for
@@ -109,8 +109,8 @@ pub record IsEquated (names : List LaidName) (area : Option ℕ) (s : Names) (x 
   pub known : q.known ≡ true → IsEqualKnown s x
 
 -- the entry of a name at a location, before the size of its statement is known
-abbrev pub unsized_entry : Defined → Location → Option LaidName
-unsized_entry x p = own_entry x p.area p.offset None p.label_thumb p.map
+abbrev pub unsized_entry : Defined → StatementPlace → Option LaidName
+unsized_entry x p = own_entry x p.area p.offset None p.thumb_label p.map
 
 -- the entry of a statement's own name, with the size of the statement, from the one without
 abbrev pub Sizes : Defined → ℕ → Option LaidName → Option LaidName → Type 0
@@ -123,25 +123,25 @@ abbrev pub with_entries : List LaidName → Option LaidName → Option LaidName 
 with_entries names own equal s = names ++ one_entry own ++ one_entry equal ++ imported_entries (imported_in s.what)
 
 -- what a statement takes up, the storage map behind it and its name for an expression
-pub record AreNeeded (names : List LaidName) (p : Location) (s : Names) (statement : Statement) (extent : Result Code LineKind)
+pub record AreNeeded (names : List LaidName) (p : StatementPlace) (s : Names) (statement : Statement) (extent : Result Code LineKind)
     (after : Result ℕ LineKind) (equal : Equated) : Type 0 where
   pub extent_is : coded extent ≡ all_capped (extent_of s statement.what)
   pub after_is : after ≡ map_after p.map s statement.what
   pub equal_is : IsEquated names p.area s (defined_by statement) equal
 
-pub record IsFound (names : List LaidName) (p : Location) (s : Names) (statement : Statement) (f : StatementValues) : Type 0 where
+pub record IsFound (names : List LaidName) (p : StatementPlace) (s : Names) (statement : Statement) (f : StatementValues) : Type 0 where
   pub needed : AreNeeded names p s statement f.extent f.map f.equal
   pub number : f.number ≡ said_number s statement.what
   pub strings : f.strings ≡ string_marks s statement.what
 
 -- what is found for a statement at a location, where these names are known and its own besides
-abbrev pub Finds : List LaidName → List LaidName → Option LaidName → Location → Statement → StatementValues → Type 0
+abbrev pub Finds : List LaidName → List LaidName → Option LaidName → StatementPlace → Statement → StatementValues → Type 0
 Finds declared names own p s f =
     (before : List LaidLine) → IsLocation s before p → names ≡ seen_behind declared (lines_of before) → own ≡ unsized_entry (defined_by s) p
     → IsFound declared p (names_behind declared s before) s f
 
 -- what an expression sees at a location, where a source has these names, those are known, and its line's own besides
-abbrev pub names_shown : List LaidName → List LaidName → List LaidName → Location → Names
+abbrev pub names_shown : List LaidName → List LaidName → List LaidName → StatementPlace → Names
 names_shown d seen own p = record { list = seen ++ own ++ d; area = p.area; offset = p.offset; map = p.map; thumb = p.thumb }
 
 abbrev pub OkExtent : Result Code LineKind → Type 0
@@ -155,21 +155,25 @@ abbrev pub told_of : LaidLine → Option LineKind
 told_of l =
     told_kind (fault_kinds l.extent ++ map_kinds l.seen l.statement.what ++ kind_if (nat_lt area_bytes (l.offset + l.size)) TooMany)
 
-pub record IsLaid (declared : List LaidName) (l : LaidLine) (before : List LaidLine) (state : Laying) (p : PlacedStatement) : Type 0 where
+-- a statement is a laid line behind those before it
+pub record IsStatement (x : LaidStatement) (l : LaidLine) (before : List LaidLine) : Type 0 where
+  pub line : IsLine x.line l before
+  pub literal : x.literal ≡ entry_behind l.area (pieces_of before) (taken l.extent)
+  pub strings : x.strings ≡ string_marks l.seen l.statement.what
+
+pub record IsLaid (declared : List LaidName) (l : LaidLine) (before : List LaidLine) (state : Laying) (x : LaidStatement) : Type 0 where
   pub told : told_of l ≡ None
-  pub place : IsPlace p.place l before
-  pub literal : p.literal ≡ entry_behind l.area (pieces_of before) (taken l.extent)
-  pub strings : p.strings ≡ string_marks l.seen l.statement.what
+  pub statement : IsStatement x l before
   pub laying : IsLaying declared (l ∷ before) state
 
 -- where a line more stands, or the kind that is told of it
-abbrev pub IsPlaced : List LaidName → LaidLine → List LaidLine → Laying → Result PlacedStatement LineKind → Type 0
-IsPlaced declared l before state (Ok p) = IsLaid declared l before state p
+abbrev pub IsPlaced : List LaidName → LaidLine → List LaidLine → Laying → Result LaidStatement LineKind → Type 0
+IsPlaced declared l before state (Ok x) = IsLaid declared l before state x
 IsPlaced declared l before state (Err kind) = told_of l ≡ Some kind
 
 -- a statement that is reached gets its place, by what it needs of values
-abbrev pub Puts : Statement → Location → Result Code LineKind → Result ℕ LineKind → Option LaidName → Equated → List Bool → Laying → Laying
-    → Result (Result PlacedStatement LineKind) NoMemory → Type 0
+abbrev pub Puts : Statement → StatementPlace → Result Code LineKind → Result ℕ LineKind → Option LaidName → Equated → List Bool → Laying → Laying
+    → Result (Result LaidStatement LineKind) NoMemory → Type 0
 Puts s p extent map own equal strings old new result =
     (declared : List LaidName) (before : List LaidLine) → Reaches declared s before old p
     → AreNeeded declared p (names_behind declared s before) s extent map equal

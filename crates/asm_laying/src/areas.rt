@@ -15,9 +15,11 @@ ghost use Rattle.asm_offsets.specs.Running.{IsBehind};
 ghost use Rattle.asm_laying.specs.Carried.{most_statements};
 ghost use Rattle.asm_laying.specs.Numbered.{AreNumbered, ArePlaceable, Enters};
 
-use asm_model::{DirectiveLine, Occupied, PseudoLine, What, item_alignment, occupied_by};
+use asm_model::{
+    DirectiveLine, Occupied, PseudoLine, SharedText, What, item_alignment, occupied_by,
+};
 use asm_offsets::Ends;
-use sdt_fault::{NoMemory, Text};
+use sdt_fault::NoMemory;
 use std::alloc::Global;
 use std::collections::BTreeMap;
 
@@ -25,7 +27,7 @@ use std::collections::BTreeMap;
 #[derive(Debug, Drop)]
 pub struct Areas {
     /// The number of each area, by its name.
-    pub numbers: BTreeMap<Text, u32>,
+    pub numbers: BTreeMap<SharedText, u32>,
     pub count: u32,
     /// The number of the area of the last statement.
     pub current: Option<u32>,
@@ -33,7 +35,7 @@ pub struct Areas {
 }
 
 /// The name that an AREA gives.
-fn area_named(what: &What) -> Option<&Text>
+fn area_named(what: &What) -> Option<&SharedText>
     ensures { option_map (λ name. name.now) result ≡ before.area_named what.now }
 {
     match what {
@@ -121,12 +123,12 @@ impl Areas {
     }
 
     /// An area with a new name.
-    fn add(&mut self, alloc: Global, name: &Text) -> Result<(), NoMemory>
+    fn add(&mut self, alloc: Global, name: &SharedText) -> Result<(), NoMemory>
         requires new { number_in self.old.numbers name.now ≡ None }
         requires few { self.old.count < most_statements }
         ensures { OnOk result (Enters (Some name.now) self.old self.new) }
     {
-        let name = name.try_clone(alloc)?;
+        let name = name.share()?;
         self.numbers.insert(name, self.count)?;
         self.ends.add_area()?;
         self.current = Some(self.count);
@@ -135,13 +137,13 @@ impl Areas {
     }
 
     /// The number of a name.
-    fn number_of(&self, name: &Text) -> Option<u32>
+    fn number_of(&self, name: &SharedText) -> Option<u32>
         ensures { result ≡ number_in self.now.numbers name.now }
     {
         self.numbers.get(name).copied()
     }
 
-    fn enter_named(&mut self, alloc: Global, name: &Text) -> Result<(), NoMemory>
+    fn enter_named(&mut self, alloc: Global, name: &SharedText) -> Result<(), NoMemory>
         requires { self.old.count < most_statements }
         ensures { OnOk result (Enters (Some name.now) self.old self.new) }
     {

@@ -7,12 +7,12 @@ ghost use Rattle.asm_names.specs.Defining.{defined_of};
 ghost use Rattle.asm_laying.specs.Declaring.{declared_entry, Declares};
 
 use crate::carried::CarriedState;
-use asm_model::{LaidName, Statement, What, imported_name};
+use asm_model::{LaidName, SharedText, Statement, What, imported_name};
 use asm_names::KnownNames;
 use asm_names::defining::{Defines, defined_by};
 use asm_names::listing::add_entry;
 use asm_names::made::later_entry;
-use sdt_fault::{NoMemory, Text};
+use sdt_fault::NoMemory;
 use std::alloc::Global;
 
 /// Whether a label is one of Thumb code.
@@ -25,7 +25,7 @@ pub fn is_thumb_label(thumb: bool, code: bool) -> bool
     false
 }
 
-fn later(alloc: Global, name: &Text, thumb: bool) -> Result<Option<LaidName>, NoMemory>
+fn later(alloc: Global, name: &SharedText, thumb: bool) -> Result<Option<LaidName>, NoMemory>
     ensures { IfOk result (λ entry. entry ≡ Some (entries.later_entry name.now thumb)) }
 {
     Ok(Some(later_entry(alloc, name, thumb)?))

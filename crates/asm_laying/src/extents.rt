@@ -200,7 +200,7 @@ fn byte_counts(alloc: Global, seen: &Seen<'_>, operands: &[Expr]) -> Result<Coun
         ≡ marks (seen_names seen.now) operands.now) }
 {
     let mut bytes: u32 = 0;
-    let mut strings = Vec::new(alloc);
+    let mut strings = Vec::with_capacity(alloc, operands.len())?;
     let mut left = operands;
     'operands: loop {
         match left {

@@ -12,26 +12,14 @@ ghost use Rattle.asm_laying.specs.Laying.{unsized_entry, DefinedRead, Finds, IsE
 
 use crate::extents::{SizedStatement, extent_of};
 use crate::values::{map_after, said_number, value_there};
-use asm_model::{LaidName, Statement, Value};
+use asm_model::{LaidName, SharedText, Statement, Value};
 use asm_names::defining::{Defines, defined_by, own_entry};
 use asm_names::made::equal_entry;
-use asm_names::{KnownNames, Seen};
+use asm_names::{KnownNames, Seen, StatementPlace};
 use asm_offsets::Extent;
 use sdt_fault::kinds::LineKind;
-use sdt_fault::{List as Listed, NoMemory, Text};
+use sdt_fault::{List as Listed, NoMemory};
 use std::alloc::Global;
-
-/// Where a statement stands.
-#[derive(Clone, Copy, Debug)]
-pub struct Location {
-    pub area: Option<u32>,
-    pub offset: u32,
-    /// The storage map before the statement.
-    pub map: u32,
-    pub thumb: bool,
-    /// Whether its label is one of Thumb code.
-    pub label_thumb: bool,
-}
 
 /// A name for an expression, where a statement defines one.
 #[derive(Debug, Drop)]
@@ -60,7 +48,7 @@ fn equal_with(
     alloc: Global,
     declared: &KnownNames,
     area: Option<u32>,
-    name: &Text,
+    name: &SharedText,
     value: Result<Value, LineKind>,
 ) -> Result<Equated, NoMemory>
     ensures entry { IfOk result (λ equal. equal.entry
@@ -108,7 +96,7 @@ fn equal_there(
 pub fn unsized_entry(
     alloc: Global,
     statement: &Statement,
-    location: &Location,
+    location: &StatementPlace,
 ) -> Result<Option<LaidName>, NoMemory>
     ensures { IfOk result (λ entry. entry
         ≡ unsized_entry (labels.defined_by statement.now) location.now) }
@@ -120,7 +108,7 @@ pub fn unsized_entry(
         location.area,
         location.offset,
         None,
-        location.label_thumb,
+        location.thumb_label,
         location.map,
     )
 }
@@ -131,7 +119,7 @@ pub fn find(
     names: &KnownNames,
     declared: &KnownNames,
     own: Option<&LaidName>,
-    location: &Location,
+    location: &StatementPlace,
     statement: &Statement,
 ) -> Result<StatementValues, NoMemory>
     requires { IsSaid statement.now }

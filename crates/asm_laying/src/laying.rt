@@ -15,20 +15,20 @@ ghost use Rattle.asm_laying.specs.Reading.{string_marks};
 use crate::areas::Areas;
 use crate::carried::{CarriedState, START};
 use crate::declarations::is_thumb_label;
-use crate::finding::{Equated, Location, StatementValues, find, unsized_entry};
+use crate::finding::{Equated, StatementValues, find, unsized_entry};
 use asm_model::{LaidName, Statement};
 use asm_names::defining::{Defines, defined_by};
 use asm_names::listing::{add_entry, add_imported};
-use asm_names::{KnownNames, StatementPlace};
+use asm_names::{KnownNames, PlacedLine, StatementPlace};
 use asm_offsets::{Ends, Extent, TooLarge, extents_are_placeable};
 use sdt_fault::kinds::LineKind;
 use sdt_fault::{List as Listed, NoMemory};
 use std::alloc::Global;
 
-/// A statement with its place.
+/// A statement where it stands, with what its values are made of.
 #[derive(Debug, Drop)]
-pub struct PlacedStatement {
-    pub place: StatementPlace,
+pub struct LaidStatement<'a> {
+    pub line: PlacedLine<'a>,
     /// The number of its literal's entry in the pools of its area.
     pub literal: Option<u32>,
     /// For DCB, of each operand whether it is a string by what is known at its line.
@@ -37,7 +37,7 @@ pub struct PlacedStatement {
 
 /// What laying a statement tells of it.
 #[derive(Debug, Drop)]
-pub struct LaidOutcome {
+pub struct LaidOutcome<'a> {
     /// Its area, counted from 0; None before the first.
     pub area: Option<u32>,
     /// Whether it stands in Thumb state.
@@ -45,7 +45,7 @@ pub struct LaidOutcome {
     /// The number that checks ask for: the exponent of an AREA's alignment, or what RN gives a name.
     pub number: Result<u32, LineKind>,
     /// The statement with its place, or the kind of its fault that is told, of those that laying finds.
-    pub placed: Result<PlacedStatement, LineKind>,
+    pub placed: Result<LaidStatement<'a>, LineKind>,
 }
 
 /// The state behind the lines so far.
@@ -117,21 +117,22 @@ fn add_names(
 }
 
 impl Laying {
-    /// Before the first line.
-    pub fn new(alloc: Global) -> Laying
-        ensures { (declared : List LaidName) → laying.IsLaying declared [] result }
+    /// Before the first line, with room for so many names.
+    pub fn with_room(alloc: Global, names: usize) -> Result<Laying, NoMemory>
+        ensures { IfOk result (λ state. (declared : List LaidName)
+            → laying.IsLaying declared [] state) }
     {
-        Laying {
+        Ok(Laying {
             behind: START,
             areas: Areas::new(alloc),
             map: 0,
-            names: KnownNames::new(alloc),
+            names: KnownNames::with_capacity(alloc, names)?,
             all_known: true,
-        }
+        })
     }
 
     /// Reaches a statement: its area and its offset.
-    fn enter(&mut self, alloc: Global, statement: &Statement) -> Result<Location, NoMemory>
+    fn enter(&mut self, alloc: Global, statement: &Statement) -> Result<StatementPlace, NoMemory>
         requires { laying.MayStep self.old }
         ensures { IfOk result (λ location. laying.Enters statement.now self.old self.new location) }
     {
@@ -140,28 +141,28 @@ impl Laying {
         self.areas.enter(alloc, &statement.what)?;
         let offset = self.areas.start(&statement.what, behind.thumb);
         self.behind = next;
-        let label_thumb = is_thumb_label(behind.thumb, next.code);
-        Ok(Location {
+        let thumb_label = is_thumb_label(behind.thumb, next.code);
+        Ok(StatementPlace {
             area: self.areas.current,
             offset,
             map: self.map,
             thumb: behind.thumb,
-            label_thumb,
+            thumb_label,
         })
     }
 
     /// Places a statement, and adds its names.
-    fn put(
+    fn put<'a>(
         &mut self,
         alloc: Global,
-        statement: &Statement,
-        location: &Location,
+        statement: &'a Statement,
+        location: &StatementPlace,
         extent: Extent,
         map: u32,
         own: Option<LaidName>,
         equal: Equated,
         strings: Listed<bool>,
-    ) -> Result<Result<PlacedStatement, LineKind>, NoMemory>
+    ) -> Result<Result<LaidStatement<'a>, LineKind>, NoMemory>
         requires there { IsThere location.now.area self.old.areas.ends }
         requires extent { IsExtent (extent_of_code extent) }
         ensures { laying.Puts statement.now location.now (Ok extent)
@@ -176,14 +177,11 @@ impl Laying {
                 self.all_known = still_known(self.all_known, known);
                 let own = sized(statement, own, placed.size);
                 add_names(&mut self.names, alloc, statement, own, entry)?;
-                Ok(Ok(PlacedStatement {
-                    place: StatementPlace {
-                        area: location.area,
-                        offset: placed.offset,
+                Ok(Ok(LaidStatement {
+                    line: PlacedLine {
+                        statement,
+                        place: *location,
                         size: placed.size,
-                        thumb: location.thumb,
-                        thumb_label: location.label_thumb,
-                        map: location.map,
                     },
                     literal: placed.literal,
                     strings,
@@ -193,17 +191,17 @@ impl Laying {
     }
 
     /// Places a statement that takes up so much.
-    fn settle_map(
+    fn settle_map<'a>(
         &mut self,
         alloc: Global,
-        statement: &Statement,
-        location: &Location,
+        statement: &'a Statement,
+        location: &StatementPlace,
         extent: Extent,
         map: Result<u32, LineKind>,
         own: Option<LaidName>,
         equal: Equated,
         strings: Listed<bool>,
-    ) -> Result<Result<PlacedStatement, LineKind>, NoMemory>
+    ) -> Result<Result<LaidStatement<'a>, LineKind>, NoMemory>
         requires there { IsThere location.now.area self.old.areas.ends }
         requires extent { IsExtent (extent_of_code extent) }
         ensures { laying.Puts statement.now location.now
@@ -216,17 +214,17 @@ impl Laying {
     }
 
     /// Places a statement by what it needs of values.
-    fn settle(
+    fn settle<'a>(
         &mut self,
         alloc: Global,
-        statement: &Statement,
-        location: &Location,
+        statement: &'a Statement,
+        location: &StatementPlace,
         extent: Result<Extent, LineKind>,
         map: Result<u32, LineKind>,
         own: Option<LaidName>,
         equal: Equated,
         strings: Listed<bool>,
-    ) -> Result<Result<PlacedStatement, LineKind>, NoMemory>
+    ) -> Result<Result<LaidStatement<'a>, LineKind>, NoMemory>
         requires there { IsThere location.now.area self.old.areas.ends }
         requires extent { laying.OkExtent extent }
         ensures { laying.Puts statement.now location.now extent map own equal strings
@@ -259,12 +257,12 @@ impl Laying {
 
     /// Lays a statement behind the lines so far, in a source that declares these names. Where it has a fault, or memory
     /// runs out, the state isn't to be used any more.
-    pub fn lay(
+    pub fn lay<'a>(
         &mut self,
         alloc: Global,
         declared: &KnownNames,
-        statement: &Statement,
-    ) -> Result<LaidOutcome, NoMemory>
+        statement: &'a Statement,
+    ) -> Result<LaidOutcome<'a>, NoMemory>
         requires may { laying.MayLay declared.now self.old }
         requires said { IsSaid statement.now }
         ensures { laying.LaysNext declared.now statement.now self.old self.new result }

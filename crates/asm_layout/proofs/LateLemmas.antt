@@ -1,22 +1,19 @@
 -- Lines that are checked once more when the whole layout is known.
-use Rattle.std.proofs.Common.{◌≡◌, List, [], ◌∷◌, ◌++◌, Option, Some, None, refl, sym, ap, ◌∙◌, subst}
-use Rattle.std.specs.List.{AllZip}
+use Rattle.std.proofs.Common.{◌≡◌, List, [], ◌∷◌, ◌++◌, map, Option, Some, None, refl, sym, ap, ◌∙◌, subst}
+use Rattle.std.proofs.lemmas.List.{map-append}
 use Rattle.sdt_fault.specs.declared.answer.Fault.{Fault}
 use Rattle.sdt_fault.specs.declared.kinds.LineKind.{LineKind}
 use Rattle.asm_checks.specs.Late.{IsPosition}
-use Rattle.asm_names.specs.PlacedLines.{IsPlace}
-use Rattle.asm_names.specs.declared.placed_lines.StatementPlace.{StatementPlace}
-use Rattle.asm_names.specs.declared.placed_lines.PlacedLine.{PlacedLine}
+use Rattle.asm_laying.specs.Laying.{IsStatement}
 use Rattle.asm_names.specs.Source.{AreEach}
 use Rattle.asm_model.specs.declared.statements.Statement.{Statement}
 use Rattle.asm_model.specs.Directives.{or_else}
 use Rattle.asm_model.specs.Kinds.{told_kind}
-use Rattle.asm_layout.specs.declared.laid.LaidStatement.{LaidStatement}
+use Rattle.asm_laying.specs.declared.laying.LaidStatement.{LaidStatement}
 use Rattle.asm_model.specs.Laid.{LaidLine, pieces_of, taken, reversed}
 use Rattle.asm_model.specs.LayoutKinds.{entry_kinds, literal_kinds, first_late, told_at}
-use Rattle.asm_layout.specs.Layout.{IsStatement, AreStatements, IsTold}
+use Rattle.asm_layout.specs.Layout.{AreStatements, IsTold}
 use Rattle.asm_layout.specs.Late.{position_of, AreOn, IsLeft}
-use Rattle.asm_layout.specs.PlacedLines.{IsLineOf}
 
 -- ---- from the first line on
 
@@ -81,21 +78,21 @@ next_of all x more h = by_rest h.rest h.parts h.lines h.none
         }
 
 pub stands : (all : List LaidLine) (x : LaidStatement) (more : List LaidStatement) (n : Next all x more)
-    → IsPosition all n.before n.rest n.l x.statement.what (position_of x)
+    → IsPosition all n.before n.rest n.l x.line.statement.now.what (position_of x)
 stands all x more n = record {
   parts = n.parts;
-  said = ap (λ (s : Statement). s.what) (sym n.line.statement);
-  stands = n.line.place.area;
-  start = n.line.place.offset;
+  said = ap (λ (s : Statement). s.what) (sym n.line.line.statement);
+  stands = n.line.line.place.area;
+  start = n.line.line.place.offset;
   entry = n.line.literal;
 }
 
 pub told_here : (all : List LaidLine) (x : LaidStatement) (more : List LaidStatement) (n : Next all x more) (k : LineKind) (f : Fault)
     → Some k ≡ told_kind (entry_kinds n.l.area n.l all ++ literal_kinds n.l.area (taken n.l.extent) (pieces_of (n.l ∷ n.before)) (pieces_of n.rest))
-    → IsTold (Some (x.statement, k)) f → IsTold (first_late all [] (reversed all [])) f
+    → IsTold (Some (x.line.statement.now, k)) f → IsTold (first_late all [] (reversed all [])) f
 told_here all x more n k f e h =
     subst (λ (o : Option (Statement × LineKind)). IsTold o f)
-    (ap (λ (s : Statement). Some (s, k)) n.line.statement ∙ ap (λ (o : Option LineKind). or_else (told_at n.l.statement o)
+    (ap (λ (s : Statement). Some (s, k)) n.line.line.statement ∙ ap (λ (o : Option LineKind). or_else (told_at n.l.statement o)
     (first_late all (n.l ∷ n.before) n.rest)) e ∙ sym n.none) h
 
 pub none_here : (all : List LaidLine) (x : LaidStatement) (more : List LaidStatement) (n : Next all x more)
@@ -119,28 +116,12 @@ none_left all h = by_rest h.rest h.lines h.none
 
 -- ---- lines as names are made of them
 
-last_of : (front : List LaidStatement) (x : LaidStatement) (ys : List PlacedLine) → AllZip IsLineOf (front ++ x ∷ []) ys
-    → (fs : List PlacedLine) × (y : PlacedLine) × (ys ≡ fs ++ y ∷ []) × AllZip IsLineOf front fs × IsLineOf x y
-last_of [] x [] h = absurd h
-last_of [] x (y ∷ []) h = ([], y, refl, tt, h.0)
-last_of [] x (y ∷ z ∷ ys) h = absurd h.1
-last_of (f ∷ front) x [] h = absurd h
-last_of (f ∷ front) x (y ∷ ys) h = let r = last_of front x ys h.1 in (y ∷ r.0, r.1, ap (λ (l : List PlacedLine). y ∷ l) r.2, (h.0, r.3), r.4)
-
-pub each_of : (all : List LaidLine) (xs : List LaidStatement) (ys : List PlacedLine) → AllZip IsLineOf xs ys → AreStatements all xs → AreEach all ys
-each_of [] xs ys z h = none_of ys (subst (λ (l : List LaidStatement). AllZip IsLineOf l ys) h z)
-  where
-    none_of : (zs : List PlacedLine) → AllZip IsLineOf [] zs → zs ≡ []
-    none_of [] h = refl
-    none_of (y ∷ zs) h = absurd h
-each_of (l ∷ before) xs ys z h =
-    let r = last_of h.0 h.1 ys (subst (λ (xs' : List LaidStatement). AllZip IsLineOf xs' ys) h.2 z) in (
-      r.0,
-      r.1,
-      r.2,
-      record {
-        statement = r.4.statement ∙ h.3.statement;
-        place = subst (λ (p : StatementPlace). IsPlace p l before) (sym r.4.place) h.3.place;
-      },
-      each_of before h.0 r.0 r.3 h.4,
-    )
+pub each_of : (all : List LaidLine) (xs : List LaidStatement) → AreStatements all xs → AreEach all (map (λ (x : LaidStatement). x.line) xs)
+each_of [] xs h = ap (map (λ (x : LaidStatement). x.line)) h
+each_of (l ∷ before) xs h = (
+  map (λ (x : LaidStatement). x.line) h.0,
+  h.1.line,
+  ap (map (λ (x : LaidStatement). x.line)) h.2 ∙ map-append (λ (x : LaidStatement). x.line) h.0 (h.1 ∷ []),
+  h.3.line,
+  each_of before h.0 h.4,
+)

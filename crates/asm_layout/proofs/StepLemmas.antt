@@ -29,9 +29,8 @@ use Rattle.asm_checks.specs.Starts.{AreStarts, IsLineOf}
 use Rattle.asm_checks.specs.declared.checks.Checks.{Checks}
 use Rattle.asm_checks.specs.Checked.{IsChecked}
 use Rattle.asm_laying.specs.declared.laying.Laying.{Laying}
-use Rattle.asm_laying.specs.declared.laying.PlacedStatement.{PlacedStatement}
 use Rattle.asm_laying.specs.Laying.{IsLaying, IsLaid, IsPlaced, told_of}
-use Rattle.asm_layout.specs.declared.laid.LaidStatement.{LaidStatement}
+use Rattle.asm_laying.specs.declared.laying.LaidStatement.{LaidStatement}
 use Rattle.asm_registers.specs.declared.registers.Registers.{Registers}
 use Rattle.asm_registers.specs.Kept.{AreRegisters}
 use Rattle.asm_model.specs.Forms.{same}
@@ -40,8 +39,7 @@ use Rattle.asm_layout.specs.declared.walking.CheckedLine.{CheckedLine}
 use Rattle.asm_layout.specs.declared.walking.Walk.{Walk}
 use Rattle.asm_layout.specs.Layout.{IsTold}
 use Rattle.asm_layout.specs.Outline.{circle_of}
-use Rattle.asm_layout.specs.declared.outline.Outline.{Outline}
-use Rattle.asm_layout.specs.Walking.{IsMark, HasMark, IsCounted, one_more, or_false, IsWalking, IsCheckedLine, ChecksLine, Keeps, KeepsOrTells, StepsOn, laid_as, told_by}
+use Rattle.asm_layout.specs.Walking.{IsMark, HasMark, IsCounted, one_more, or_false, IsWalking, IsCheckedLine, Keeps, told_by}
 use Rattle.asm_layout.proofs.ToldLemmas.{none_first, none_parts, told_parts}
 
 -- ---- the number that checks ask for
@@ -132,15 +130,15 @@ pub checked_told : (d : List LaidName) (names settled : List (List ℕ)) (all : 
     → IsCheckedLine d names settled all l before old new j → told_by names settled all l before ≡ first_told (told_of l) j.found
 checked_told d names settled all l before old new j h = told_parts names settled all l before ∙ ap (first_told (told_of l)) (sym h.told)
 
-pub err_told : (d : List LaidName) (l : LaidLine) (before : List LaidLine) (state : Laying) (r : Result PlacedStatement LineKind) (k : LineKind) → r ≡ Err k
+pub err_told : (d : List LaidName) (l : LaidLine) (before : List LaidLine) (state : Laying) (r : Result LaidStatement LineKind) (k : LineKind) → r ≡ Err k
     → IsPlaced d l before state r
     → told_of l ≡ Some k
-err_told d l before state r k e h = subst (λ (x : Result PlacedStatement LineKind). IsPlaced d l before state x) e h
+err_told d l before state r k e h = subst (λ (x : Result LaidStatement LineKind). IsPlaced d l before state x) e h
 
-pub ok_laid : (d : List LaidName) (l : LaidLine) (before : List LaidLine) (state : Laying) (r : Result PlacedStatement LineKind) (p : PlacedStatement)
+pub ok_laid : (d : List LaidName) (l : LaidLine) (before : List LaidLine) (state : Laying) (r : Result LaidStatement LineKind) (p : LaidStatement)
     → r ≡ Ok p → IsPlaced d l before state r
     → IsLaid d l before state p
-ok_laid d l before state r p e h = subst (λ (x : Result PlacedStatement LineKind). IsPlaced d l before state x) e h
+ok_laid d l before state r p e h = subst (λ (x : Result LaidStatement LineKind). IsPlaced d l before state x) e h
 
 pub tells : (s : Statement) (o : Option LineKind) (k : LineKind) (f : Fault) → o ≡ Some k → IsTold (Some (s, k)) f → IsTold (told_at s o) f
 tells s o k f e h = subst (λ (x : Option LineKind). IsTold (told_at s x) f) (sym e) h
@@ -148,22 +146,25 @@ tells s o k f e h = subst (λ (x : Option LineKind). IsTold (told_at s x) f) (sy
 -- ---- a line is kept
 
 pub keep_line : (d : List LaidName) (names settled : List (List ℕ)) (all : List Statement) (s : Statement) (before : List LaidLine) (old mid new : Walk)
-    (j : CheckedLine) (p : PlacedStatement)
+    (j : CheckedLine) (p : LaidStatement)
     → IsWalking d names settled all before old → IsCheckedLine d names settled all (laid_behind d s before) before old mid j → j.found ≡ None
-    → IsLaid d (laid_behind d s before) before mid.laying p → Keeps s j.laid.number j.thumb_area p mid new
+    → IsLaid d (laid_behind d s before) before mid.laying p → Keeps p j.laid.number j.thumb_area mid new
     → IsWalking d names settled all (laid_behind d s before ∷ before) new
 keep_line d names settled all s before old mid new j p w h none laid k =
     let l = laid_behind d s before in
     let parts : None ≡ first_told (told_kind (checked_kinds settled all l before)) (told_kind (register_kinds names l before)) = sym none ∙ h.told in
     let unchecked : told_kind (checked_kinds settled all l before) ≡ None =
     none_first (told_kind (checked_kinds settled all l before)) (told_kind (register_kinds names l before)) parts in
-    let line : IsLineOf all s.what p.place.area j.thumb_area j.laid.number l before = record {
+    let at = laid.statement.line in
+    let line : IsLineOf all p.line.statement.now.what p.line.place.area j.thumb_area j.laid.number l before =
+    subst (λ (w : What). IsLineOf all w p.line.place.area j.thumb_area j.laid.number l before) (ap (λ (t : Statement). t.what) (sym at.statement))
+    (record {
       said = refl;
-      stands = sym laid.place.area;
+      stands = sym at.place.area;
       counted = refl;
-      state = h.within ∙ ap (λ (o : Option ℕ). in_thumb_area o all) (sym laid.place.area);
+      state = h.within ∙ ap (λ (o : Option ℕ). in_thumb_area o all) (sym at.place.area);
       aligned = aligned s.what l before settled all j.laid.number refl (numbers s.what l j.laid.number h.tells.number).exponent_is unchecked;
-    } in
+    }) in
     let untold : told_by names settled all l before ≡ None = checked_told d names settled all l before old mid j h ∙ rw (laid.told, none) refl in
     record {
       lays = subst (λ (x : Laying). IsLaying d (l ∷ before) x) (sym k.laying) laid.laying;
@@ -172,24 +173,11 @@ keep_line d names settled all s before old mid new j p w h none laid k =
       begun = k.starts all l before (subst (λ (x : List AreaStart). AreStarts all before x) (sym h.begun) w.begun) line;
       kept = (
         old.lines.items,
-        laid_as s p,
-        k.lines ∙ ap (λ (v : Vec LaidStatement). v.items ++ laid_as s p ∷ []) h.kept,
-        record {
-          statement = refl;
-          place = laid.place;
-          literal = laid.literal;
-          strings = laid.strings;
-        },
+        p,
+        k.lines ∙ ap (λ (v : Vec LaidStatement). v.items ++ p ∷ []) h.kept,
+        laid.statement,
         w.kept,
       );
       counted = k.equals ∙ h.counted;
       none = rw w.none (ap (told_at s) untold);
     }
-
--- ---- a line is checked, and kept or told
-
-pub steps_on : (o : Outline) (s t : Statement) (old mid new : Walk) (j : CheckedLine) (r : Result (Unit {0}) Fault) → t ≡ s → ChecksLine o s old mid j
-    → KeepsOrTells t j mid new r
-    → StepsOn o s old new r
-steps_on o s t old mid new j r e h k = λ names settled all before states w m.
-    subst (λ (x : Statement). KeepsOrTells x j mid new r) e k o.names names settled all old before w (h names settled all before states w m)

@@ -4,15 +4,16 @@ use Rattle.sdt_fault.specs.declared.answer.Fault.{Fault}
 use Rattle.sdt_fault.specs.declared.kinds.LineKind.{LineKind}
 use Rattle.asm_checks.specs.declared.late.Position.{Position}
 use Rattle.asm_model.specs.declared.statements.Statement.{Statement}
-use Rattle.asm_layout.specs.declared.laid.LaidStatement.{LaidStatement}
+use Rattle.asm_laying.specs.declared.laying.LaidStatement.{LaidStatement}
 use Rattle.asm_model.specs.Laid.{LaidLine, reversed}
 use Rattle.asm_model.specs.LayoutKinds.{first_late}
 use Rattle.asm_checks.specs.Late.{AreWhole}
 use Rattle.asm_offsets.specs.declared.extents.LaidPools.{LaidPools}
-use Rattle.asm_layout.specs.Layout.{IsStatement, AreStatements, IsTold}
+use Rattle.asm_laying.specs.Laying.{IsStatement}
+use Rattle.asm_layout.specs.Layout.{AreStatements, IsTold}
 
 abbrev pub position_of : LaidStatement → Position
-position_of x = record { area = x.place.area; offset = x.place.offset; literal = x.literal }
+position_of x = record { area = x.line.place.area; offset = x.line.place.offset; literal = x.literal }
 
 -- no line is told, or the refusal of the one that is
 abbrev pub IsCleared : Option (Statement × LineKind) → Result (Unit {0}) Fault → Type 0

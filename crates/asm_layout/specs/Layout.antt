@@ -7,28 +7,20 @@ use Rattle.sdt_fault.specs.declared.kinds.LineKind.{LineKind}
 use Rattle.sdt_fault.specs.declared.refusal.Refusal.TheVariants.{BadLine}
 use Rattle.asm_model.specs.declared.statements.Statement.{Statement}
 use Rattle.asm_layout.specs.declared.laid.LaidArea.{LaidArea}
-use Rattle.asm_layout.specs.declared.laid.LaidStatement.{LaidStatement}
+use Rattle.asm_laying.specs.declared.laying.LaidStatement.{LaidStatement}
 use Rattle.asm_layout.specs.declared.laid.Layout.{Layout}
 use Rattle.asm_pool.specs.Pooled.{flushed}
-use Rattle.asm_laying.specs.Reading.{string_marks}
-use Rattle.asm_names.specs.PlacedLines.{IsPlace}
-use Rattle.asm_offsets.specs.Running.{entry_behind, pools_behind}
+use Rattle.asm_laying.specs.Laying.{IsStatement}
+use Rattle.asm_offsets.specs.Running.{pools_behind}
 use Rattle.asm_model.specs.Before.{areas_behind}
 use Rattle.asm_model.specs.Extents.{Pool}
-use Rattle.asm_model.specs.Laid.{LaidLine, statements_of, taken, pieces_of, laid, final_names}
+use Rattle.asm_model.specs.Laid.{LaidLine, statements_of, pieces_of, laid, final_names}
 use Rattle.asm_model.specs.LayoutKinds.{is_thumb_area}
 use Rattle.asm_model.specs.Offsets.{area_size, start_in, all_pooled}
 use Rattle.source_model.specs.Objects.{attributes_of}
 use Rattle.source_model.specs.SourceFaults.{layout_faults}
 
 -- ---- statements
-
--- a statement of a layout is a laid line behind those before it
-pub record IsStatement (x : LaidStatement) (l : LaidLine) (before : List LaidLine) : Type 0 where
-  pub statement : x.statement ≡ l.statement
-  pub place : IsPlace x.place l before
-  pub literal : x.literal ≡ entry_behind l.area (pieces_of before) (taken l.extent)
-  pub strings : x.strings ≡ string_marks l.seen l.statement.what
 
 -- the statements of a layout are the laid lines
 abbrev pub AreStatements : List LaidLine → List LaidStatement → Type 0

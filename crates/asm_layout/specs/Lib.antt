@@ -5,6 +5,5 @@ pub mod Front
 pub mod Late
 pub mod Layout
 pub mod Outline
-pub mod PlacedLines
 pub mod States
 pub mod Walking

@@ -6,11 +6,10 @@ use Rattle.sdt_fault.specs.declared.kinds.LineKind.{LineKind}
 use Rattle.asm_model.specs.declared.statements.Statement.{Statement}
 use Rattle.asm_model.specs.FaultSets.{first_told}
 use Rattle.asm_model.specs.Kinds.{told_kind}
-use Rattle.asm_layout.specs.declared.laid.LaidStatement.{LaidStatement}
+use Rattle.asm_laying.specs.declared.laying.LaidStatement.{LaidStatement}
 use Rattle.asm_checks.specs.States.{AreStates}
 use Rattle.asm_checks.specs.Starts.{AreStarts, IsLineOf}
 use Rattle.asm_checks.specs.Checked.{checked_kinds, IsChecked}
-use Rattle.asm_laying.specs.declared.laying.PlacedStatement.{PlacedStatement}
 use Rattle.asm_laying.specs.Laying.{IsLaying, Tells}
 use Rattle.asm_registers.specs.Kept.{AreRegisters}
 use Rattle.asm_model.specs.declared.names.LaidName.{LaidName}
@@ -100,23 +99,15 @@ ChecksLine o s old new j =
     → IsWalking o.names names settled all before old → IsOutlined o.names settled o.circular.items s before
     → IsCheckedLine o.names names settled all (laid_behind o.names s before) before old new j
 
-abbrev pub laid_as : Statement → PlacedStatement → LaidStatement
-laid_as s p = record {
-  statement = s;
-  place = p.place;
-  literal = p.literal;
-  strings = p.strings;
-}
-
 -- a line without a fault is kept
-pub record Keeps (s : Statement) (number : Result ℕ LineKind) (thumb_area : Bool) (p : PlacedStatement) (old new : Walk) : Type 0 where
+pub record Keeps (x : LaidStatement) (number : Result ℕ LineKind) (thumb_area : Bool) (old new : Walk) : Type 0 where
   pub laying : new.laying ≡ old.laying
   pub checks : new.checks ≡ old.checks
   pub registers : new.registers ≡ old.registers
-  pub lines : new.lines.items ≡ old.lines.items ++ laid_as s p ∷ []
+  pub lines : new.lines.items ≡ old.lines.items ++ x ∷ []
   pub equals : new.equals ≡ old.equals
   pub starts : (all : List Statement) (l : LaidLine) (before : List LaidLine) → AreStarts all before old.starts
-      → IsLineOf all s.what p.place.area thumb_area number l before → AreStarts all (l ∷ before) new.starts
+      → IsLineOf all x.line.statement.now.what x.line.place.area thumb_area number l before → AreStarts all (l ∷ before) new.starts
 
 -- the kind that is told of a line
 abbrev pub told_by : List (List ℕ) → List (List ℕ) → List Statement → LaidLine → List LaidLine → Option LineKind
@@ -162,3 +153,8 @@ pub record IsAlong (statements yielded left : List Statement) (w : Walk) : Type 
   pub walks : IsWalking (declared_names (reversed statements [])) (register_names (reversed statements []))
       (settled (equals_in (reversed statements []))) (reversed statements [])
       (laid_of (declared_names (reversed statements [])) (reversed yielded [])) w
+
+-- lines of a source, of which some are walked and these left
+pub record IsOn (statements left : List Statement) (w : Walk) : Type 0 where
+  pub walked : List Statement
+  pub along : IsAlong statements walked left w

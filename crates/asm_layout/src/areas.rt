@@ -17,7 +17,7 @@ pub fn areas_of(
 ) -> Result<Vec<LaidArea>, NoMemory>
     ensures { IfOk result (λ areas. AreAreasOf starts.items pools.items areas.items) }
 {
-    let mut areas = Vec::new(alloc);
+    let mut areas = Vec::with_capacity(alloc, starts.len())?;
     'areas: for (start, laid) in starts.into_iter().zip(pools) {
         areas.push(LaidArea {
             name: start.name,

@@ -4,12 +4,12 @@ ghost use Rattle.std.specs.Prelude.{IfOk};
 ghost use Rattle.asm_layout.specs.Finishing.{AreNames, AreNamesOf, Finishes};
 
 use crate::areas::areas_of;
-use crate::laid::{LaidStatement, Layout};
+use crate::laid::Layout;
 use crate::late::cleared;
 use crate::outline::Outline;
 use crate::placed_lines::lines_of;
 use crate::walking::Walk;
-use asm_laying::laying::Ended;
+use asm_laying::laying::{Ended, LaidStatement};
 use asm_names::{KnownNames, final_names};
 use asm_offsets::extents_are_placeable;
 use layout_laws::laws::known_names_are_final;
@@ -20,7 +20,7 @@ use std::alloc::Global;
 /// All names of a source, by those that it declares.
 fn made_names(
     alloc: Global,
-    laid: &[LaidStatement],
+    laid: &[LaidStatement<'_>],
     declared: &KnownNames,
 ) -> Result<KnownNames, NoMemory>
     ensures { IfOk result (λ names. AreNames laid.now declared.now names) }
@@ -33,7 +33,7 @@ fn made_names(
 /// All names of a source: those that its lines knew, where these are all.
 fn names_of(
     alloc: Global,
-    laid: &[LaidStatement],
+    laid: &[LaidStatement<'_>],
     declared: &KnownNames,
     known: Option<KnownNames>,
 ) -> Result<KnownNames, NoMemory>
@@ -47,8 +47,8 @@ fn names_of(
 }
 
 /// The layout, or the refusal of the first line with a fault that needs the whole layout.
-pub fn finished(alloc: Global, outline: &Outline, walk: Walk) -> Result<Layout, Fault>
-    ensures { Finishes outline.now walk result }
+pub fn finished<'a>(alloc: Global, outline: &Outline, walk: Walk<'a>) -> Result<Layout<'a>, Fault>
+    ensures { Finishes outline.now walk.entry result }
 {
     extents_are_placeable();
     let Walk {

@@ -15,12 +15,12 @@ use std::alloc::Global;
 
 /// Judges the first lines of a source, `count` of them or all where there are fewer, by the faults that are told at them.
 /// A refusal is BadLine at the first of them with such a fault. The names that any statement of the source gives count.
-pub fn front_fault(alloc: Global, statements: Vec<Statement>, count: usize) -> Result<(), Fault>
-    requires few { length statements.items < most_statements + 1 }
-    requires said { AllSaid statements.items }
-    ensures { IsCleared (front_laid (reversed statements.items []) count) result }
+pub fn front_fault(alloc: Global, statements: &[Statement], count: usize) -> Result<(), Fault>
+    requires few { length statements.now < most_statements + 1 }
+    requires said { AllSaid statements.now }
+    ensures { IsCleared (front_laid (reversed statements.now []) count) result }
 {
-    let outline = outline_of(alloc, statements.as_slice())?;
+    let outline = outline_of(alloc, statements)?;
     walked_front(alloc, &outline, statements, count)?;
     Ok(())
 }

@@ -17,12 +17,12 @@ use std::alloc::Global;
 /// Lays out statements in the order of their source. A refusal is BadLine at the first line with a fault, of those that need
 /// no values. That a source has no AREA is checked elsewhere; statements without one, each of which may stand before the
 /// first, give a layout without areas.
-pub fn lay_out(alloc: Global, statements: Vec<Statement>) -> Result<Layout, Fault>
-    requires few { length statements.items < most_statements + 1 }
-    requires said { AllSaid statements.items }
-    ensures { IsOutcome (reversed statements.items []) result }
+pub fn lay_out(alloc: Global, statements: &[Statement]) -> Result<Layout<'_>, Fault>
+    requires few { length statements.now < most_statements + 1 }
+    requires said { AllSaid statements.now }
+    ensures { IsOutcome (reversed statements.now []) result }
 {
-    let outline = outline_of(alloc, statements.as_slice())?;
+    let outline = outline_of(alloc, statements)?;
     let walk = walked(alloc, &outline, statements)?;
     finished(alloc, &outline, walk)
 }

@@ -11,11 +11,12 @@ pub mod laid;
 pub mod late;
 pub mod layout;
 mod outline;
-pub mod placed_lines;
+mod placed_lines;
 mod states;
 pub mod telling;
 mod walking;
 
 pub use crate::front::front_fault;
-pub use crate::laid::{LaidArea, LaidStatement, Layout};
+pub use crate::laid::{LaidArea, Layout};
 pub use crate::layout::lay_out;
+pub use asm_laying::laying::LaidStatement;

@@ -10,10 +10,10 @@ use crate::states::states_of;
 use asm_checks::States;
 use asm_laying::carried::START;
 use asm_laying::declarations::declare_one;
-use asm_model::{Expr, Statement};
+use asm_model::{Expr, SharedText, Statement};
 use asm_names::defining::{Defines, defined_by};
 use asm_names::{Equal, KnownNames, order_of};
-use sdt_fault::{NoMemory, Text};
+use sdt_fault::NoMemory;
 use std::alloc::Global;
 
 /// What laying a line needs to know of the whole source.
@@ -42,7 +42,7 @@ struct Listed<'a> {
 fn push_first<'a>(
     equals: &mut Vec<Equal<'a>>,
     first: bool,
-    name: &'a Text,
+    name: &'a SharedText,
     value: &'a Expr,
 ) -> Result<(), NoMemory>
     ensures { OnOk result (pairs_of equals.new.items
@@ -106,7 +106,7 @@ fn marked(first: bool, settled: &[bool], taken: usize) -> (bool, usize)
 fn circular_of(alloc: Global, firsts: &[bool], settled: &[bool]) -> Result<Vec<bool>, NoMemory>
     ensures { IfOk result (λ marks. marks.items ≡ marks_of firsts.now settled.now) }
 {
-    let mut marks = Vec::new(alloc);
+    let mut marks = Vec::with_capacity(alloc, firsts.len())?;
     let mut taken = 0;
     let mut left = firsts;
     'firsts: loop {

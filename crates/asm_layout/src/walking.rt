@@ -1,6 +1,6 @@
 //! The lines of a source, laid and checked one behind the other.
 
-ghost use Rattle.std.specs.Prelude.{◌≡◌, ◌+◌, ◌<◌, [], length, Ok, IfOk, OnOk};
+ghost use Rattle.std.specs.Prelude.{◌≡◌, ◌+◌, ◌<◌, [], length, take, IfOk, OnOk};
 ghost use Rattle.asm_model.specs.Labels as labels;
 ghost use Rattle.asm_model.specs.Laid.{reversed};
 ghost use Rattle.asm_model.specs.Said.{AllSaid, IsSaid};
@@ -11,13 +11,12 @@ ghost use Rattle.asm_layout.specs.Layout.{IsTold};
 ghost use Rattle.asm_layout.specs.Outline.{IsOutline};
 ghost use Rattle.asm_layout.specs.Walking as walking;
 
-use crate::laid::LaidStatement;
 use crate::outline::Outline;
-use crate::telling::refusal_of;
+use crate::telling::told_of;
 use asm_checks::{Checks, Starts};
 use asm_expr::kinds::earlier;
 use asm_expr::told::first_told;
-use asm_laying::laying::{LaidOutcome, Laying, PlacedStatement};
+use asm_laying::laying::{LaidOutcome, LaidStatement, Laying};
 use asm_model::Statement;
 use asm_names::defining::{Defines, defined_by};
 use asm_registers::Registers;
@@ -28,22 +27,22 @@ use std::alloc::Global;
 
 /// What lines leave for those behind them.
 #[derive(Debug, Drop)]
-pub struct Walk {
+pub struct Walk<'a> {
     alloc: Global,
     pub laying: Laying,
     checks: Checks,
     registers: Registers,
     pub starts: Starts,
     /// The lines, in the order of the source.
-    pub lines: Vec<LaidStatement>,
+    pub lines: Vec<LaidStatement<'a>>,
     /// How many statements with names for expressions there are so far.
     equals: usize,
 }
 
 /// What is known of a line before it is kept.
 #[derive(Debug, Drop)]
-struct CheckedLine {
-    laid: LaidOutcome,
+struct CheckedLine<'a> {
+    laid: LaidOutcome<'a>,
     /// Whether its area is one of Thumb code.
     thumb_area: bool,
     /// The fault that is told, of those that need no values.
@@ -74,46 +73,33 @@ fn next_mark(equals: &mut usize, circular: &[bool]) -> bool
     }
 }
 
-fn laid_statement(statement: Statement, placed: PlacedStatement) -> LaidStatement
-    ensures { result ≡ walking.laid_as statement placed }
+/// The first statements, `count` of them or all.
+fn front_of(statements: &[Statement], count: usize) -> &[Statement]
+    ensures { result.now ≡ take count statements.now }
 {
-    let PlacedStatement {
-        place,
-        literal,
-        strings,
-    } = placed;
-    LaidStatement {
-        statement,
-        place,
-        literal,
-        strings,
+    if count < statements.len() {
+        return &statements[..count];
     }
+    statements
 }
 
-/// A value beside what was done, if that was. It is generic, so that the proof of the exit where memory runs out does
-/// not go through every form of a statement.
-fn held<W: Drop, T>(value: W, done: Result<T, NoMemory>) -> Result<(W, T), NoMemory>
-    ensures value { IfOk result (λ p. p.0 ≡ value) }
-    ensures done { IfOk result (λ p. done ≡ Ok p.1) }
-{
-    match done {
-        Err(none) => Err(none),
-        Ok(made) => Ok((value, made)),
-    }
-}
-
-impl Walk {
-    /// Before the first line.
-    fn new(alloc: Global, statements: &[Statement]) -> Result<Walk, NoMemory>
+impl<'a> Walk<'a> {
+    /// Before the first line, with room for so many names and lines.
+    fn new(
+        alloc: Global,
+        statements: &[Statement],
+        names: usize,
+        lines: usize,
+    ) -> Result<Walk<'a>, NoMemory>
         ensures { IfOk result (λ w. walking.Begins (reversed statements.now []) w) }
     {
         Ok(Walk {
             alloc,
-            laying: Laying::new(alloc),
+            laying: Laying::with_room(alloc, names)?,
             checks: Checks::new(alloc),
             registers: Registers::new(alloc, statements)?,
             starts: Starts::new(alloc),
-            lines: Vec::new(alloc),
+            lines: Vec::with_capacity(alloc, lines)?,
             equals: 0,
         })
     }
@@ -122,8 +108,8 @@ impl Walk {
     fn check_line(
         &mut self,
         outline: &Outline,
-        statement: &Statement,
-    ) -> Result<CheckedLine, NoMemory>
+        statement: &'a Statement,
+    ) -> Result<CheckedLine<'a>, NoMemory>
         requires may { laying.MayLay outline.now.names self.old.laying }
         requires said { IsSaid statement.now }
         ensures { IfOk result
@@ -153,18 +139,16 @@ impl Walk {
     /// Keeps a line without a fault.
     fn keep(
         &mut self,
-        statement: Statement,
+        laid: LaidStatement<'a>,
         number: Result<u32, LineKind>,
         thumb_area: bool,
-        placed: PlacedStatement,
     ) -> Result<(), NoMemory>
-        ensures { OnOk result (walking.Keeps statement number thumb_area placed self.old self.new) }
+        ensures { OnOk result (walking.Keeps laid.entry number thumb_area self.old self.new) }
     {
-        let noted = self
-            .starts
-            .note(&statement.what, placed.place.area, thumb_area, number);
-        let (statement, _) = held(statement, noted)?;
-        self.lines.push(laid_statement(statement, placed))?;
+        let line = laid.line;
+        self.starts
+            .note(&line.statement.what, line.place.area, thumb_area, number)?;
+        self.lines.push(laid)?;
         Ok(())
     }
 
@@ -172,10 +156,10 @@ impl Walk {
     fn keep_or_tell(
         &mut self,
         alloc: Global,
-        statement: Statement,
-        checked: CheckedLine,
+        statement: &'a Statement,
+        checked: CheckedLine<'a>,
     ) -> Result<(), Fault>
-        ensures { walking.KeepsOrTells statement checked self.old self.new result }
+        ensures { walking.KeepsOrTells statement.now checked.entry self.old self.new result }
     {
         let CheckedLine {
             laid,
@@ -184,55 +168,68 @@ impl Walk {
         } = checked;
         let LaidOutcome { number, placed, .. } = laid;
         match (placed, found) {
-            (Err(kind), None) => Err(refusal_of(alloc, statement, kind)),
-            (Err(kind), Some(other)) => Err(refusal_of(alloc, statement, earlier(kind, other))),
-            (Ok(_), Some(kind)) => Err(refusal_of(alloc, statement, kind)),
-            (Ok(placed), None) => {
-                self.keep(statement, number, thumb_area, placed)?;
+            (Err(kind), None) => Err(told_of(alloc, statement, kind)),
+            (Err(kind), Some(other)) => Err(told_of(alloc, statement, earlier(kind, other))),
+            (Ok(_), Some(kind)) => Err(told_of(alloc, statement, kind)),
+            (Ok(laid), None) => {
+                self.keep(laid, number, thumb_area)?;
                 Ok(())
             }
         }
     }
 
     /// Lays a line more; or tells its fault, behind which nothing more can be laid.
-    fn step(&mut self, alloc: Global, outline: &Outline, statement: Statement) -> Result<(), Fault>
+    fn step(
+        &mut self,
+        alloc: Global,
+        outline: &Outline,
+        statement: &'a Statement,
+    ) -> Result<(), Fault>
         requires may { laying.MayLay outline.now.names self.old.laying }
-        requires said { IsSaid statement }
-        ensures { walking.StepsOn outline.now statement self.old self.new result }
+        requires said { IsSaid statement.now }
+        ensures { walking.StepsOn outline.now statement.now self.old self.new result }
     {
-        let checked = self.check_line(outline, &statement);
-        let (statement, checked) = held(statement, checked)?;
+        let checked = self.check_line(outline, statement)?;
         self.keep_or_tell(alloc, statement, checked)
     }
 }
 
 /// Lays the first lines of a source, `count` of them or all, up to the first with a fault that is told at it.
-pub fn walked_front(
+pub fn walked_front<'a>(
     alloc: Global,
     outline: &Outline,
-    statements: Vec<Statement>,
+    statements: &'a [Statement],
     count: usize,
-) -> Result<Walk, Fault>
-    requires outline { IsOutline (reversed statements.items []) outline.now }
-    requires few { length statements.items < most_statements + 1 }
-    requires said { AllSaid statements.items }
-    ensures { walking.IsFrontWalked (reversed statements.items []) count result }
+) -> Result<Walk<'a>, Fault>
+    requires outline { IsOutline (reversed statements.now []) outline.now }
+    requires few { length statements.now < most_statements + 1 }
+    requires said { AllSaid statements.now }
+    ensures { walking.IsFrontWalked (reversed statements.now []) count result }
 {
-    let mut walk = Walk::new(alloc, statements.as_slice())?;
-    let mut front = statements;
-    front.truncate(count);
-    'statements: for statement in front {
-        walk.step(alloc, outline, statement)?;
+    let front = front_of(statements, count);
+    let mut walk = Walk::new(alloc, statements, outline.names.len(), front.len())?;
+    let mut left = front;
+    'statements: loop {
+        match left {
+            [] => return Ok(walk),
+            [statement, rest @ ..] => {
+                walk.step(alloc, outline, statement)?;
+                left = rest;
+            }
+        }
     }
-    Ok(walk)
 }
 
 /// Lays the lines of a source, up to the first with a fault that is told at it.
-pub fn walked(alloc: Global, outline: &Outline, statements: Vec<Statement>) -> Result<Walk, Fault>
-    requires outline { IsOutline (reversed statements.items []) outline.now }
-    requires few { length statements.items < most_statements + 1 }
-    requires said { AllSaid statements.items }
-    ensures { walking.IsWalked (reversed statements.items []) result }
+pub fn walked<'a>(
+    alloc: Global,
+    outline: &Outline,
+    statements: &'a [Statement],
+) -> Result<Walk<'a>, Fault>
+    requires outline { IsOutline (reversed statements.now []) outline.now }
+    requires few { length statements.now < most_statements + 1 }
+    requires said { AllSaid statements.now }
+    ensures { walking.IsWalked (reversed statements.now []) result }
 {
     let count = statements.len();
     walked_front(alloc, outline, statements, count)

@@ -1,8 +1,9 @@
 -- The first line of a text.
-use Rattle.std.proofs.Common.{◌≡◌, ℕ, ◌+◌, ◌<◌, ◌≤◌, List, [], ◌∷◌, length, take, drop, Bool, true, false, cond, Some, None, refl, ◌∙◌, ap, arith, ◌==◌}
+use Rattle.std.proofs.Common.{◌≡◌, ℕ, ◌+◌, ◌-◌, ◌<◌, ◌≤◌, List, [], ◌∷◌, length, take, drop, Bool, true, false, cond, Some, None, refl, ◌∙◌, ap, arith, ◌==◌, length-drop}
 use Rattle.std.specs.Prelude.{position}
 use Rattle.std.specs.List.{slice_split, position_or_len, before_first, after_first, onto_first}
 use Rattle.std.specs.Str.Lines.{lines, lines_of_parts, strip_carriage_return}
+use Rattle.std.proofs.lemmas.List.{drop-drop, drop_all, take-take, take_rest}
 use Rattle.std.proofs.lemmas.List.Splits.{slice_split_none, slice_split_first}
 use Rattle.std.proofs.lemmas.List.Sums.{fails_before_first}
 use Rattle.std.proofs.lemmas.Bool.{ltb-true, ltb-false, ne_eqb, cond-false}
@@ -58,3 +59,23 @@ lines_last xs some none = rw (split_last (λ b. b == 10) xs none) (one_part xs s
 pub lines_first : (xs : List ℕ) (i : ℕ) → position (λ b. b == 10) xs ≡ Some i → lines xs ≡ strip_carriage_return (take i xs) ∷ lines (drop (i + 1) xs)
 lines_first xs i found =
     ap lines_of_parts (split_first (λ b. b == 10) xs i found).1 ∙ behind_first (take i xs) (λ b. b == 10) (drop (i + 1) xs)
+
+-- the same from a place on
+pub last_from : (xs : List ℕ) (i : ℕ) → i < length xs → position (λ b. b == 10) (drop i xs) ≡ None
+    → lines (drop i xs) ≡ take (length xs - i) (drop i xs) ∷ lines (drop (length xs) xs)
+last_from xs i some none =
+    rw (take_rest xs i, drop_all (length xs) xs (omega arith)) (lines_last (drop i xs) (simp length-drop (omega arith)) none)
+
+pub first_from : (xs : List ℕ) (i j k : ℕ) → position (λ b. b == 10) (drop i xs) ≡ Some j → k ≤ j
+    → take k (take j (drop i xs)) ≡ strip_carriage_return (take j (drop i xs))
+    → lines (drop i xs) ≡ take (i + k - i) (drop i xs) ∷ lines (drop (i + j + 1) xs)
+first_from xs i j k found le stripped =
+    let first = lines_first (drop i xs) j found in
+    let width : i + k - i ≡ k = omega arith in
+    let place : i + (j + 1) ≡ i + j + 1 = omega arith in
+    let behind : drop (j + 1) (drop i xs) ≡ drop (i + j + 1) xs = drop-drop (j + 1) i xs ∙ ap (λ (n : ℕ). drop n xs) place in
+    rw (width, ← behind, ← take-take k j (drop i xs) le, stripped) first
+
+-- no line is left at the end
+pub no_lines : (xs : List ℕ) (i : ℕ) → length xs ≤ i → lines (drop i xs) ≡ []
+no_lines xs i h = rw (drop_all i xs h) refl

@@ -10,7 +10,7 @@ use Rattle.asm_model.specs.declared.tokens.TokenKind.{TokenKind}
 use Rattle.asm_model.specs.declared.tokens.TokenKind.TheVariants.{Sign}
 use Rattle.asm_model.specs.Forms.{form_of}
 use Rattle.asm_model.specs.Tokens.{IsLongest, IsTokenAt, is_operation_sign, blanks, is_end, due_behind, TokensFrom, Tokens, NoTokens, begins_comment, OneScan, first_due}
-use Rattle.asm_lines.specs.Steps.{IsTheToken}
+use Rattle.asm_lines.specs.Steps.{IsTheToken, ends_at}
 use Rattle.asm_lines.proofs.KindLemmas.{one_longest, some_longest}
 
 -- a longest token is the one
@@ -95,17 +95,23 @@ module _ (text : List ℕ) (list : List Token) (due : Due) (place : ℕ) (scan :
             rw (← behind n) (moved ts n p.0 (place + blanks (drop place text) + n) t.end u.1 end_is p.4),
           )
 
+end_at : (due : Due) (rest : List ℕ) → is_end due rest ≡ ends_at due (drop (blanks rest) rest)
+end_at Label rest = refl
+end_at Operation rest = refl
+end_at Operands rest = refl
+end_at Nothing rest = refl
+
 -- the same, as the code has it
-module _ (text : List ℕ) (list : List Token) (due : Due) (place : ℕ) (rest : List ℕ) (b : Bool)
-    (scan : IsScan text list due place) (rest_is : rest ≡ drop place text) (b_is : b ≡ is_end due rest) where
+module _ (text : List ℕ) (list : List Token) (due : Due) (place : ℕ) (rest : List ℕ) (count : ℕ) (front : List ℕ) (b : Bool)
+    (scan : IsScan text list due place) (rest_is : rest ≡ drop place text) (count_is : count ≡ blanks rest) (front_is : front ≡ drop count rest)
+    (b_is : b ≡ ends_at due front) where
   end_is : is_end due (drop place text) ≡ b
-  end_is = ap (is_end due) (sym rest_is) ∙ sym b_is
+  end_is = rw (b_is, front_is, count_is, rest_is) (end_at due (drop place text))
 
   pub at_end : b ≡ true → Tokens text list
   at_end e = ended text list due place scan (end_is ∙ e)
 
-  module _ (more : b ≡ false) (count : ℕ) (count_is : count ≡ blanks rest) (front : List ℕ) (front_is : front ≡ drop count rest) (o : Option (TokenKind × ℕ))
-      (the : IsTheToken due front o) where
+  module _ (more : b ≡ false) (o : Option (TokenKind × ℕ)) (the : IsTheToken due front o) where
     the_at : IsTheToken due (drop (blanks (drop place text)) (drop place text)) o
     the_at = rw (front_is, count_is, rest_is) at the
 

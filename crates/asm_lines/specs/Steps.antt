@@ -1,9 +1,10 @@
 -- Steps of the code. This project's.
-use Rattle.std.specs.Prelude.{◌≡◌, ℕ, ◌<◌, ◌≤◌, List, [], ◌∷◌, length, ◌==◌, Option, None, Some}
+use Rattle.std.specs.Prelude.{◌≡◌, ℕ, ◌<◌, ◌≤◌, List, [], ◌∷◌, length, ◌==◌, Bool, true, Option, None, Some}
 use Rattle.std.specs.List.{slice_split}
 use Rattle.asm_model.specs.declared.tokens.Due.{Due}
+use Rattle.asm_model.specs.declared.tokens.Due.TheVariants.{Label, Operation, Operands, Nothing}
 use Rattle.asm_model.specs.declared.tokens.TokenKind.{TokenKind}
-use Rattle.asm_model.specs.Tokens.{IsTokenAt}
+use Rattle.asm_model.specs.Tokens.{IsTokenAt, begins_comment}
 
 -- the first word of a text with spaces between its words, and the text of the others
 abbrev pub Cuts : List ℕ → List ℕ → Option (List ℕ) → Type 0
@@ -19,3 +20,10 @@ IsTheToken due rest (Some t) =
     × ((kind : TokenKind) (n : ℕ) → IsTokenAt due kind n rest → (kind ≡ t.0) × (n ≡ t.1))
     × (0 < t.1)
     × (t.1 ≤ length rest)
+
+-- whether a line may end behind the blanks before these bytes
+abbrev pub ends_at : Due → List ℕ → Bool
+ends_at Label front = begins_comment front
+ends_at Operation front = begins_comment front
+ends_at Operands front = begins_comment front
+ends_at Nothing front = true

@@ -1,7 +1,7 @@
 //! The longest prefix of each form of a token. Each length is 0 where no prefix has the form.
 
 ghost use Rattle.std.specs.Prelude.{◌≡◌, ◌≤◌, ◌<◌, ◌^◌, ◌==◌, ◌||◌, length, position};
-ghost use Rattle.std.specs.List.{prefix_len};
+ghost use Rattle.std.specs.List.{list_any, prefix_len};
 ghost use Rattle.asm_model.specs.Forms as forms;
 ghost use Rattle.std.specs.Option.{option_copied};
 ghost use Rattle.asm_lines.specs.Lengths as lengths;
@@ -16,8 +16,16 @@ pub const BRACED_WORDS: &[u8] = b"{TRUE} {FALSE} {PC} {VAR} {CONFIG} {CODESIZE} 
 const WORD_SIGNS: &[u8] =
     b":NOT: :LNOT: :LEN: :CHR: :STR: :DEF: :MOD: :LEFT: :RIGHT: :CC: :ROL: :ROR: :SHL: :SHR: :AND: :OR: :EOR: :LAND: :LOR: :LEOR:";
 
-/// The signs of one byte with which no longer one begins.
-const BYTE_SIGNS: &[u8] = b"+-?*().@,#&%^![|]{}";
+/// Whether the byte is a sign with which no longer one begins.
+fn is_byte_sign(c: u8) -> bool
+    ensures { result ≡ list_any (λ d. d == c) lengths.byte_signs }
+{
+    match c {
+        b'+' | b'-' | b'?' | b'*' | b'(' | b')' | b'.' | b'@' | b',' | b'#' => true,
+        b'&' | b'%' | b'^' | b'!' | b'[' | b'|' | b']' | b'{' | b'}' => true,
+        _ => false,
+    }
+}
 
 /// The length, behind one byte.
 fn one_more(len: usize) -> usize
@@ -302,7 +310,7 @@ pub fn sign_len(rest: &[u8]) -> usize
         b'/' => one_of_len(b"/ /=", rest),
         b'<' => one_of_len(b"<> < <=", rest),
         b'>' => one_of_len(b"> >=", rest),
-        _ => usize::from(BYTE_SIGNS.contains(first)),
+        other => usize::from(is_byte_sign(other)),
     }
 }
 

@@ -1,7 +1,7 @@
 //! Lines of a source's text, and tokens of a line. Public source: the SDT 2.50 Reference Guide, chapter on the
 //! assembler; the limits of lines and names are this project's. `asm_expand` splits files by `split_lines`,
-//! `asm_expand` and `asm_reading` scan lines by `scan::scan`, and `asm_variables` reads names and label fields by the
-//! forms of bytes in `bytes`.
+//! `asm_expand` scans lines by `scan::scan`, `asm_reading` by that or by `scan::scan_into`, with one list for many lines, and
+//! `asm_variables` reads names and label fields by the forms of bytes in `bytes`.
 #![tactic(auto)]
 
 pub mod bytes;

@@ -1,11 +1,11 @@
 //! The tokens of a line.
 
-ghost use Rattle.std.specs.Prelude.{◌≡◌, ◌≤◌, ◌<◌, ◌^◌, length, IfOk, MatchOption, take, drop};
+ghost use Rattle.std.specs.Prelude.{◌≡◌, ◌≤◌, ◌<◌, ◌^◌, true, false, length, IfOk, MatchOption, take, drop};
 ghost use Rattle.std.specs.List.{list_any};
 ghost use Rattle.asm_model.specs.Tokens as model;
 ghost use Rattle.asm_model.specs.declared.tokens.Due.TheVariants as due;
 ghost use Rattle.asm_lines.specs.Lengths as lengths;
-ghost use Rattle.asm_lines.specs.Steps.{IsTheToken};
+ghost use Rattle.asm_lines.specs.Steps.{IsTheToken, ends_at};
 
 use crate::bytes::{Class, is_digit, is_letter, run_len};
 use crate::forms::{
@@ -146,29 +146,28 @@ fn first_due(text: &[u8]) -> Due
     Due::Label
 }
 
-/// Whether nothing but blanks and a comment is left.
-fn is_comment(rest: &[u8]) -> bool
-    ensures { result ≡ model.is_comment rest.now }
+/// Whether nothing or a comment stands there.
+fn begins_comment(front: &[u8]) -> bool
+    ensures { result ≡ model.begins_comment front.now }
 {
-    let behind = &rest[run_len(rest, Class::Blank)..];
-    let Some((first, _)) = behind.split_first() else {
+    let Some((first, _)) = front.split_first() else {
         return true;
     };
     *first == b';'
 }
 
-/// Whether the line may end there.
-fn is_end(due: Due, rest: &[u8]) -> bool
-    ensures { result ≡ model.is_end due rest.now }
+/// Whether the line may end behind the blanks before these bytes.
+fn is_end(due: Due, front: &[u8]) -> bool
+    ensures { result ≡ ends_at due front.now }
 {
     match due {
         Due::Nothing => true,
-        _ => is_comment(rest),
+        _ => begins_comment(front),
     }
 }
 
 /// The text behind its first bytes.
-fn behind(text: &[u8], count: usize) -> &[u8]
+pub fn behind(text: &[u8], count: usize) -> &[u8]
     requires { count ≤ length text.now }
     ensures { result.now ≡ drop count text.now }
 {
@@ -176,7 +175,7 @@ fn behind(text: &[u8], count: usize) -> &[u8]
 }
 
 /// The first bytes of the text.
-fn begin(text: &[u8], count: usize) -> &[u8]
+pub fn begin(text: &[u8], count: usize) -> &[u8]
     requires { count ≤ length text.now }
     ensures { result.now ≡ take count text.now }
 {
@@ -186,6 +185,37 @@ fn begin(text: &[u8], count: usize) -> &[u8]
 /// For how many tokens there is room before the first.
 const TOKENS_AT_FIRST: usize = 8;
 
+/// Puts the tokens of a line in place of those that are there, and tells whether the line has tokens. A name may be too long.
+pub fn scan_into(tokens: &mut Vec<Token>, text: &[u8]) -> Result<bool, NoMemory>
+    requires { length text.now < 2 ^ 32 }
+    ensures tokens { IfOk result (λ found. found ≡ true → model.Tokens text.now tokens.new.items) }
+    ensures none { IfOk result (λ found. found ≡ false → model.NoTokens text.now) }
+{
+    tokens.clear();
+    let mut due = first_due(text);
+    let mut place = 0;
+    'tokens: loop {
+        let rest = behind(text, place);
+        let blanks = run_len(rest, Class::Blank);
+        let front = behind(rest, blanks);
+        if is_end(due, front) {
+            return Ok(true);
+        }
+        let Some((kind, len)) = token_at(due, front) else {
+            return Ok(false);
+        };
+        let start = place + blanks;
+        let end = start + len;
+        tokens.push(Token {
+            kind,
+            start: start as u32,
+            end: end as u32,
+        })?;
+        due = due_behind(due, begin(front, len));
+        place = end;
+    }
+}
+
 /// The tokens of a line, where it has tokens; None where it has none. A name may be too long.
 pub fn scan(alloc: Global, text: &[u8]) -> Result<Option<Vec<Token>>, NoMemory>
     requires { length text.now < 2 ^ 32 }
@@ -194,28 +224,10 @@ pub fn scan(alloc: Global, text: &[u8]) -> Result<Option<Vec<Token>>, NoMemory>
         (λ v. model.Tokens text.now v.items)) }
 {
     let mut list = Vec::with_capacity(alloc, TOKENS_AT_FIRST)?;
-    let mut due = first_due(text);
-    let mut place = 0;
-    'tokens: loop {
-        let rest = behind(text, place);
-        if is_end(due, rest) {
-            return Ok(Some(list));
-        }
-        let blanks = run_len(rest, Class::Blank);
-        let front = behind(rest, blanks);
-        let Some((kind, len)) = token_at(due, front) else {
-            return Ok(None);
-        };
-        let start = place + blanks;
-        let end = start + len;
-        list.push(Token {
-            kind,
-            start: start as u32,
-            end: end as u32,
-        })?;
-        due = due_behind(due, begin(front, len));
-        place = end;
+    if scan_into(&mut list, text)? {
+        return Ok(Some(list));
     }
+    Ok(None)
 }
 
 /// The bytes of a name.

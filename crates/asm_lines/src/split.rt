@@ -1,14 +1,15 @@
 //! The lines of a source.
 
-ghost use Rattle.std.specs.Prelude.{◌≡◌, ◌+◌, ◌-◌, ◌<◌, ◌==◌, ◌∷◌, length, position, IfOk};
+ghost use Rattle.std.specs.Prelude.{◌≡◌, ◌+◌, ◌-◌, ◌<◌, ◌≤◌, ◌==◌, ◌∷◌, length, position, take, drop, IfOk};
 ghost use Rattle.std.specs.Str.Lines.{lines, strip_carriage_return};
 ghost use Rattle.asm_model.specs.Lines.{split};
 ghost use Rattle.asm_model.specs.Told.{Gives};
 
-use asm_model::{FileName, Line, bad_line};
+use crate::scan::{begin, behind};
+use asm_model::{FileName, Line, SharedText, bad_line};
 use sdt_fault::answer::Fault;
 use sdt_fault::kinds::LineKind;
-use sdt_fault::{Bytes, List, NoMemory, Text};
+use sdt_fault::{List, NoMemory, Text};
 use std::alloc::Global;
 
 /// The lines of a source file.
@@ -19,35 +20,45 @@ pub const LINE_BYTES: usize = 65_536;
 
 /// The lines of the text of the file that `source` names, numbered from 1. A text with more than
 /// `SOURCE_LINES` lines, or a line of more than `LINE_BYTES` bytes, is refused at the first line at fault.
+/// The lines share one copy of the text; one of 2^32 bytes or more counts as want of memory.
+#[tactic(auto, using(crate::proofs::LineLemmas::no_lines))]
 pub fn split_lines(alloc: Global, source: &Text, text: &[u8]) -> Result<List<Line>, Fault>
     ensures { Gives (split source.now text.now) result }
 {
     let file = FileName::of(alloc, source)?;
+    let whole = SharedText::from_slice(alloc, text)?;
     let mut list = Vec::new(alloc);
-    let mut rest = text;
+    let mut place = 0;
     let mut number = 1;
-    'lines: while !rest.is_empty() {
-        let (line, after) = first_line(rest);
+    'lines: while place < text.len() {
+        let (end, next) = first_line(text, place);
         if number > SOURCE_LINES {
             return Err(bad_line(alloc, source, number, LineKind::TooMany));
         }
-        if line.len() > LINE_BYTES {
+        if end - place > LINE_BYTES {
             return Err(bad_line(alloc, source, number, LineKind::TooMany));
         }
-        let next = line_of(alloc, &file, number, line)?;
-        list.push(next)?;
-        rest = after;
+        list.push(line_of(&file, number, &whole, place, end)?)?;
+        place = next;
         number += 1;
     }
     Ok(List::from_vec(list))
 }
 
-fn line_of(alloc: Global, file: &FileName, number: u32, text: &[u8]) -> Result<Line, NoMemory>
+/// The line that a part of the text is.
+fn line_of(
+    file: &FileName,
+    number: u32,
+    text: &SharedText,
+    from: usize,
+    to: usize,
+) -> Result<Line, NoMemory>
+    requires { (from ≤ to) × (to ≤ length text.now) }
     ensures { IfOk result (λ line. line
-        ≡ record { source = file.now; number = number; text = text.now }) }
+        ≡ record { source = file.now; number = number; text = take (to - from) (drop from text.now) }) }
 {
     let source = file.share()?;
-    let text = Bytes::from_slice(alloc, text)?;
+    let text = text.part(from, to)?;
     Ok(Line {
         source,
         number,
@@ -55,15 +66,19 @@ fn line_of(alloc: Global, file: &FileName, number: u32, text: &[u8]) -> Result<L
     })
 }
 
-/// The first line of a text that isn't empty, and the text behind its end.
-fn first_line(text: &[u8]) -> (&[u8], &[u8])
-    requires { 0 < length text.now }
-    ensures first { lines text.now ≡ result.0.now ∷ lines result.1.now }
-    ensures shorter { length result.1.now < length text.now }
+/// Where the line from a place on ends, and where the text behind its end begins.
+fn first_line(text: &[u8], from: usize) -> (usize, usize)
+    requires { from < length text.now }
+    ensures first { lines (drop from text.now)
+        ≡ take (result.0 - from) (drop from text.now) ∷ lines (drop result.1 text.now) }
+    ensures ends { (from ≤ result.0) × (result.0 ≤ length text.now) }
+    ensures width { length (take (result.0 - from) (drop from text.now)) ≡ result.0 - from }
+    ensures further { (from < result.1) × (result.1 ≤ length text.now) }
 {
-    match line_feed(text) {
-        None => (text, &text[text.len()..]),
-        Some(end) => (without_return(&text[..end]), &text[end + 1..]),
+    let rest = behind(text, from);
+    match line_feed(rest) {
+        None => (text.len(), text.len()),
+        Some(len) => (from + len_without_return(begin(rest, len)), from + len + 1),
     }
 }
 
@@ -74,16 +89,17 @@ fn line_feed(text: &[u8]) -> Option<usize>
     text.iter().position(|b| *b == b'\n')
 }
 
-/// The text without the carriage return at its end.
-fn without_return(text: &[u8]) -> &[u8]
-    ensures { result.now ≡ strip_carriage_return text.now }
+/// How many bytes stand before the carriage return at the end.
+fn len_without_return(text: &[u8]) -> usize
+    ensures bytes { take result text.now ≡ strip_carriage_return text.now }
+    ensures within { result ≤ length text.now }
 {
     if text.is_empty() {
-        return text;
+        return 0;
     }
     let last = text.len() - 1;
     if text[last] == b'\r' {
-        return &text[..last];
+        return last;
     }
-    text
+    text.len()
 }

@@ -158,7 +158,7 @@ half_named t (half.Register subtract rm) h = h
 arm_named : (t : Targets) (l : ArmLine) → ArmSaid l → ArmSaid (named_arm t l)
 arm_named t (arm.DataImmediate condition operation set_flags rd rn e) h = (h.0, h.1, h.2, read_named t e h.3)
 arm_named t (arm.DataShifted condition operation set_flags rd rn rm by) h = (h.0, h.1, h.2, h.3, shift_named t by h.4)
-arm_named t (arm.WriteStatusImmediate condition saved fields e) h = (h.0, read_named t e h.1)
+arm_named t (arm.WriteStatusImmediate condition fields e) h = (h.0, read_named t e h.1)
 arm_named t (arm.TransferImmediate condition load byte rd a) h = (h.0, address_named t a h.1)
 arm_named t (arm.TransferShifted condition load byte rd rn ix subtract rm by) h = (h.0, h.1, h.2, shift_named t by h.3)
 arm_named t (arm.TransferHalf condition load kind rd rn ix o) h = (h.0, h.1, h.2, h.3, half_named t o h.4)
@@ -169,8 +169,8 @@ arm_named t (arm.Multiply condition accumulate set_flags rd rm rs rn) h = h
 arm_named t (arm.MultiplyLong condition signed accumulate set_flags low high rm rs) h = h
 arm_named t (arm.Swap condition byte rd rm rn) h = h
 arm_named t (arm.BranchExchange condition rm) h = h
-arm_named t (arm.ReadStatus condition saved rd) h = h
-arm_named t (arm.WriteStatus condition saved fields rm) h = h
+arm_named t (arm.ReadStatus condition status rd) h = h
+arm_named t (arm.WriteStatus condition fields rm) h = h
 arm_named t (arm.TransferBlock condition load mode rn write_back list user) h = h
 
 operand_said : (t : Targets) (o : ThumbOperand) → ThumbOperandSaid o → ThumbOperandSaid (named_operand t o)

@@ -82,7 +82,7 @@ pub both_arm : (g f : Targets) (l : ArmLine) → named_arm f (named_arm g l) ≡
 both_arm g f (arm.DataImmediate condition operation set_flags rd rn e) = ap (λ z. arm.DataImmediate condition operation set_flags rd rn z) (both g f e)
 both_arm g f (arm.DataShifted condition operation set_flags rd rn rm by) =
     ap (λ z. arm.DataShifted condition operation set_flags rd rn rm z) (both_shift g f by)
-both_arm g f (arm.WriteStatusImmediate condition saved fields e) = ap (λ z. arm.WriteStatusImmediate condition saved fields z) (both g f e)
+both_arm g f (arm.WriteStatusImmediate condition fields e) = ap (λ z. arm.WriteStatusImmediate condition fields z) (both g f e)
 both_arm g f (arm.TransferImmediate condition load byte rd a) = ap (λ z. arm.TransferImmediate condition load byte rd z) (both_address g f a)
 both_arm g f (arm.TransferShifted condition load byte rd rn ix subtract rm by) =
     ap (λ z. arm.TransferShifted condition load byte rd rn ix subtract rm z) (both_shift g f by)

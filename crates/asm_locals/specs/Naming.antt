@@ -76,7 +76,7 @@ named_arm t (arm.DataImmediate condition operation set_flags rd rn e) =
     arm.DataImmediate condition operation set_flags rd rn (named t e)
 named_arm t (arm.DataShifted condition operation set_flags rd rn rm by) =
     arm.DataShifted condition operation set_flags rd rn rm (named_shift t by)
-named_arm t (arm.WriteStatusImmediate condition saved fields e) = arm.WriteStatusImmediate condition saved fields (named t e)
+named_arm t (arm.WriteStatusImmediate condition fields e) = arm.WriteStatusImmediate condition fields (named t e)
 named_arm t (arm.TransferImmediate condition load byte rd a) = arm.TransferImmediate condition load byte rd (named_address t a)
 named_arm t (arm.TransferShifted condition load byte rd rn ix subtract rm by) =
     arm.TransferShifted condition load byte rd rn ix subtract rm (named_shift t by)
@@ -91,8 +91,8 @@ named_arm t (arm.MultiplyLong condition signed accumulate set_flags low high rm 
     arm.MultiplyLong condition signed accumulate set_flags low high rm rs
 named_arm t (arm.Swap condition byte rd rm rn) = arm.Swap condition byte rd rm rn
 named_arm t (arm.BranchExchange condition rm) = arm.BranchExchange condition rm
-named_arm t (arm.ReadStatus condition saved rd) = arm.ReadStatus condition saved rd
-named_arm t (arm.WriteStatus condition saved fields rm) = arm.WriteStatus condition saved fields rm
+named_arm t (arm.ReadStatus condition status rd) = arm.ReadStatus condition status rd
+named_arm t (arm.WriteStatus condition fields rm) = arm.WriteStatus condition fields rm
 named_arm t (arm.TransferBlock condition load mode rn write_back list user) = arm.TransferBlock condition load mode rn write_back list user
 
 abbrev pub named_operand : Targets → ThumbOperand → ThumbOperand
@@ -156,8 +156,8 @@ named_directive t (line.Field e) = line.Field (named t e)
 named_directive t line.Entry = line.Entry
 named_directive t line.End = line.End
 named_directive t (line.Export name) = line.Export name
-named_directive t (line.Import name weak) = line.Import name weak
-named_directive t (line.Extern name weak) = line.Extern name weak
+named_directive t (line.Import name mark) = line.Import name mark
+named_directive t (line.Extern name mark) = line.Extern name mark
 named_directive t (line.Keep name) = line.Keep name
 named_directive t line.Rout = line.Rout
 named_directive t line.Nofp = line.Nofp

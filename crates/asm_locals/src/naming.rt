@@ -5,20 +5,20 @@ ghost use Rattle.asm_locals.specs.Naming as naming;
 ghost use Rattle.asm_locals.specs.Passes.{found, target_of};
 
 use crate::labels::Nearest;
-use asm_model::{Expr, ExprItem};
+use asm_model::{Expr, ExprItem, SharedText};
 use sdt_fault::digits::push_hexadecimal_places;
-use sdt_fault::{List, NoMemory, Text};
+use sdt_fault::{List, NoMemory};
 use std::alloc::Global;
 use std::mem;
 
 /// The name of a statement's local label.
-pub fn hidden_name(alloc: Global, statement: u64) -> Result<Text, NoMemory>
+pub fn hidden_name(alloc: Global, statement: u64) -> Result<SharedText, NoMemory>
     ensures { IfOk result (λ name. name ≡ naming.hidden_name statement) }
 {
     let mut name = Vec::new(alloc);
     name.push(b'\n')?;
     push_hexadecimal_places(&mut name, statement, 8)?;
-    Ok(Text::from_vec(name))
+    SharedText::from_vec(alloc, name)
 }
 
 /// The statement that an item names.

@@ -10,8 +10,8 @@ ghost use Rattle.asm_locals.specs.declared.labels.Way.TheVariants as way;
 use crate::labels::{Nearest, Way, begins_stretch, local_number};
 use crate::naming::hidden_name;
 use crate::statements::name_what;
-use asm_model::Statement;
-use sdt_fault::{NoMemory, Text};
+use asm_model::{SharedText, Statement};
+use sdt_fault::NoMemory;
 use std::alloc::Global;
 
 /// Names the references of a statement to labels on it or before.
@@ -37,7 +37,7 @@ fn name_back(
 /// Gives the label of a statement its own name where it is a local one.
 fn name_label(
     alloc: Global,
-    label: &mut Option<Text>,
+    label: &mut Option<SharedText>,
     number: Option<usize>,
     at: u64,
 ) -> Result<(), NoMemory>

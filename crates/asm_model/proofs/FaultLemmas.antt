@@ -25,7 +25,7 @@ use Rattle.asm_model.specs.Meaning.{unary_of, binary, applied, known, operand_of
 use Rattle.asm_model.specs.Operands.{operands}
 use Rattle.asm_model.specs.Parts.{piece, part_of}
 use Rattle.asm_model.specs.Readings.{and_then, mapped, on_both, then_both}
-use Rattle.asm_model.specs.Says.{Form, bare, name, imported, expression, expressions, area, register, boundary, refused, form_of_directive, bare_of, name_of, name_alone, weak_mark, import_of, register_alone, Expression, Expressions, SomeExpressions, Area, Register, Aligned, Reads, label_field, Sentence, sentence, directive_of, statement_of, SaysAs, SaysDirective}
+use Rattle.asm_model.specs.Says.{Form, bare, name, imported, expression, expressions, area, register, boundary, refused, form_of_directive, bare_of, name_of, name_alone, import_mark, import_of, register_alone, Expression, Expressions, SomeExpressions, Area, Register, Aligned, Reads, label_field, Sentence, sentence, directive_of, statement_of, SaysAs, SaysDirective}
 use Rattle.asm_model.proofs.KindLemmas.{is_earlier, earlier_assoc}
 use Rattle.asm_model.proofs.LineLemmas.{applied_known}
 
@@ -201,9 +201,9 @@ told_some text (o ∷ os) r p = told_expressions text (o ∷ os) r p
 pub told_import : (text : List ℕ) (ts : List Token) → IsToldOf (fault (import_of text ts)) (ImportKind text ts)
 told_import text [] = told_kind_alone Syntax
 told_import text (t ∷ ts) =
-    told_both (λ n weak. (n, weak)) (name_of t.kind (piece text t)) (weak_mark text ts) (λ k. name_of t.kind (piece text t) ≡ Err k)
-    (λ k. weak_mark text ts ≡ Err k)
-    (told_self (name_of t.kind (piece text t))) (told_self (weak_mark text ts))
+    told_both (λ n m. (n, m)) (name_of t.kind (piece text t)) (import_mark text ts) (λ k. name_of t.kind (piece text t) ≡ Err k)
+    (λ k. import_mark text ts ≡ Err k)
+    (told_self (name_of t.kind (piece text t))) (told_self (import_mark text ts))
 
 pub told_alignment : (text : List ℕ) (ts : List Token) (b : Bool) (r : Result (Option Expr) LineKind)
     → MatchBool b ((e : Result Expr LineKind) × ParsesTokens text ts e × (r ≡ alignment e)) (r ≡ Err Syntax)

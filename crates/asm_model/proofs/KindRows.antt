@@ -15,6 +15,7 @@ use Rattle.asm_model.specs.declared.directives.Contents.TheVariants as contents
 use Rattle.asm_model.specs.declared.directives.DataItem.TheVariants as datum
 use Rattle.asm_model.specs.declared.directives.DirectiveLine.{DirectiveLine}
 use Rattle.asm_model.specs.declared.directives.DirectiveLine.TheVariants as line
+use Rattle.asm_model.specs.declared.directives.ImportMark.TheVariants as mark
 use Rattle.asm_model.specs.LayoutKinds.{layout_fault}
 
 abbrev says : ℕ → Option (List ℕ) → DirectiveLine → Statement
@@ -64,7 +65,7 @@ place_before_area = refl
 pub two_labels : told (words 3 (Some (codes "x")) ∷ words 2 (Some (codes "x")) ∷ area 1 contents.Code false ∷ []) ≡ Some (3, DuplicateName)
 two_labels = refl
 
-pub imported_label : told (says 3 None (line.Import (codes "x") (Some false)) ∷ words 2 (Some (codes "x")) ∷ area 1 contents.Code false ∷ []) ≡ Some
+pub imported_label : told (says 3 None (line.Import (codes "x") mark.Absent) ∷ words 2 (Some (codes "x")) ∷ area 1 contents.Code false ∷ []) ≡ Some
     (3, DuplicateName)
 imported_label = refl
 

@@ -16,6 +16,7 @@ use Rattle.asm_model.specs.declared.directives.Contents.{Contents}
 use Rattle.asm_model.specs.declared.directives.Contents.TheVariants as contents
 use Rattle.asm_model.specs.declared.directives.DataItem.TheVariants as datum
 use Rattle.asm_model.specs.declared.directives.DirectiveLine.TheVariants as line
+use Rattle.asm_model.specs.declared.directives.ImportMark.TheVariants as mark
 use Rattle.asm_model.specs.Meaning.{named_in}
 use Rattle.asm_model.specs.Entries.{label_entry, place_entry, valued_entry}
 use Rattle.asm_model.specs.Laid.{LaidLine, laid, pieces_of, final_names}
@@ -64,7 +65,7 @@ source =
     says (Some (codes "end")) (what.Directive (line.Constants datum.Word (items (name (codes "out") ∷ []) ∷ items (name (codes "far") ∷ [])
     ∷ items (name (codes "x") ∷ []) ∷ [])))
     ∷ area (codes "a") contents.Code
-    ∷ says None (what.Directive (line.Import (codes "far") (Some false)))
+    ∷ says None (what.Directive (line.Import (codes "far") mark.Absent))
     ∷ says (Some (codes "x")) (what.Directive (line.Constants datum.Byte (items (item.Constant (Words (codes "abc")) ∷ []) ∷ [])))
     ∷ area (codes "b") contents.Data
     ∷ says (Some (codes "out")) (what.Directive (line.Equ (items (item.Here ∷ []))))

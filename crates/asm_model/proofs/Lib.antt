@@ -19,3 +19,4 @@ pub mod TreeLemmas
 pub mod SharedLemmas
 pub mod PartLemmas
 pub mod SaidLemmas
+pub mod TextLemmas

@@ -9,6 +9,7 @@ use Rattle.asm_model.specs.declared.tokens.TokenKind.TheVariants as kind
 use Rattle.asm_model.specs.declared.directives.DataItem.TheVariants as datum
 use Rattle.asm_model.specs.declared.directives.Directive.TheVariants as directive
 use Rattle.asm_model.specs.declared.directives.DirectiveLine.TheVariants as line
+use Rattle.asm_model.specs.declared.directives.ImportMark.TheVariants as mark
 use Rattle.asm_model.specs.declared.directives.Attribute.TheVariants as attribute
 use Rattle.asm_model.specs.declared.directives.LabelNeed.TheVariants as need
 use Rattle.asm_model.specs.declared.directives.RnOperand.TheVariants as rn
@@ -16,7 +17,7 @@ use Rattle.asm_model.specs.Areas.{attribute_named, attributes_in, is_repeated, i
 use Rattle.asm_model.specs.Directives.{directive_named, named_data, named_symbol, named_report, named_variable, named_structure}
 use Rattle.asm_model.specs.Operands.{operands, depth_behind}
 use Rattle.asm_model.specs.Registers.{register_named, numbered_register, special_register, call_register}
-use Rattle.asm_model.specs.Says.{SaysDirective, label_field, weak_mark, statement_of}
+use Rattle.asm_model.specs.Says.{SaysDirective, label_field, import_mark, statement_of}
 
 abbrev at : TokenKind → ℕ → ℕ → Token
 at k start end = record { kind = k; start = start; end = end }
@@ -61,10 +62,10 @@ pub long_label : label_field need.Optional (codes "123 DCD 1") (Some (at kind.Nu
 long_label = refl
 
 -- imports
-pub weak_brackets : weak_mark (codes "[Weak]") (at kind.Sign 0 1 ∷ at kind.Name 1 5 ∷ at kind.Sign 5 6 ∷ []) ≡ Ok (Some true)
+pub weak_brackets : import_mark (codes "[Weak]") (at kind.Sign 0 1 ∷ at kind.Name 1 5 ∷ at kind.Sign 5 6 ∷ []) ≡ Ok mark.Weak
 weak_brackets = refl
 
-pub other_mark : weak_mark (codes ",foo") (at kind.Sign 0 1 ∷ at kind.Name 1 4 ∷ []) ≡ Ok None
+pub other_mark : import_mark (codes ",foo") (at kind.Sign 0 1 ∷ at kind.Name 1 4 ∷ []) ≡ Ok mark.Other
 other_mark = refl
 
 -- attributes
@@ -91,9 +92,9 @@ flat text = record { source = codes "t.s"; number = 7; text = text }
 
 pub weak_line : SaysDirective (flat (codes "x IMPORT y,WEAK")) (at kind.Name 0 1 ∷ at kind.Name 2 8 ∷ at kind.Name 9 10 ∷ at kind.Sign 10 11
     ∷ at kind.Name 11 15 ∷ [])
-    (Ok (statement_of (flat (codes "x IMPORT y,WEAK")) (Some (codes "x")) (line.Import (codes "y") (Some true))))
+    (Ok (statement_of (flat (codes "x IMPORT y,WEAK")) (Some (codes "x")) (line.Import (codes "y") mark.Weak)))
 unfolding directive_named named_data named_symbol
-weak_line = (Ok (line.Import (codes "y") (Some true)), refl, refl)
+weak_line = (Ok (line.Import (codes "y") mark.Weak), refl, refl)
 
 pub rn_line : SaysDirective (flat (codes "x RN r5")) (at kind.Name 0 1 ∷ at kind.Name 2 4 ∷ at kind.Name 5 7 ∷ [])
     (Ok (statement_of (flat (codes "x RN r5")) (Some (codes "x")) (line.Rn (rn.Register 5))))

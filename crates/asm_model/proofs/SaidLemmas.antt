@@ -70,10 +70,10 @@ defined_named (Some n) (what.Directive line.Rout) h = tt
 defined_named (Some n) w h = h.0.1
 
 imported_named : (o : Option (List ℕ)) (w : What) → AllByRecursion IsText (label_names o ++ what_names w) → HasImport (imported_in w)
-imported_named None (what.Directive (line.Import n weak)) h = h.0.1
-imported_named (Some n) (what.Directive (line.Import m weak)) h = h.1.0.1
-imported_named None (what.Directive (line.Extern n weak)) h = h.0.1
-imported_named (Some n) (what.Directive (line.Extern m weak)) h = h.1.0.1
+imported_named None (what.Directive (line.Import n mark)) h = h.0.1
+imported_named (Some n) (what.Directive (line.Import m mark)) h = h.1.0.1
+imported_named None (what.Directive (line.Extern n mark)) h = h.0.1
+imported_named (Some n) (what.Directive (line.Extern m mark)) h = h.1.0.1
 imported_named o w h = tt
 
 pub fine_named : (s : Statement) → IsFine s → HasName (defined_by s) × HasImport (imported_in s.what)

@@ -1,6 +1,7 @@
 -- The attributes of AREA. ARM SDT 2.50 Reference Guide, chapter on the assembler. Which of them exclude each other is
 -- this project's, and so is that an attribute stands once.
-use Rattle.std.specs.Prelude.{◌≡◌, ℕ, List, [], ◌∷◌, ◌++◌, codes, nat_lt, ◌==◌, ◌&&◌, ◌||◌, not, Bool, false, if◌then◌else◌, Option, Some, None, Result, Ok, Err, MatchBool, count_by}
+use Rattle.std.specs.Prelude.{◌≡◌, ℕ, nat_lt, ◌==◌, ◌&&◌, ◌||◌, not, Bool, false, if◌then◌else◌, MatchBool}
+use Rattle.std.specs.Prelude.{List, [], ◌∷◌, ◌++◌, codes, Option, Some, None, Result, Ok, Err, count_by}
 use Rattle.std.specs.List.{list_any}
 use Rattle.std.specs.Option.{is_some}
 use Rattle.sdt_fault.specs.declared.kinds.LineKind.{LineKind}
@@ -10,7 +11,8 @@ use Rattle.asm_model.specs.declared.tokens.TokenKind.{TokenKind}
 use Rattle.asm_model.specs.declared.tokens.TokenKind.TheVariants as kind
 use Rattle.asm_model.specs.declared.exprs.Expr.{Expr}
 use Rattle.asm_model.specs.declared.directives.Attribute.{Attribute}
-use Rattle.asm_model.specs.declared.directives.Attribute.TheVariants.{Code, Data, ReadOnly, ReadWrite, NoInit, Interwork, Halfword, Pic, Reentrant, Align}
+use Rattle.asm_model.specs.declared.directives.Attribute.TheVariants.{Code, Data, ReadOnly, ReadWrite, NoInit}
+use Rattle.asm_model.specs.declared.directives.Attribute.TheVariants.{Interwork, Halfword, Pic, Reentrant, Align}
 use Rattle.asm_model.specs.declared.directives.Contents.{Contents}
 use Rattle.asm_model.specs.declared.directives.Contents.TheVariants as contents
 use Rattle.asm_model.specs.declared.directives.AreaAttributes.{AreaAttributes}

@@ -5,7 +5,9 @@
 use Rattle.std.specs.Prelude.{ℕ, List, [], ◌∷◌, codes, if◌then◌else◌, Option, Some, None}
 use Rattle.asm_model.specs.Tokens.{is_called}
 use Rattle.asm_model.specs.declared.directives.Directive.{Directive}
-use Rattle.asm_model.specs.declared.directives.Directive.TheVariants.{Area, Entry, End, Export, Import, Extern, Keep, Equ, Rn, Rout, Assert, Nofp, Opt, Ttl, Subt, Constants, Space, Align, Ltorg, Data, Map, Field, Code16, Code32, FloatingPoint, Expansion}
+use Rattle.asm_model.specs.declared.directives.Directive.TheVariants.{Area, Entry, End, Export, Import, Extern, Keep, Equ, Rn, Rout}
+use Rattle.asm_model.specs.declared.directives.Directive.TheVariants.{Assert, Nofp, Opt, Ttl, Subt, Constants, Space, Align, Ltorg}
+use Rattle.asm_model.specs.declared.directives.Directive.TheVariants.{Data, Map, Field, Code16, Code32, FloatingPoint, Expansion}
 use Rattle.asm_model.specs.declared.directives.DataItem.TheVariants.{Word, UnalignedWord, HalfWord, Byte}
 use Rattle.asm_model.specs.declared.directives.LabelNeed.{LabelNeed}
 use Rattle.asm_model.specs.declared.directives.LabelNeed.TheVariants.{Optional, Label, Name}

@@ -2,7 +2,8 @@
 -- assembler. This project's: a label alone isn't aligned; a label on ALIGN stands before the padding; an operand of DCB
 -- that is no string by what is known at its line counts one byte; LDR with a number that MOV or MVN encodes is one of
 -- these in ARM state, and in Thumb state it always loads.
-use Rattle.std.specs.Prelude.{ℕ, ◌+◌, ◌-◌, ◌*◌, ◌^◌, ◌==◌, ◌||◌, nat_lt, List, [], ◌∷◌, length, Bool, if◌then◌else◌, Option, Some, None, Result, Ok, Err}
+use Rattle.std.specs.Prelude.{ℕ, ◌+◌, ◌-◌, ◌*◌, ◌^◌, ◌==◌, ◌||◌, nat_lt, Bool, if◌then◌else◌}
+use Rattle.std.specs.Prelude.{List, [], ◌∷◌, length, Option, Some, None, Result, Ok, Err}
 use Rattle.std.specs.List.{list_any}
 use Rattle.sdt_word.specs.Numbers.{rotated}
 use Rattle.sdt_fault.specs.declared.kinds.LineKind.{LineKind}

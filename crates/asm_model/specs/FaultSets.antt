@@ -18,7 +18,9 @@ use Rattle.asm_model.specs.Kinds.{rank, earlier, told_kind}
 use Rattle.asm_model.specs.Meaning.{unary_of, binary, applied, known, operand_of_item, meaning}
 use Rattle.asm_model.specs.Operands.{operands}
 use Rattle.asm_model.specs.Parts.{piece}
-use Rattle.asm_model.specs.Says.{Form, bare, name, imported, expression, expressions, area, register, boundary, refused, form_of_directive, bare_of, name_of, name_alone, weak_mark, register_alone, label_field, Sentence, sentence, directive_of, SaysDirective}
+use Rattle.asm_model.specs.Says.{Form, bare, name, imported, expression, expressions, area, register, boundary}
+use Rattle.asm_model.specs.Says.{refused, form_of_directive, bare_of, name_of, name_alone, import_mark}
+use Rattle.asm_model.specs.Says.{register_alone, label_field, Sentence, sentence, directive_of, SaysDirective}
 
 -- what is told of a set of kinds: nothing where it is empty, and else its first kind
 abbrev pub IsToldOf : Option LineKind → (LineKind → Type 0) → Type 0
@@ -77,7 +79,7 @@ SomeOperandsKind text (o ∷ os) k = OperandsKind text (o ∷ os) k
 
 abbrev pub ImportKind : List ℕ → List Token → LineKind → Type 0
 ImportKind text [] k = k ≡ Syntax
-ImportKind text (t ∷ ts) k = (name_of t.kind (piece text t) ≡ Err k) ⊎ (weak_mark text ts ≡ Err k)
+ImportKind text (t ∷ ts) k = (name_of t.kind (piece text t) ≡ Err k) ⊎ (import_mark text ts ≡ Err k)
 
 abbrev pub AttributeKind : List ℕ → List Token → LineKind → Type 0
 AttributeKind text [] k = k ≡ Syntax

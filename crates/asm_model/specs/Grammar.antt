@@ -11,7 +11,10 @@ use Rattle.asm_model.specs.declared.exprs.Part.{Part}
 use Rattle.asm_model.specs.declared.exprs.Part.TheVariants as part
 use Rattle.asm_model.specs.declared.exprs.UnaryOp.{UnaryOp}
 use Rattle.asm_model.specs.declared.exprs.BinaryOp.{BinaryOp}
-use Rattle.asm_model.specs.declared.exprs.BinaryOp.TheVariants.{Multiply, Divide, Modulo, Left, Right, Concatenate, RotateLeft, RotateRight, ShiftLeft, ShiftRight, Add, Subtract, And, Or, ExclusiveOr, Equal, NotEqual, Less, LessEqual, Greater, GreaterEqual, LogicalAnd, LogicalOr, LogicalExclusiveOr}
+use Rattle.asm_model.specs.declared.exprs.BinaryOp.TheVariants.{Multiply, Divide, Modulo, Left, Right, Concatenate, RotateLeft}
+use Rattle.asm_model.specs.declared.exprs.BinaryOp.TheVariants.{RotateRight, ShiftLeft, ShiftRight, Add, Subtract, And}
+use Rattle.asm_model.specs.declared.exprs.BinaryOp.TheVariants.{Or, ExclusiveOr, Equal, NotEqual, Less, LessEqual, Greater}
+use Rattle.asm_model.specs.declared.exprs.BinaryOp.TheVariants.{GreaterEqual, LogicalAnd, LogicalOr, LogicalExclusiveOr}
 use Rattle.asm_model.specs.Parts.{part_of}
 
 -- the level of an operator between operands, the tightest first; operators before an operand are tighter

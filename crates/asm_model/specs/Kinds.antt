@@ -2,7 +2,9 @@
 -- This project's.
 use Rattle.std.specs.Prelude.{ℕ, List, [], ◌∷◌, nat_lt, if◌then◌else◌, Bool, Option, None, Some}
 use Rattle.sdt_fault.specs.declared.kinds.LineKind.{LineKind}
-use Rattle.sdt_fault.specs.declared.kinds.LineKind.TheVariants.{Syntax, UnknownWord, FloatingPoint, BadOperand, Constant, Forward, DuplicateName, WrongType, OutOfRange, Nesting, Assert, NoArea, DivideByZero, TooDeep, TooMany}
+use Rattle.sdt_fault.specs.declared.kinds.LineKind.TheVariants.{Syntax, UnknownWord, FloatingPoint, BadOperand, Constant}
+use Rattle.sdt_fault.specs.declared.kinds.LineKind.TheVariants.{Forward, DuplicateName, WrongType, OutOfRange}
+use Rattle.sdt_fault.specs.declared.kinds.LineKind.TheVariants.{Nesting, Assert, NoArea, DivideByZero, TooDeep, TooMany}
 
 -- the place of a kind in the order
 abbrev pub rank : LineKind → ℕ

@@ -2,20 +2,26 @@
 -- Guide, chapter on the assembler; their meanings are this project's: arithmetic is modulo 2^32, division and
 -- comparison are unsigned, and a label takes part only as label plus or minus a number and as the difference of
 -- two labels of one area. Faults: of the operands' faults the first in the order of the kinds is handed on.
-use Rattle.std.specs.Prelude.{◌≡◌, ℕ, ◌+◌, ◌-◌, ◌*◌, ◌/◌, ◌%◌, ◌^◌, List, [], ◌∷◌, ◌++◌, length, take, drop, nat_lt, ◌==◌, ◌&&◌, ◌||◌, not, Bool, true, false, if◌then◌else◌, codes, Option, Some, None, Result, Ok, Err, bit_and, bit_or, bit_xor}
+use Rattle.std.specs.Prelude.{◌≡◌, ℕ, ◌+◌, ◌-◌, ◌*◌, ◌/◌, ◌%◌, ◌^◌, bit_and, bit_or, bit_xor}
+use Rattle.std.specs.Prelude.{nat_lt, ◌==◌, ◌&&◌, ◌||◌, not, Bool, true, false, if◌then◌else◌}
+use Rattle.std.specs.Prelude.{List, [], ◌∷◌, ◌++◌, length, take, drop, codes, Option, Some, None, Result, Ok, Err}
 use Rattle.std.specs.Int.{w32, rotate_left, rotate_right}
 use Rattle.std.specs.declared.cmp.Ordering.{Ordering}
 use Rattle.std.specs.Ordering.{nat_cmp, is_lt, is_le, is_eq, is_gt, is_ge}
 use Rattle.std.specs.Cmp.Lexicographic.{slice_cmp}
 use Rattle.sdt_fault.specs.declared.kinds.LineKind.{LineKind}
-use Rattle.sdt_fault.specs.declared.kinds.LineKind.TheVariants.{Syntax, UnknownWord, Constant, Forward, WrongType, OutOfRange, DivideByZero, TooMany}
+use Rattle.sdt_fault.specs.declared.kinds.LineKind.TheVariants.{Syntax, UnknownWord, Constant, Forward}
+use Rattle.sdt_fault.specs.declared.kinds.LineKind.TheVariants.{WrongType, OutOfRange, DivideByZero, TooMany}
 use Rattle.sdt_fault.specs.Digits.{hexadecimal_places}
 use Rattle.asm_model.specs.declared.exprs.ExprItem.{ExprItem}
 use Rattle.asm_model.specs.declared.exprs.ExprItem.TheVariants as item
 use Rattle.asm_model.specs.declared.exprs.UnaryOp.{UnaryOp}
 use Rattle.asm_model.specs.declared.exprs.UnaryOp.TheVariants as unary
 use Rattle.asm_model.specs.declared.exprs.BinaryOp.{BinaryOp}
-use Rattle.asm_model.specs.declared.exprs.BinaryOp.TheVariants.{Multiply, Divide, Modulo, Left, Right, Concatenate, RotateLeft, RotateRight, ShiftLeft, ShiftRight, Add, Subtract, And, Or, ExclusiveOr, Equal, NotEqual, Less, LessEqual, Greater, GreaterEqual, LogicalAnd, LogicalOr, LogicalExclusiveOr}
+use Rattle.asm_model.specs.declared.exprs.BinaryOp.TheVariants.{Multiply, Divide, Modulo, Left, Right, Concatenate, RotateLeft}
+use Rattle.asm_model.specs.declared.exprs.BinaryOp.TheVariants.{RotateRight, ShiftLeft, ShiftRight, Add, Subtract, And}
+use Rattle.asm_model.specs.declared.exprs.BinaryOp.TheVariants.{Or, ExclusiveOr, Equal, NotEqual, Less, LessEqual, Greater}
+use Rattle.asm_model.specs.declared.exprs.BinaryOp.TheVariants.{GreaterEqual, LogicalAnd, LogicalOr, LogicalExclusiveOr}
 use Rattle.asm_model.specs.declared.values.Value.{Value}
 use Rattle.asm_model.specs.declared.values.Value.TheVariants.{Number, Truth, Words, Place}
 use Rattle.asm_model.specs.declared.values.EvalFault.{EvalFault}

@@ -1,7 +1,7 @@
 -- The kinds of faults that a statement has by itself: a word that its form doesn't have there, a number that is too
 -- large, and a name beyond the limit. SDT 2.50 Reference Guide, chapter on the assembler.
-use Rattle.std.specs.Prelude.{List, ◌++◌, ◌==◌, not, Bool, true, false}
-use Rattle.std.specs.Option.{is_some}
+use Rattle.std.specs.Prelude.{List, ◌++◌, Bool, true, false}
+use Rattle.std.specs.Option.{is_none}
 use Rattle.sdt_fault.specs.declared.kinds.LineKind.{LineKind}
 use Rattle.sdt_fault.specs.declared.kinds.LineKind.TheVariants.{BadOperand, Constant, TooMany}
 use Rattle.asm_model.specs.declared.operands.Indexing.{Indexing}
@@ -12,6 +12,8 @@ use Rattle.asm_model.specs.declared.arm_lines.ArmLine.{ArmLine}
 use Rattle.asm_model.specs.declared.arm_lines.ArmLine.TheVariants as arm
 use Rattle.asm_model.specs.declared.directives.DirectiveLine.{DirectiveLine}
 use Rattle.asm_model.specs.declared.directives.DirectiveLine.TheVariants as line
+use Rattle.asm_model.specs.declared.directives.ImportMark.{ImportMark}
+use Rattle.asm_model.specs.declared.directives.ImportMark.TheVariants as mark
 use Rattle.asm_model.specs.declared.statements.Statement.{Statement}
 use Rattle.asm_model.specs.declared.statements.What.{What}
 use Rattle.asm_model.specs.declared.statements.What.TheVariants as what
@@ -35,9 +37,9 @@ is_bad_arm (arm.Multiply condition accumulate set_flags rd rm rs rn) = false
 is_bad_arm (arm.MultiplyLong condition signed accumulate set_flags low high rm rs) = false
 is_bad_arm (arm.Swap condition byte rd rm rn) = false
 is_bad_arm (arm.BranchExchange condition rm) = false
-is_bad_arm (arm.ReadStatus condition saved rd) = not (is_some saved)
-is_bad_arm (arm.WriteStatus condition saved fields rm) = fields == 0
-is_bad_arm (arm.WriteStatusImmediate condition saved fields e) = fields == 0
+is_bad_arm (arm.ReadStatus condition status rd) = is_none status
+is_bad_arm (arm.WriteStatus condition fields rm) = is_none fields
+is_bad_arm (arm.WriteStatusImmediate condition fields e) = is_none fields
 is_bad_arm (arm.TransferImmediate condition load byte rd a) = is_bad_address a
 is_bad_arm (arm.TransferShifted condition load byte rd rn ix subtract rm by) = is_bad_index ix
 is_bad_arm (arm.TransferHalf condition load kind rd rn ix o) = false
@@ -45,14 +47,19 @@ is_bad_arm (arm.TransferBlock condition load mode rn write_back list user) = fal
 is_bad_arm (arm.Branch condition link e) = false
 is_bad_arm (arm.SoftwareInterrupt condition e) = false
 
--- whether attributes are bad, or a mark is another than WEAK
+-- whether a mark is another word than WEAK
+abbrev pub is_bad_mark : ImportMark → Bool
+is_bad_mark mark.Other = true
+is_bad_mark _ = false
+
+-- whether attributes or a mark are bad
 abbrev pub is_bad_directive : DirectiveLine → Bool
 is_bad_directive (line.Area name a) = a.has_bad_word
 is_bad_directive line.Entry = false
 is_bad_directive line.End = false
 is_bad_directive (line.Export name) = false
-is_bad_directive (line.Import name weak) = not (is_some weak)
-is_bad_directive (line.Extern name weak) = not (is_some weak)
+is_bad_directive (line.Import name m) = is_bad_mark m
+is_bad_directive (line.Extern name m) = is_bad_mark m
 is_bad_directive (line.Keep name) = false
 is_bad_directive (line.Equ e) = false
 is_bad_directive (line.Rn r) = false

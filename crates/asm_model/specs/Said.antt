@@ -25,6 +25,7 @@ use Rattle.asm_model.specs.declared.operands.HalfOffset.{HalfOffset}
 use Rattle.asm_model.specs.declared.operands.HalfOffset.TheVariants as half
 use Rattle.asm_model.specs.declared.operands.ListItem.{ListItem}
 use Rattle.asm_model.specs.declared.operands.ListItem.TheVariants as item
+use Rattle.asm_model.specs.declared.operands.StatusFields.{StatusFields}
 use Rattle.asm_model.specs.declared.operands.LiteralAddress.{LiteralAddress}
 use Rattle.asm_model.specs.declared.operands.LiteralAddress.TheVariants as literal
 use Rattle.asm_model.specs.declared.operands.ThumbOperand.{ThumbOperand}
@@ -123,6 +124,11 @@ IsUntranslated indexing.Translated = ⊥
 IsUntranslated indexing.TranslatedBefore = ⊥
 IsUntranslated _ = Unit {0}
 
+-- of the four letters, one at least
+abbrev pub FieldsSaid : Option StatusFields → Type 0
+FieldsSaid None = Unit {0}
+FieldsSaid (Some f) = (0 < f.mask) × (f.mask < 16)
+
 abbrev pub ArmSaid : ArmLine → Type 0
 ArmSaid (arm.DataImmediate condition operation set_flags rd rn e) =
     RegisterSaid rd × RegisterSaid rn × OperationSaid operation set_flags rd rn × IsRead e
@@ -136,9 +142,9 @@ ArmSaid (arm.MultiplyLong condition signed accumulate set_flags low high rm rs) 
     RegisterSaid low × RegisterSaid high × RegisterSaid rm × RegisterSaid rs
 ArmSaid (arm.Swap condition byte rd rm rn) = RegisterSaid rd × RegisterSaid rm × RegisterSaid rn
 ArmSaid (arm.BranchExchange condition rm) = RegisterSaid rm
-ArmSaid (arm.ReadStatus condition saved rd) = RegisterSaid rd
-ArmSaid (arm.WriteStatus condition saved fields rm) = (fields < 16) × RegisterSaid rm
-ArmSaid (arm.WriteStatusImmediate condition saved fields e) = (fields < 16) × IsRead e
+ArmSaid (arm.ReadStatus condition status rd) = RegisterSaid rd
+ArmSaid (arm.WriteStatus condition fields rm) = FieldsSaid fields × RegisterSaid rm
+ArmSaid (arm.WriteStatusImmediate condition fields e) = FieldsSaid fields × IsRead e
 ArmSaid (arm.TransferImmediate condition load byte rd a) = RegisterSaid rd × AddressSaid a
 ArmSaid (arm.TransferShifted condition load byte rd rn ix subtract rm by) =
     RegisterSaid rd × RegisterSaid rn × RegisterSaid rm × ShiftSaid by
@@ -209,8 +215,8 @@ DirectiveSaid (line.Area name a) = AllRead a.alignments
 DirectiveSaid line.Entry = Unit {0}
 DirectiveSaid line.End = Unit {0}
 DirectiveSaid (line.Export name) = Unit {0}
-DirectiveSaid (line.Import name weak) = Unit {0}
-DirectiveSaid (line.Extern name weak) = Unit {0}
+DirectiveSaid (line.Import name mark) = Unit {0}
+DirectiveSaid (line.Extern name mark) = Unit {0}
 DirectiveSaid (line.Keep name) = Unit {0}
 DirectiveSaid (line.Equ e) = IsRead e
 DirectiveSaid (line.Rn r) = GivenSaid r
@@ -269,8 +275,8 @@ directive_names (line.Area name a) = name ∷ []
 directive_names line.Entry = []
 directive_names line.End = []
 directive_names (line.Export name) = name ∷ []
-directive_names (line.Import name weak) = name ∷ []
-directive_names (line.Extern name weak) = name ∷ []
+directive_names (line.Import name mark) = name ∷ []
+directive_names (line.Extern name mark) = name ∷ []
 directive_names (line.Keep name) = name ∷ []
 directive_names (line.Equ e) = []
 directive_names (line.Rn r) = []

@@ -6,7 +6,8 @@
 -- line, places before the first AREA, a second ENTRY, attributes of an area that is named again, and states; and so are
 -- words that a form doesn't have, as attributes that exclude each other, numbers that are too large, and names beyond
 -- the limit.
-use Rattle.std.specs.Prelude.{◌≡◌, ℕ, List, [], ◌∷◌, length, take, drop, codes, ◌-◌, ◌==◌, ◌&&◌, Bool, true, false, if◌then◌else◌, Option, Some, None, Result, Ok, Err}
+use Rattle.std.specs.Prelude.{◌≡◌, ℕ, ◌-◌, ◌==◌, ◌&&◌, false, if◌then◌else◌}
+use Rattle.std.specs.Prelude.{List, [], ◌∷◌, length, take, drop, codes, Option, Some, None, Result, Ok, Err}
 use Rattle.sdt_fault.specs.declared.kinds.LineKind.{LineKind}
 use Rattle.sdt_fault.specs.declared.kinds.LineKind.TheVariants.{Syntax, UnknownWord, FloatingPoint}
 use Rattle.asm_model.specs.declared.lines.Flat.{Flat}
@@ -20,6 +21,8 @@ use Rattle.asm_model.specs.declared.directives.LabelNeed.{LabelNeed}
 use Rattle.asm_model.specs.declared.directives.LabelNeed.TheVariants as need
 use Rattle.asm_model.specs.declared.directives.DirectiveLine.{DirectiveLine}
 use Rattle.asm_model.specs.declared.directives.DirectiveLine.TheVariants as line
+use Rattle.asm_model.specs.declared.directives.ImportMark.{ImportMark}
+use Rattle.asm_model.specs.declared.directives.ImportMark.TheVariants as mark
 use Rattle.asm_model.specs.declared.directives.RnOperand.TheVariants as rn
 use Rattle.asm_model.specs.declared.directives.Boundary.TheVariants as limit
 use Rattle.asm_model.specs.declared.statements.Statement.{Statement}
@@ -42,7 +45,7 @@ pub data Form : Type 0 where
   -- one name
   name : (List ℕ → DirectiveLine) → Form
   -- one name, behind which [WEAK] or ,WEAK may stand
-  imported : (List ℕ → Option Bool → DirectiveLine) → Form
+  imported : (List ℕ → ImportMark → DirectiveLine) → Form
   -- one expression
   expression : (Expr → DirectiveLine) → Form
   -- one expression or more
@@ -62,8 +65,8 @@ form_of_directive directive.Area = area
 form_of_directive directive.Entry = bare line.Entry
 form_of_directive directive.End = bare line.End
 form_of_directive directive.Export = name (λ n. line.Export n)
-form_of_directive directive.Import = imported (λ n weak. line.Import n weak)
-form_of_directive directive.Extern = imported (λ n weak. line.Extern n weak)
+form_of_directive directive.Import = imported (λ n m. line.Import n m)
+form_of_directive directive.Extern = imported (λ n m. line.Extern n m)
 form_of_directive directive.Keep = name (λ n. line.Keep n)
 form_of_directive directive.Equ = expression (λ e. line.Equ e)
 form_of_directive directive.Rn = register
@@ -102,23 +105,23 @@ name_alone text (t ∷ []) = name_of t.kind (piece text t)
 name_alone text (t ∷ u ∷ ts) = Err Syntax
 
 -- a token as the word WEAK, or as another word
-abbrev pub weak_word : TokenKind → List ℕ → Result (Option Bool) LineKind
-weak_word kind.Name s = Ok (if is_called (codes "WEAK") s then Some true else None)
-weak_word _ s = Err Syntax
+abbrev pub mark_of : TokenKind → List ℕ → Result ImportMark LineKind
+mark_of kind.Name s = Ok (if is_called (codes "WEAK") s then mark.Weak else mark.Other)
+mark_of _ s = Err Syntax
 
--- what stands behind the name of an import: whether it is weak, where that can be told
-abbrev pub weak_mark : List ℕ → List Token → Result (Option Bool) LineKind
-weak_mark text [] = Ok (Some false)
-weak_mark text (t ∷ []) = Err Syntax
-weak_mark text (t ∷ w ∷ []) = if same (piece text t) (codes ",") then weak_word w.kind (piece text w) else Err Syntax
-weak_mark text (t ∷ w ∷ u ∷ []) =
-    if same (piece text t) (codes "[") && same (piece text u) (codes "]") then weak_word w.kind (piece text w) else Err Syntax
-weak_mark text (t ∷ w ∷ u ∷ v ∷ ts) = Err Syntax
+-- what stands behind the name of an import
+abbrev pub import_mark : List ℕ → List Token → Result ImportMark LineKind
+import_mark text [] = Ok mark.Absent
+import_mark text (t ∷ []) = Err Syntax
+import_mark text (t ∷ w ∷ []) = if same (piece text t) (codes ",") then mark_of w.kind (piece text w) else Err Syntax
+import_mark text (t ∷ w ∷ u ∷ []) =
+    if same (piece text t) (codes "[") && same (piece text u) (codes "]") then mark_of w.kind (piece text w) else Err Syntax
+import_mark text (t ∷ w ∷ u ∷ v ∷ ts) = Err Syntax
 
--- tokens as a name, and whether it is weak
-abbrev pub import_of : List ℕ → List Token → Result (List ℕ × Option Bool) LineKind
+-- tokens as a name and its mark
+abbrev pub import_of : List ℕ → List Token → Result (List ℕ × ImportMark) LineKind
 import_of text [] = Err Syntax
-import_of text (t ∷ ts) = on_both (λ n weak. (n, weak)) (name_of t.kind (piece text t)) (weak_mark text ts)
+import_of text (t ∷ ts) = on_both (λ n m. (n, m)) (name_of t.kind (piece text t)) (import_mark text ts)
 
 -- tokens as a register alone
 abbrev pub register_alone : List ℕ → List Token → Option ℕ

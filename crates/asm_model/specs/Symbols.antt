@@ -2,7 +2,8 @@
 -- symbol relocation needs, in order of the first line that so names them; a literal's name counts for the line of its
 -- LDR. A word needs a symbol that stands in no area of the source. A branch of ARM state, and BL in Thumb state, needs one
 -- that isn't a label of the same area and state, or another place of the area. ARM Object Format, symbols; the order is this project's.
-use Rattle.std.specs.Prelude.{ℕ, List, [], ◌∷◌, ◌++◌, ◌==◌, ◌&&◌, ◌||◌, not, Bool, true, false, if◌then◌else◌, Option, Some, None, Result, Ok}
+use Rattle.std.specs.Prelude.{ℕ, ◌==◌, ◌&&◌, ◌||◌, not, Bool, true, false, if◌then◌else◌}
+use Rattle.std.specs.Prelude.{List, [], ◌∷◌, ◌++◌, Option, Some, None, Result, Ok}
 use Rattle.sdt_fault.specs.declared.kinds.LineKind.{LineKind}
 use Rattle.asm_model.specs.declared.exprs.Expr.{Expr}
 use Rattle.asm_model.specs.declared.exprs.ExprItem.TheVariants as item
@@ -84,9 +85,9 @@ arm_target (arm.Multiply condition accumulate set_flags rd rm rs rn) = None
 arm_target (arm.MultiplyLong condition signed accumulate set_flags low high rm rs) = None
 arm_target (arm.Swap condition byte rd rm rn) = None
 arm_target (arm.BranchExchange condition rm) = None
-arm_target (arm.ReadStatus condition saved rd) = None
-arm_target (arm.WriteStatus condition saved fields rm) = None
-arm_target (arm.WriteStatusImmediate condition saved fields e) = None
+arm_target (arm.ReadStatus condition status rd) = None
+arm_target (arm.WriteStatus condition fields rm) = None
+arm_target (arm.WriteStatusImmediate condition fields e) = None
 arm_target (arm.TransferImmediate condition load byte rd a) = None
 arm_target (arm.TransferShifted condition load byte rd rn ix subtract rm by) = None
 arm_target (arm.TransferHalf condition load kind rd rn ix o) = None
@@ -140,8 +141,8 @@ directive_symbols names l (line.Area name a) = []
 directive_symbols names l line.Entry = []
 directive_symbols names l line.End = []
 directive_symbols names l (line.Export name) = name ∷ []
-directive_symbols names l (line.Import name weak) = name ∷ []
-directive_symbols names l (line.Extern name weak) = []
+directive_symbols names l (line.Import name mark) = name ∷ []
+directive_symbols names l (line.Extern name mark) = []
 directive_symbols names l (line.Keep name) = name ∷ []
 directive_symbols names l (line.Equ e) = []
 directive_symbols names l (line.Rn r) = []

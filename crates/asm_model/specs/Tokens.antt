@@ -1,6 +1,7 @@
 -- The tokens of a line. ARM SDT 2.50 Reference Guide, chapter on the assembler: a label stands in column 1,
 -- then come an operation and its operands; that what follows TTL or SUBT is free is this project's.
-use Rattle.std.specs.Prelude.{◌≡◌, ℕ, ◌+◌, ◌-◌, ◌<◌, ◌≤◌, List, [], ◌∷◌, length, take, drop, nat_lt, ◌==◌, ◌||◌, Bool, true, false, IsTrue, if◌then◌else◌, codes, map, Option, Some, None, MatchBool}
+use Rattle.std.specs.Prelude.{◌≡◌, ℕ, ◌+◌, ◌-◌, ◌<◌, ◌≤◌, nat_lt, ◌==◌, ◌||◌, Bool, true, false, IsTrue, if◌then◌else◌, MatchBool}
+use Rattle.std.specs.Prelude.{List, [], ◌∷◌, length, take, drop, codes, map, Option, Some, None}
 use Rattle.std.specs.List.{prefix_len}
 use Rattle.std.specs.Char.{to_ascii_lowercase}
 use Rattle.asm_model.specs.declared.tokens.Token.{Token}

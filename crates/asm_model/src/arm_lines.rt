@@ -2,7 +2,10 @@
 //! undefined row.
 
 use crate::exprs::Expr;
-use crate::operands::{Address, BlockMode, HalfOffset, Indexing, Register, RegisterList, Shift};
+use crate::operands::{
+    Address, BlockMode, HalfOffset, Indexing, Register, RegisterList, Shift, StatusFields,
+    StatusRegister,
+};
 use arm_isa::{HalfKind, Operation};
 use sdt_word::{Condition, ShiftKind};
 
@@ -73,25 +76,22 @@ pub enum ArmLine {
         condition: Condition,
         rm: Register,
     },
-    /// `MRS{c} Rd,CPSR`, or `SPSR` where `saved`, which is None where the word names no status register.
+    /// `MRS{c} Rd,CPSR` or `SPSR`; None where the word names no status register.
     ReadStatus {
         condition: Condition,
-        saved: Option<bool>,
+        status: Option<StatusRegister>,
         rd: Register,
     },
-    /// `MSR{c} CPSR_fsxc,Rm`; `fields` has a bit for each of the letters, f the highest, and none where the word names
-    /// no fields of a status register.
+    /// `MSR{c} CPSR_fsxc,Rm` or `SPSR_fsxc`; None where the word names no fields of a status register.
     WriteStatus {
         condition: Condition,
-        saved: bool,
-        fields: u8,
+        fields: Option<StatusFields>,
         rm: Register,
     },
-    /// `MSR{c} CPSR_fsxc,#v`
+    /// `MSR{c} CPSR_fsxc,#v`, with `fields` the same.
     WriteStatusImmediate {
         condition: Condition,
-        saved: bool,
-        fields: u8,
+        fields: Option<StatusFields>,
         value: Expr,
     },
     /// `LDR{c}{B}{T} Rd,[Rn,#v]{!}` or `[Rn],#v`, `STR` the same, and `LDR`, `STR Rd,label`.

@@ -1,7 +1,8 @@
 //! Directives: their names, and what a line says with one.
 
 use crate::exprs::Expr;
-use sdt_fault::{List, Text};
+use crate::shared_texts::SharedText;
+use sdt_fault::List;
 
 /// A directive, whichever of its names is written.
 #[derive(Clone, Copy, PartialEq, Eq, Debug)]
@@ -81,26 +82,24 @@ pub enum LabelNeed {
 #[derive(Debug, Drop)]
 pub enum DirectiveLine {
     Area {
-        name: Text,
+        name: SharedText,
         attributes: AreaAttributes,
     },
     Entry,
     End,
     Export {
-        name: Text,
+        name: SharedText,
     },
     Import {
-        name: Text,
-        /// None where the mark is another word than WEAK.
-        weak: Option<bool>,
+        name: SharedText,
+        mark: ImportMark,
     },
     Extern {
-        name: Text,
-        /// None where the mark is another word than WEAK.
-        weak: Option<bool>,
+        name: SharedText,
+        mark: ImportMark,
     },
     Keep {
-        name: Text,
+        name: SharedText,
     },
     Equ {
         value: Expr,
@@ -178,6 +177,16 @@ pub enum Attribute {
     Pic,
     Reentrant,
     Align,
+}
+
+/// What stands behind the name of an import.
+#[derive(Clone, Copy, PartialEq, Eq, Debug)]
+pub enum ImportMark {
+    Absent,
+    /// `[WEAK]` or `,WEAK`
+    Weak,
+    /// Another word, which is a bad operand.
+    Other,
 }
 
 /// What an RN name stands for.

@@ -1,7 +1,8 @@
 //! Expressions, in postfix order.
 
+use crate::shared_texts::SharedText;
 use crate::values::Value;
-use sdt_fault::{List, Text};
+use sdt_fault::List;
 
 /// The items of an expression, each operator after its operands.
 #[derive(Debug, Drop)]
@@ -11,9 +12,9 @@ pub struct Expr {
 
 #[derive(Debug, Drop)]
 pub enum ExprItem {
-    Name(Text),
+    Name(SharedText),
     /// A reference to a local label, as it is written.
-    Local(Text),
+    Local(SharedText),
     Constant(Value),
     /// A number above 2^32 - 1.
     TooLarge,

@@ -5,10 +5,10 @@ ghost use Rattle.std.specs.Option.{option_copied};
 ghost use Rattle.asm_model.specs.Labels as labels;
 
 use crate::directives::DirectiveLine;
+use crate::shared_texts::SharedText;
 use crate::statements::What;
-use sdt_fault::Text;
 
-fn directive_imports(line: &DirectiveLine) -> Option<&Text>
+fn directive_imports(line: &DirectiveLine) -> Option<&SharedText>
     ensures { option_copied result ≡ labels.directive_imports line.now }
 {
     match line {
@@ -40,7 +40,7 @@ fn directive_imports(line: &DirectiveLine) -> Option<&Text>
 }
 
 /// The name that a statement imports.
-pub fn imported_name(what: &What) -> Option<&Text>
+pub fn imported_name(what: &What) -> Option<&SharedText>
     ensures { option_copied result ≡ labels.imported_in what.now }
 {
     match what {

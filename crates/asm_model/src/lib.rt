@@ -18,6 +18,8 @@ pub mod names;
 pub mod number_laws;
 pub mod occupied;
 pub mod operands;
+pub mod register_names;
+pub mod shared_texts;
 pub mod statements;
 pub mod targets;
 pub mod thumb_lines;
@@ -29,7 +31,7 @@ pub use crate::arm_lines::ArmLine;
 pub use crate::data_items::{held_by, item_alignment};
 pub use crate::directives::{
     AreaAttributes, Attribute, Boundary, Contents, DataItem, Directive, DirectiveLine, Held,
-    LabelNeed, RnOperand,
+    ImportMark, LabelNeed, RnOperand,
 };
 pub use crate::exprs::{BinaryOp, Expr, ExprItem, Part, UnaryOp};
 pub use crate::faults::bad_line;
@@ -40,8 +42,10 @@ pub use crate::names::{LaidName, Meaning, Names};
 pub use crate::occupied::{Occupied, occupied_by};
 pub use crate::operands::{
     Address, BlockMode, HalfOffset, Indexing, ListItem, LiteralAddress, Register, RegisterList,
-    Shift, ThumbOperand,
+    Shift, StatusFields, StatusRegister, ThumbOperand,
 };
+pub use crate::register_names::RegisterName;
+pub use crate::shared_texts::SharedText;
 pub use crate::statements::{PseudoLine, Statement, What};
 pub use crate::targets::{arm_target, thumb_target};
 pub use crate::thumb_lines::ThumbLine;

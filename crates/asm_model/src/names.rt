@@ -1,8 +1,9 @@
 //! What an expression is evaluated with.
 
+use crate::shared_texts::SharedText;
 use crate::values::Value;
+use sdt_fault::List;
 use sdt_fault::kinds::LineKind;
-use sdt_fault::{List, Text};
 
 /// What a name means.
 #[derive(Debug, Drop)]
@@ -26,7 +27,7 @@ pub enum Meaning {
 /// A name that a source defines or imports.
 #[derive(Debug, Drop)]
 pub struct LaidName {
-    pub name: Text,
+    pub name: SharedText,
     pub meaning: Meaning,
     /// The area of a label or a place, counted from 0.
     pub area: Option<u32>,

@@ -1,14 +1,15 @@
 //! Operands of instructions, as a line says them.
 
 use crate::exprs::Expr;
-use sdt_fault::{List, Text};
+use crate::register_names::RegisterName;
+use sdt_fault::List;
 use sdt_word::ShiftKind;
 
 /// A register, 0 to 15, or a name that an RN directive gives one.
 #[derive(Debug, Drop)]
 pub enum Register {
     Number(u8),
-    Named(Text),
+    Named(RegisterName),
 }
 
 /// The shift of a register operand.
@@ -80,6 +81,23 @@ pub enum ListItem {
 #[derive(Debug, Drop)]
 pub struct RegisterList {
     pub items: List<ListItem>,
+}
+
+/// A status register.
+#[derive(Clone, Copy, PartialEq, Eq, Debug)]
+pub enum StatusRegister {
+    /// CPSR
+    Current,
+    /// SPSR
+    Saved,
+}
+
+/// Fields of a status register, which MSR writes.
+#[derive(Clone, Copy, PartialEq, Eq, Debug)]
+pub struct StatusFields {
+    pub register: StatusRegister,
+    /// 1 to 15: a bit for each of the letters f, s, x and c, f the highest.
+    pub mask: u8,
 }
 
 /// The last operand of Thumb's ADD and SUB with two registers before it.

@@ -5,8 +5,8 @@ use crate::directives::DirectiveLine;
 use crate::exprs::Expr;
 use crate::files::FileName;
 use crate::operands::Register;
+use crate::shared_texts::SharedText;
 use crate::thumb_lines::ThumbLine;
-use sdt_fault::Text;
 use sdt_word::Condition;
 
 /// What a line says, with the file and line where its text stands. A local label is kept as its digits behind
@@ -15,7 +15,7 @@ use sdt_word::Condition;
 pub struct Statement {
     pub source: FileName,
     pub number: u32,
-    pub label: Option<Text>,
+    pub label: Option<SharedText>,
     pub what: What,
     /// Whether a name on the line is beyond the limit.
     pub is_long: bool,

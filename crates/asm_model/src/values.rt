@@ -3,8 +3,9 @@
 ghost use Rattle.std.specs.Prelude.{◌≡◌, IfOk};
 ghost use Rattle.asm_model.specs.declared.values.EvalFault.TheVariants as eval;
 
+use crate::shared_texts::SharedText;
 use sdt_fault::kinds::LineKind;
-use sdt_fault::{Bytes, NoMemory, Text};
+use sdt_fault::{Bytes, NoMemory};
 use std::alloc::{AllocError, AllocFailed, Global};
 
 #[derive(PartialEq, Eq, PartialOrd, Ord, Debug, Drop)]
@@ -15,7 +16,7 @@ pub enum Value {
     Words(Bytes),
     /// A symbol plus a number, modulo 2^32. An empty symbol stands for the start of the area in which
     /// the statement stands.
-    Place { symbol: Text, plus: u32 },
+    Place { symbol: SharedText, plus: u32 },
 }
 
 impl Value {
@@ -31,7 +32,7 @@ impl Value {
                 Ok(Value::Words(copy))
             }
             Value::Place { symbol, plus } => {
-                let copy = symbol.try_clone(alloc)?;
+                let copy = symbol.share()?;
                 Ok(Value::Place {
                     symbol: copy,
                     plus: *plus,

@@ -34,12 +34,12 @@ use Rattle.base_lemmas.proofs.BaseLemmas.{all_append}
 
 -- what it defines, by the line's own fields
 abbrev made_of : List LaidName → List LaidName → PlacedLine → Defined → List LaidName
-made_of N names x y = entries_with N (line_of x) (definition_of names y x.place.area x.place.offset (Some x.place.size) x.place.thumb_label x.place.map)
+made_of N names x y = entries_with N (line_of x) (definition_of names y x.place.area x.place.offset (Some x.size) x.place.thumb_label x.place.map)
 
 made_own : (N : List LaidName) (d : List LaidName) (s : Statement) (ss : List Statement) (x : PlacedLine)
     → IsLine x (laid_behind d s (laid_of d ss)) (laid_of d ss) → made_of N d x (defined_by s) ≡ own_of N d s ss
 made_own N d s ss x is =
-    let p = is.place in rw (p.area, p.offset, p.size, p.thumb, p.thumb_label, p.map) refl
+    let p = is.place in rw (p.area, p.offset, is.size, p.thumb, p.thumb_label, p.map) refl
 
 own_same : (known N : List LaidName) (names : List LaidName) (x : PlacedLine) (y : Defined)
     → ((name : List ℕ) (e : Expr) → y ≡ Equal name e → one_entry (named_in name known) ≡ made_of N names x y)
@@ -51,7 +51,7 @@ own_lacking : (N : List LaidName) (names : List LaidName) (x : PlacedLine) (q : 
     → list_any (λ (e : List ℕ × Expr). same q e.0) (equal_of y) ≡ false → named_in q (own_entries [] x y) ≡ named_in q (made_of N names x y)
 own_lacking N names x q (Equal name e) h =
     sym (most_lacks q (name ∷ []) (made_of N names x (Equal name e))
-    (definition_most N (line_of x) names (Equal name e) x.place.area x.place.offset (Some x.place.size) x.place.thumb_label x.place.map) h)
+    (definition_most N (line_of x) names (Equal name e) x.place.area x.place.offset (Some x.size) x.place.thumb_label x.place.map) h)
 own_lacking N names x q y h = refl
 
 own_held : (M N : List LaidName) (names : List LaidName) (x : PlacedLine) (y : Defined)

@@ -11,7 +11,6 @@ use Rattle.asm_names.specs.declared.placed_lines.PlacedLine.{PlacedLine}
 pub record IsPlace (x : StatementPlace) (l : LaidLine) (before : List LaidLine) : Type 0 where
   pub area : x.area ≡ l.area
   pub offset : x.offset ≡ l.offset
-  pub size : x.size ≡ l.size
   pub thumb : x.thumb ≡ l.thumb
   pub thumb_label : x.thumb_label ≡ is_thumb_label l.statement (statements_of before)
   pub map : x.map ≡ map_behind before
@@ -20,6 +19,7 @@ pub record IsPlace (x : StatementPlace) (l : LaidLine) (before : List LaidLine) 
 pub record IsLine (x : PlacedLine) (l : LaidLine) (before : List LaidLine) : Type 0 where
   pub statement : x.statement.now ≡ l.statement
   pub place : IsPlace x.place l before
+  pub size : x.size ≡ l.size
 
 -- the line as its expressions see it; what it defines they find among all names
 abbrev pub line_of : PlacedLine → SourceLine

@@ -55,7 +55,7 @@ pub record IsSource (statements : List Statement) (lines : List PlacedLine) (dec
 -- the entry of what a line defines, where names for expressions have those that are known
 abbrev pub own_entries : List LaidName → PlacedLine → Defined → List LaidName
 own_entries known x (Equal name e) = one_entry (named_in name known)
-own_entries known x d = one_entry (own_entry d x.place.area x.place.offset (Some x.place.size) x.place.thumb_label x.place.map)
+own_entries known x d = one_entry (own_entry d x.place.area x.place.offset (Some x.size) x.place.thumb_label x.place.map)
 
 abbrev pub line_entries : List LaidName → PlacedLine → List LaidName
 line_entries known x = own_entries known x (defined_by x.statement.now) ++ imported_entries (imported_in x.statement.now.what)

@@ -25,7 +25,7 @@ fn meaning_copy(alloc: Global, meaning: &Meaning) -> Result<Meaning, NoMemory>
 pub fn entry_copy(alloc: Global, entry: &LaidName) -> Result<LaidName, NoMemory>
     ensures { IfOk result (λ copy. copy ≡ entry.now) }
 {
-    let name = entry.name.try_clone(alloc)?;
+    let name = entry.name.share()?;
     let meaning = meaning_copy(alloc, &entry.meaning)?;
     Ok(LaidName {
         name,
@@ -42,8 +42,8 @@ pub fn item_copy(alloc: Global, item: &ExprItem) -> Result<ExprItem, NoMemory>
     ensures { IfOk result (λ copy. copy ≡ item.now) }
 {
     match item {
-        ExprItem::Name(name) => Ok(ExprItem::Name(name.try_clone(alloc)?)),
-        ExprItem::Local(name) => Ok(ExprItem::Local(name.try_clone(alloc)?)),
+        ExprItem::Name(name) => Ok(ExprItem::Name(name.share()?)),
+        ExprItem::Local(name) => Ok(ExprItem::Local(name.share()?)),
         ExprItem::Constant(value) => Ok(ExprItem::Constant(value.try_clone(alloc)?)),
         ExprItem::TooLarge => Ok(ExprItem::TooLarge),
         ExprItem::Here => Ok(ExprItem::Here),

@@ -5,23 +5,23 @@ ghost use Rattle.asm_model.specs.Labels as labels;
 ghost use Rattle.asm_names.specs.Defining.{defined_of, own_entry};
 
 use crate::made::{field_entry, label_entry, register_entry};
-use asm_model::{DirectiveLine, Expr, LaidName, RnOperand, Statement, What};
-use sdt_fault::{NoMemory, Text};
+use asm_model::{DirectiveLine, Expr, LaidName, RnOperand, SharedText, Statement, What};
+use sdt_fault::NoMemory;
 use std::alloc::Global;
 
 /// What a statement defines by its label. A label on ROUT defines nothing.
 #[derive(Clone, Copy, Debug)]
 pub enum Defines<'a> {
     Unnamed,
-    Label(&'a Text),
+    Label(&'a SharedText),
     /// A name for an expression.
-    Equal(&'a Text, &'a Expr),
+    Equal(&'a SharedText, &'a Expr),
     /// A field of the storage map.
-    MapField(&'a Text),
-    RegisterName(&'a Text, &'a RnOperand),
+    MapField(&'a SharedText),
+    RegisterName(&'a SharedText, &'a RnOperand),
 }
 
-fn directive_names<'a>(label: &'a Text, line: &'a DirectiveLine) -> Defines<'a>
+fn directive_names<'a>(label: &'a SharedText, line: &'a DirectiveLine) -> Defines<'a>
     ensures { defined_of result ≡ labels.directive_defines label.now line.now }
 {
     match line {
@@ -52,7 +52,7 @@ fn directive_names<'a>(label: &'a Text, line: &'a DirectiveLine) -> Defines<'a>
     }
 }
 
-fn named<'a>(label: &'a Text, what: &'a What) -> Defines<'a>
+fn named<'a>(label: &'a SharedText, what: &'a What) -> Defines<'a>
     ensures { defined_of result ≡ labels.what_defines label.now what.now }
 {
     match what {

@@ -10,14 +10,14 @@ ghost use Rattle.asm_names.specs.Source.{owed_in, equal_pair};
 use crate::defining::{Defines, defined_by};
 use crate::placed_lines::PlacedLine;
 use crate::{Equal, order_of};
-use asm_model::Expr;
-use sdt_fault::{NoMemory, Text};
+use asm_model::{Expr, SharedText};
+use sdt_fault::NoMemory;
 use std::alloc::Global;
 
 /// A name for an expression that is due its value, by the line that defines it.
 #[derive(Clone, Copy)]
 pub struct Due<'a> {
-    pub name: &'a Text,
+    pub name: &'a SharedText,
     pub value: &'a Expr,
     pub line: PlacedLine<'a>,
 }
@@ -49,7 +49,7 @@ fn equals_of<'a>(alloc: Global, dues: &[Due<'a>]) -> Result<Vec<Equal<'a>>, NoMe
         ≡ map (λ d. equal_pair (owed_of d)) dues.now) }
     ensures count { IfOk result (λ equals. length equals.items ≡ length dues.now) }
 {
-    let mut equals = Vec::new(alloc);
+    let mut equals = Vec::with_capacity(alloc, dues.len())?;
     'dues: for due in dues {
         equals.push(Equal {
             name: due.name,

@@ -1,12 +1,11 @@
 //! Names for expressions, and an order of them.
 
-use asm_model::Expr;
-use sdt_fault::Text;
+use asm_model::{Expr, SharedText};
 
 /// A name for an expression, by the statement that defines it.
 #[derive(Clone, Copy, Debug)]
 pub struct Equal<'a> {
-    pub name: &'a Text,
+    pub name: &'a SharedText,
     pub value: &'a Expr,
 }
 

@@ -6,19 +6,20 @@ ghost use Rattle.asm_names.specs.Index.{number_in, IsIndexOf};
 ghost use Rattle.asm_names.specs.Equals.{pairs_of};
 
 use crate::equals::Equal;
+use asm_model::SharedText;
 use indexmap::IndexMap;
-use sdt_fault::{NoMemory, Text};
+use sdt_fault::NoMemory;
 use std::alloc::Global;
 
 /// The number of a name.
-pub fn find(index: &IndexMap<&[u8], u32>, name: &Text) -> Option<u32>
+pub fn find(index: &IndexMap<&[u8], u32>, name: &SharedText) -> Option<u32>
     ensures { result ≡ number_in index.now name.now }
 {
     index.get(name.as_slice()).copied()
 }
 
 /// The number of a name that has one.
-pub fn number_of(index: &IndexMap<&[u8], u32>, name: &Text) -> u32
+pub fn number_of(index: &IndexMap<&[u8], u32>, name: &SharedText) -> u32
     requires { IsSome (number_in index.now name.now) }
     ensures { number_in index.now name.now ≡ Some result }
 {
@@ -26,7 +27,11 @@ pub fn number_of(index: &IndexMap<&[u8], u32>, name: &Text) -> u32
 }
 
 /// Gives a name a number, in the place of the one that it had.
-fn put<'a>(index: &mut IndexMap<&'a [u8], u32>, name: &'a Text, number: u32) -> Result<(), NoMemory>
+fn put<'a>(
+    index: &mut IndexMap<&'a [u8], u32>,
+    name: &'a SharedText,
+    number: u32,
+) -> Result<(), NoMemory>
     ensures { OnOk result ((q : List ℕ) → number_in index.new q
         ≡ (if same q name.now then Some number else number_in index.old q)) }
 {

@@ -9,8 +9,8 @@ ghost use Rattle.asm_names.specs.Steps as steps;
 use crate::copies::item_copy;
 use asm_expr::Seen;
 use asm_expr::names::entry_named;
-use asm_model::{ExprItem, LaidName, Meaning, UnaryOp, Value};
-use sdt_fault::{NoMemory, Text};
+use asm_model::{ExprItem, LaidName, Meaning, SharedText, UnaryOp, Value};
+use sdt_fault::NoMemory;
 use std::alloc::Global;
 
 fn has_value(entry: Option<&LaidName>) -> bool
@@ -28,11 +28,11 @@ fn has_value(entry: Option<&LaidName>) -> bool
 }
 
 /// A name; where it has no value, a place with this symbol.
-fn kept(alloc: Global, seen: &Seen<'_>, name: &Text) -> Result<ExprItem, NoMemory>
+fn kept(alloc: Global, seen: &Seen<'_>, name: &SharedText) -> Result<ExprItem, NoMemory>
     ensures { IfOk result (λ kept. kept
         ≡ at_line.kept_name (seen_names seen.now) (ExprItem.Name name.now)) }
 {
-    let symbol = name.try_clone(alloc)?;
+    let symbol = name.share()?;
     if has_value(entry_named(seen, name)) {
         return Ok(ExprItem::Name(symbol));
     }
@@ -84,7 +84,7 @@ pub fn kept_items(
 ) -> Result<Vec<ExprItem>, NoMemory>
     ensures { IfOk result (λ kept. kept.items ≡ steps.kept_items (seen_names seen.now) items.now) }
 {
-    let mut all = Vec::new(alloc);
+    let mut all = Vec::with_capacity(alloc, items.len())?;
     let mut left = items;
     'items: loop {
         match left {

@@ -13,12 +13,16 @@ use crate::defining::{Defines, defined_by, own_entry};
 use crate::made::imported_entry;
 use crate::placed_lines::PlacedLine;
 pub use asm_expr::known::add_entry;
-use asm_model::{LaidName, What, imported_name};
-use sdt_fault::{NoMemory, Text};
+use asm_model::{LaidName, SharedText, What, imported_name};
+use sdt_fault::NoMemory;
 use std::alloc::Global;
 
 /// A copy of the entry of a name.
-fn entry_named(alloc: Global, known: &KnownNames, name: &Text) -> Result<Option<LaidName>, NoMemory>
+fn entry_named(
+    alloc: Global,
+    known: &KnownNames,
+    name: &SharedText,
+) -> Result<Option<LaidName>, NoMemory>
     ensures { IfOk result (λ entry. entry ≡ named_in name.now known.now) }
 {
     match known.find(name) {
@@ -43,7 +47,7 @@ fn entry_in(
             &defines,
             line.place.area,
             line.place.offset,
-            Some(line.place.size),
+            Some(line.size),
             line.place.thumb_label,
             line.place.map,
         ),

@@ -5,15 +5,15 @@ ghost use Rattle.std.specs.Option.{option_copied};
 ghost use Rattle.asm_model.specs.Entries as entries;
 
 use asm_expr::KnownNames;
-use asm_model::{LaidName, Meaning, Value};
+use asm_model::{LaidName, Meaning, SharedText, Value};
+use sdt_fault::NoMemory;
 use sdt_fault::kinds::LineKind;
-use sdt_fault::{NoMemory, Text};
 use std::alloc::Global;
 
 /// The entry of a label.
 pub fn label_entry(
     alloc: Global,
-    name: &Text,
+    name: &SharedText,
     area: Option<u32>,
     offset: u32,
     size: Option<u32>,
@@ -22,7 +22,7 @@ pub fn label_entry(
     ensures { IfOk result (λ entry. entry ≡ entries.label_entry name.now area offset size thumb) }
 {
     Ok(LaidName {
-        name: name.try_clone(alloc)?,
+        name: name.share()?,
         meaning: Meaning::Label,
         area,
         offset,
@@ -34,14 +34,14 @@ pub fn label_entry(
 /// The entry of a name for a place of an area, which is no label.
 fn place_entry(
     alloc: Global,
-    name: &Text,
+    name: &SharedText,
     area: Option<u32>,
     offset: u32,
 ) -> Result<LaidName, NoMemory>
     ensures { IfOk result (λ entry. entry ≡ entries.place_entry name.now area offset) }
 {
     Ok(LaidName {
-        name: name.try_clone(alloc)?,
+        name: name.share()?,
         meaning: Meaning::Place,
         area,
         offset,
@@ -53,7 +53,7 @@ fn place_entry(
 /// The entry of a name that stands nowhere.
 fn entry(
     alloc: Global,
-    name: &Text,
+    name: &SharedText,
     meaning: Meaning,
     size: Option<u32>,
     thumb: bool,
@@ -61,7 +61,7 @@ fn entry(
     ensures { IfOk result (λ entry. entry ≡ entries.entry name.now meaning size thumb) }
 {
     Ok(LaidName {
-        name: name.try_clone(alloc)?,
+        name: name.share()?,
         meaning,
         area: None,
         offset: 0,
@@ -71,35 +71,40 @@ fn entry(
 }
 
 /// The entry of an imported name.
-pub fn imported_entry(alloc: Global, name: &Text) -> Result<LaidName, NoMemory>
+pub fn imported_entry(alloc: Global, name: &SharedText) -> Result<LaidName, NoMemory>
     ensures { IfOk result (λ entry. entry ≡ entries.imported_entry name.now) }
 {
     entry(alloc, name, Meaning::Imported, Some(0), false)
 }
 
 /// The entry of a name for a register.
-pub fn register_entry(alloc: Global, name: &Text) -> Result<LaidName, NoMemory>
+pub fn register_entry(alloc: Global, name: &SharedText) -> Result<LaidName, NoMemory>
     ensures { IfOk result (λ entry. entry ≡ entries.register_entry name.now) }
 {
     entry(alloc, name, Meaning::Register, Some(0), false)
 }
 
 /// The entry of a name that a line may not know yet.
-pub fn later_entry(alloc: Global, name: &Text, thumb: bool) -> Result<LaidName, NoMemory>
+pub fn later_entry(alloc: Global, name: &SharedText, thumb: bool) -> Result<LaidName, NoMemory>
     ensures { IfOk result (λ entry. entry ≡ entries.later_entry name.now thumb) }
 {
     entry(alloc, name, Meaning::Later, None, thumb)
 }
 
 /// The entry of a name with a value of its own.
-fn valued_entry(alloc: Global, name: &Text, value: Value, thumb: bool) -> Result<LaidName, NoMemory>
+fn valued_entry(
+    alloc: Global,
+    name: &SharedText,
+    value: Value,
+    thumb: bool,
+) -> Result<LaidName, NoMemory>
     ensures { IfOk result (λ entry. entry ≡ entries.valued_entry name.now value thumb) }
 {
     entry(alloc, name, Meaning::Known(value), Some(0), thumb)
 }
 
 /// The entry of a field of the storage map.
-pub fn field_entry(alloc: Global, name: &Text, map: u32) -> Result<LaidName, NoMemory>
+pub fn field_entry(alloc: Global, name: &SharedText, map: u32) -> Result<LaidName, NoMemory>
     ensures { IfOk result (λ entry. entry ≡ entries.field_entry name.now map) }
 {
     valued_entry(alloc, name, Value::Number(map), false)
@@ -119,7 +124,7 @@ fn known_entry(
     alloc: Global,
     declared: &KnownNames,
     area: Option<u32>,
-    name: &Text,
+    name: &SharedText,
     value: Value,
 ) -> Result<LaidName, NoMemory>
     ensures { IfOk result (λ entry. entry
@@ -142,7 +147,7 @@ pub fn equal_entry(
     alloc: Global,
     declared: &KnownNames,
     area: Option<u32>,
-    name: &Text,
+    name: &SharedText,
     value: Result<Value, LineKind>,
 ) -> Result<LaidName, NoMemory>
     ensures { IfOk result (λ entry. entry ≡ entries.equal_entry declared.now area name.now value) }

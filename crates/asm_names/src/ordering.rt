@@ -9,11 +9,12 @@ ghost use Rattle.asm_names.specs.Search.{is_known as is_known_name, Kept};
 use crate::equals::{Equal, Order};
 use crate::index::{find, index_of};
 use crate::search::{Progress, settle_next, start};
+use asm_model::SharedText;
 use indexmap::IndexMap;
-use sdt_fault::{NoMemory, Text};
+use sdt_fault::NoMemory;
 use std::alloc::Global;
 
-fn is_known(index: &IndexMap<&[u8], u32>, known: &[bool], name: &Text) -> bool
+fn is_known(index: &IndexMap<&[u8], u32>, known: &[bool], name: &SharedText) -> bool
     requires { IsWithin index.now (length known.now) }
     ensures { result ≡ is_known_name index.now known.now name.now }
 {
@@ -34,7 +35,7 @@ fn marks_of(
     ensures { IfOk result (λ marks. marks.items
         ≡ map (λ e. is_known_name index.now known.now e.name.now) equals.now) }
 {
-    let mut marks = Vec::new(alloc);
+    let mut marks = Vec::with_capacity(alloc, equals.len())?;
     for equal in equals {
         marks.push(is_known(index, known, equal.name))?;
     }

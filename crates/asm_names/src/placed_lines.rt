@@ -9,8 +9,6 @@ pub struct StatementPlace {
     pub area: Option<u32>,
     /// The statement's offset in its area.
     pub offset: u32,
-    /// In bytes.
-    pub size: u32,
     /// Whether it stands in Thumb state.
     pub thumb: bool,
     /// Whether its label is one of Thumb code.
@@ -24,4 +22,6 @@ pub struct StatementPlace {
 pub struct PlacedLine<'a> {
     pub statement: &'a Statement,
     pub place: StatementPlace,
+    /// In bytes.
+    pub size: u32,
 }

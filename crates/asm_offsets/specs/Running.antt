@@ -1,13 +1,15 @@
 -- The statements of a source's areas that are placed so far: for each area its end and its pools. The statements before
 -- are listed with the nearest first. SDT 2.50 Reference Guide, chapter on the assembler; that an area ends at 2^24 at
 -- the most is this project's.
-use Rattle.std.specs.Prelude.{◌≡◌, ℕ, ◌+◌, ◌^◌, ◌≤◌, ◌<◌, List, [], ◌∷◌, length, false, if◌then◌else◌, slice_get, Option, Some, None, Result, Ok, Err}
+use Rattle.std.specs.Prelude.{◌≡◌, ℕ, ◌+◌, ◌^◌, ◌≤◌, ◌<◌, false, if◌then◌else◌}
+use Rattle.std.specs.Prelude.{List, [], ◌∷◌, length, slice_get, Option, Some, None, Result, Ok, Err}
 use Rattle.sdt_fault.specs.declared.NoMemory.{NoMemory}
 use Rattle.asm_offsets.specs.declared.extents.PlacedExtent.{PlacedExtent}
 use Rattle.asm_offsets.specs.declared.extents.TooLarge.{TooLarge}
 use Rattle.asm_pool.specs.Pooled.{Pooled, noted, flushed}
 use Rattle.asm_model.specs.Extents.{Extent, Loading, Pool, pool_alignment}
-use Rattle.asm_model.specs.Offsets.{Piece, is_of, raised, waiting, pooled, start_from, end_from, start_in, end_behind, offset_of, size_behind}
+use Rattle.asm_model.specs.Offsets.{Piece, is_of, raised, waiting, pooled, start_from}
+use Rattle.asm_model.specs.Offsets.{end_from, start_in, end_behind, offset_of, size_behind}
 
 -- ---- an area
 

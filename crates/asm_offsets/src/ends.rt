@@ -38,7 +38,7 @@ const NOWHERE: PlacedExtent = PlacedExtent {
 fn finish_all(alloc: Global, areas: Vec<AreaEnd>) -> Result<Vec<LaidPools>, NoMemory>
     ensures { IfOk result (λ laid. laid.items ≡ map finished areas.items) }
 {
-    let mut laid = Vec::new(alloc);
+    let mut laid = Vec::with_capacity(alloc, areas.len())?;
     'areas: for area in areas {
         laid.push(area.finish()?)?;
     }

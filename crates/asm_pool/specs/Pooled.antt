@@ -1,7 +1,8 @@
 -- The literal pools of one area. The LDR pseudo-instruction takes its word from a pool, which stands at the next
 -- LTORG or at the area's end (ARM SDT 2.50 Reference Guide, chapter on the assembler); that a pool has one word for
 -- each distinct literal, in order of first use, is this project's.
-use Rattle.std.specs.Prelude.{◌≡◌, ◌↔◌, ℕ, suc, ◌+◌, List, [], ◌∷◌, ◌++◌, length, map, slice_get, Bool, false, ◌==◌, ◌&&◌, not, if◌then◌else◌, IsTrue, Option, Some, None}
+use Rattle.std.specs.Prelude.{◌≡◌, ◌↔◌, ℕ, suc, ◌+◌, Bool, false, ◌==◌, ◌&&◌, not, if◌then◌else◌, IsTrue}
+use Rattle.std.specs.Prelude.{List, [], ◌∷◌, ◌++◌, length, map, slice_get, Option, Some, None}
 use Rattle.std.specs.Option.{option_map}
 use Rattle.std.specs.Str.{bytes_eq}
 use Rattle.asm_model.specs.declared.values.Value.{Value}

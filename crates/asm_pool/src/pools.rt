@@ -40,7 +40,7 @@ fn offsets_of(alloc: Global, offset: u32, literals: &[Value]) -> Result<Vec<u32>
     requires { offset + 4 * length literals.now < 2 ^ 32 }
     ensures { IfOk result (λ offsets. offsets.items ≡ offsets_from offset literals.now) }
 {
-    let mut offsets = Vec::new(alloc);
+    let mut offsets = Vec::with_capacity(alloc, literals.len())?;
     let mut at = offset;
     'literals: for _literal in literals {
         offsets.push(at)?;

@@ -32,13 +32,13 @@ use Rattle.asm_arm.specs.LineForms.{hash, equals, bracket, data_line, absent, Re
 use Rattle.asm_arm.specs.Lists as lists
 use Rattle.asm_arm.specs.Operands.{Cuts, one, two, three, four, cut, without_first, no_register, register, two_registers, three_registers}
 use Rattle.asm_arm.specs.Mnemonics.{shape_of}
-use Rattle.asm_model.specs.Said.{IsRead, RegisterSaid, OperationSaid, HalfSaid, HalfOffsetSaid}
+use Rattle.asm_model.specs.Said.{IsRead, RegisterSaid, OperationSaid, HalfSaid, HalfOffsetSaid, FieldsSaid}
 use Rattle.asm_reading.proofs.AddressLemmas.{OffsetSaid, AddressedSaid, PlacedSaid, before_said, after_said, before_as_said, after_as_said, half_offset_said}
 use Rattle.asm_reading.proofs.ExpressionLemmas.{zero_read, expression_gives, with_expression}
 use Rattle.asm_reading.proofs.FormLemmas.{CutsHaveForm, SomeHaveForm, cuts_form, without_first_form}
 use Rattle.asm_reading.proofs.GivesLemmas.{Gives, equal_gives, fault_gives, any_gives, mapped_gives, followed_gives, both_give}
 use Rattle.asm_reading.proofs.InstructionLemmas.{InstructionIn, SaidIn, idle_in}
-use Rattle.asm_reading.proofs.ListLemmas.{BaseSaid, base_said, ListSaid, register_list_said, FieldsSaid, fields_said}
+use Rattle.asm_reading.proofs.ListLemmas.{BaseSaid, base_said, ListSaid, register_list_said, fields_said}
 use Rattle.asm_reading.proofs.OperandLemmas.{register_said, PairSaid, ThreeSaid, FourSaid, pair_said, three_said, four_said, SecondSaid, second_said}
 use Rattle.asm_reading.proofs.TokenLemmas.{EachHasForm}
 
@@ -165,7 +165,7 @@ exchange_said text c os = tt
 
 read_status_said : (text : List ℕ) (c : Condition) (os : Cuts) → Said (read_status text c os)
 read_status_said text c (two d p) =
-    both_give RegisterSaid (λ s. Unit {0}) InstructionSaid (λ rd saved. what.Arm (line.ReadStatus c saved rd)) (register text d) (lists.status text p)
+    both_give RegisterSaid (λ s. Unit {0}) InstructionSaid (λ rd p. what.Arm (line.ReadStatus c p rd)) (register text d) (lists.status text p)
     (λ rd s p q. p)
     (register_said text d) (any_gives (lists.status text p))
 read_status_said text c os = tt
@@ -173,11 +173,11 @@ read_status_said text c os = tt
 status_value_said : (text : List ℕ) (c : Condition) (p m : List Token) (o : Option (List Token)) (r : Result What LineKind) → SomeHaveForm text o
     → ReadsStatusValue text c (lists.fields text p) m o r → Said r
 status_value_said text c p m (Some e) r f h =
-    with_expression FieldsSaid InstructionSaid text (λ q x. what.Arm (line.WriteStatusImmediate c q.0 q.1 x)) (lists.fields text p) e r f h (λ q x a b. (a, b))
+    with_expression FieldsSaid InstructionSaid text (λ q x. what.Arm (line.WriteStatusImmediate c q x)) (lists.fields text p) e r f h (λ q x a b. (a, b))
     (fields_said text p)
 status_value_said text c p m None r f h =
-    equal_gives InstructionSaid r (on_both (λ q rm. what.Arm (line.WriteStatus c q.0 q.1 rm)) (lists.fields text p) (register text m)) h
-    (both_give FieldsSaid RegisterSaid InstructionSaid (λ q rm. what.Arm (line.WriteStatus c q.0 q.1 rm)) (lists.fields text p) (register text m)
+    equal_gives InstructionSaid r (on_both (λ q rm. what.Arm (line.WriteStatus c q rm)) (lists.fields text p) (register text m)) h
+    (both_give FieldsSaid RegisterSaid InstructionSaid (λ q rm. what.Arm (line.WriteStatus c q rm)) (lists.fields text p) (register text m)
     (λ q x a b. (a, b))
     (fields_said text p) (register_said text m))
 

@@ -18,6 +18,7 @@ use Rattle.asm_model.specs.declared.directives.Directive.{Directive}
 use Rattle.asm_model.specs.declared.directives.Directive.TheVariants as directive
 use Rattle.asm_model.specs.declared.directives.DirectiveLine.{DirectiveLine}
 use Rattle.asm_model.specs.declared.directives.DirectiveLine.TheVariants as line
+use Rattle.asm_model.specs.declared.directives.ImportMark.{ImportMark}
 use Rattle.asm_model.specs.declared.directives.LabelNeed.{LabelNeed}
 use Rattle.asm_model.specs.declared.directives.LabelNeed.TheVariants as need
 use Rattle.asm_model.specs.declared.directives.RnOperand.TheVariants as rn
@@ -28,7 +29,7 @@ use Rattle.asm_model.specs.Grammar.{ParsesTokens}
 use Rattle.asm_model.specs.Operands.{operands}
 use Rattle.asm_model.specs.Parts.{piece}
 use Rattle.asm_model.specs.Readings.{mapped, on_both}
-use Rattle.asm_model.specs.Says.{Form, bare, name, imported, expression, expressions, area, register, boundary, refused, form_of_directive, name_of, name_alone, weak_mark, import_of, register_alone, Expressions, SomeExpressions, Area, Register, Aligned, bare_of, Reads, label_of, label_field}
+use Rattle.asm_model.specs.Says.{Form, bare, name, imported, expression, expressions, area, register, boundary, refused, form_of_directive, name_of, name_alone, import_mark, import_of, register_alone, Expressions, SomeExpressions, Area, Register, Aligned, bare_of, Reads, label_of, label_field}
 use Rattle.asm_model.specs.Fit.{MarksAgree}
 use Rattle.asm_model.specs.Said.{IsRead, AllRead, DirectiveSaid, directive_names}
 use Rattle.asm_model.proofs.SaidLemmas.{IsText, MarksFit}
@@ -65,14 +66,14 @@ alone_text : (text : List ℕ) (ts : List Token) → EachHasForm text ts → Giv
 alone_text text (t ∷ []) h = word_text t.kind (piece text t) h.0
 alone_text text ts h = tt
 
-abbrev ImportText : List ℕ × Option Bool → Type 0
+abbrev ImportText : List ℕ × ImportMark → Type 0
 ImportText i = IsText i.0
 
 import_text : (text : List ℕ) (ts : List Token) → EachHasForm text ts → Gives ImportText (import_of text ts)
 import_text text [] h = tt
 import_text text (t ∷ ts) h =
-    both_give IsText (λ w. Unit {0}) ImportText (λ n weak. (n, weak)) (name_of t.kind (piece text t)) (weak_mark text ts) (λ n w p q. p)
-    (word_text t.kind (piece text t) h.0) (any_gives (weak_mark text ts))
+    both_give IsText (λ w. Unit {0}) ImportText (λ n m. (n, m)) (name_of t.kind (piece text t)) (import_mark text ts) (λ n w p q. p)
+    (word_text t.kind (piece text t) h.0) (any_gives (import_mark text ts))
 
 -- ---- attributes of areas
 
@@ -137,7 +138,7 @@ DirectiveFine l = DirectiveSaid l × AllByRecursion IsText (directive_names l) �
 abbrev FormFine : Form → Type 0
 FormFine (bare l) = DirectiveFine l
 FormFine (name make) = (n : List ℕ) → IsText n → DirectiveFine (make n)
-FormFine (imported make) = (n : List ℕ) (weak : Option Bool) → IsText n → DirectiveFine (make n weak)
+FormFine (imported make) = (n : List ℕ) (m : ImportMark) → IsText n → DirectiveFine (make n m)
 FormFine (expression make) = (e : Expr) → IsRead e → DirectiveFine (make e)
 FormFine (expressions make) = (es : List Expr) → AllRead es → DirectiveFine (make es)
 FormFine _ = Unit {0}

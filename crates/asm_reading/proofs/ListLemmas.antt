@@ -9,12 +9,13 @@ use Rattle.asm_model.specs.declared.tokens.TokenKind.TheVariants as kind
 use Rattle.asm_model.specs.declared.operands.Register.{Register}
 use Rattle.asm_model.specs.declared.operands.ListItem.{ListItem}
 use Rattle.asm_model.specs.declared.operands.ListItem.TheVariants as entry
+use Rattle.asm_model.specs.declared.operands.StatusRegister.{StatusRegister}
 use Rattle.asm_model.specs.Forms.{same}
 use Rattle.asm_model.specs.Operands.{operands_at}
 use Rattle.asm_model.specs.Parts.{piece}
-use Rattle.asm_arm.specs.Lists.{base, range_of, item, items, pc_alone, is_pc, content, list, register_list, status_begun, or_none, occurrences, are_fields, fields_with, fields_named, with_fields, fields_of, fields}
+use Rattle.asm_arm.specs.Lists.{base, range_of, item, items, pc_alone, is_pc, content, list, register_list, status_begun, occurrences, are_fields, fields_with, fields_named, with_fields, fields_of, fields}
 use Rattle.asm_arm.specs.Operands.{marked, between, register, register_of}
-use Rattle.asm_model.specs.Said.{RegisterSaid, ItemSaid, AllItemsSaid}
+use Rattle.asm_model.specs.Said.{RegisterSaid, ItemSaid, AllItemsSaid, FieldsSaid}
 use Rattle.asm_reading.proofs.GivesLemmas.{Gives, OptionGives, mapped_gives, both_give, cond_gives}
 use Rattle.asm_reading.proofs.OperandLemmas.{register_of_said, register_said}
 
@@ -69,15 +70,16 @@ register_list_said text ts =
 -- ---- status registers
 
 abbrev pub IsMask : ℕ → Type 0
-IsMask n = n < 16
+IsMask n = (0 < n) × (n < 16)
 
-pub mask_small : (f s x c n : ℕ) → are_fields f s x c n ≡ true → 8 * f + 4 * s + 2 * x + c < 16
+pub mask_small : (f s x c n : ℕ) → are_fields f s x c n ≡ true → IsMask (8 * f + 4 * s + 2 * x + c)
 mask_small f s x c n h =
     let p = and_parts (nat_le f 1) (nat_le s 1 && (nat_le x 1 && (nat_le c 1 && (nat_lt 0 n && f + s + x + c == n)))) h in
     let q = and_parts (nat_le s 1) (nat_le x 1 && (nat_le c 1 && (nat_lt 0 n && f + s + x + c == n))) p.1 in
     let r = and_parts (nat_le x 1) (nat_le c 1 && (nat_lt 0 n && f + s + x + c == n)) q.1 in
     let t = and_parts (nat_le c 1) (nat_lt 0 n && f + s + x + c == n) r.1 in
-    grind (arith, p.0, q.0, r.0, t.0)
+    let u = and_parts (nat_lt 0 n) (f + s + x + c == n) t.1 in
+    (grind (arith, u.0, u.1), grind (arith, p.0, q.0, r.0, t.0))
 
 pub fields_with_said : (f s x c n : ℕ) → OptionGives IsMask (fields_with f s x c n)
 fields_with_said f s x c n = by_test (are_fields f s x c n) refl
@@ -86,13 +88,10 @@ fields_with_said f s x c n = by_test (are_fields f s x c n) refl
     by_test true e = mask_small f s x c n e
     by_test false e = tt
 
-abbrev pub FieldsSaid : Bool × ℕ → Type 0
-FieldsSaid p = IsMask p.1
-
-pub with_fields_said : (o : Option Bool) (f : Option ℕ) → OptionGives IsMask f → FieldsSaid (or_none (with_fields o f))
-with_fields_said None f h = omega arith
-with_fields_said (Some p) None h = omega arith
-with_fields_said (Some p) (Some f) h = h
+pub with_fields_said : (o : Option StatusRegister) (m : Option ℕ) → OptionGives IsMask m → FieldsSaid (with_fields o m)
+with_fields_said None m h = tt
+with_fields_said (Some r) None h = tt
+with_fields_said (Some r) (Some m) h = h
 
 pub fields_of_said : (k : TokenKind) (s : List ℕ) → Gives FieldsSaid (fields_of k s)
 fields_of_said kind.Name s =

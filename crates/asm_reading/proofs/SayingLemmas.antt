@@ -7,26 +7,21 @@ use Rattle.asm_model.specs.declared.lines.Flat.{Flat}
 use Rattle.asm_model.specs.declared.tokens.Token.{Token}
 use Rattle.asm_model.specs.declared.statements.What.{What}
 use Rattle.asm_model.specs.declared.directives.LabelNeed.TheVariants as need
-use Rattle.asm_model.specs.Readings.{both, mapped, on_both}
+use Rattle.asm_model.specs.Readings.{on_both}
 use Rattle.asm_model.specs.Says.{Said, statement, label_field, sentence, OneDirective}
 use Rattle.asm_model.specs.Tokens.{is_long, Tokens, OneScan}
-use Rattle.asm_reading.specs.Says.{with_long, SaysOperation, SaysWords, SaysOr, SaysTokens, SaysAll, SaysLine}
-use Rattle.asm_expr.proofs.SayingLemmas.{made_of_both}
+use Rattle.asm_reading.specs.Says.{with_long, marked, SaysOperation, SaysWords, SaysOr, SaysTokens, SaysAll, SaysLine}
 
 -- ---- a line with an operation
 
-pub operation_said : {E : Type 0} (Operation : List ℕ → Token → List Token → Result What LineKind → Type 0) (flat : Flat) (label : Option Token) (t : Token)
-    (ts : List Token)
-    (text : List ℕ) (l : Result (Option (List ℕ)) LineKind) (w : Result What LineKind) (x : Result (Option (List ℕ) × What) LineKind) (q : Result Said E)
-    → text ≡ flat.text → l ≡ label_field need.Optional text label → Operation text t ts w → x ≡ both l w
-    → IfOk q (λ r. r ≡ mapped (λ p. statement flat p.0 p.1) x) → IfOk q (λ r. SaysOperation Operation flat label t ts r)
-operation_said Operation flat label t ts text l w x (Err f) e le h b k = tt
-operation_said Operation flat label t ts text l w x (Ok r) e le h b k = (
+pub operation_said : (Operation : List ℕ → Token → List Token → Result What LineKind → Type 0) (flat : Flat) (label : Option Token) (t : Token)
+    (ts : List Token) (text : List ℕ) (l : Result (Option (List ℕ)) LineKind) (w : Result What LineKind) (r : Said)
+    → text ≡ flat.text → l ≡ label_field need.Optional text label → Operation text t ts w → r ≡ on_both (statement flat) l w
+    → SaysOperation Operation flat label t ts r
+operation_said Operation flat label t ts text l w r e le h k = (
   w,
   subst (λ z. Operation z t ts w) e h,
-  k ∙ ap (mapped (λ p. statement flat p.0 p.1)) b
-      ∙ made_of_both (λ p. statement flat p.0 p.1) (λ x y. (x, y)) l w
-      ∙ ap (λ z. on_both (statement flat) z w) (le ∙ ap (λ z. label_field need.Optional z label) e),
+  k ∙ ap (λ z. on_both (statement flat) z w) (le ∙ ap (λ z. label_field need.Optional z label) e),
 )
 
 -- ---- a line says one thing
@@ -67,11 +62,14 @@ one_saying Operation law directive scan flat a b p q =
 
 -- ---- a line
 
-pub line_said : (Operation : List ℕ → Token → List Token → Result What LineKind → Type 0) (flat : Flat) (text : List ℕ) (ts us vs : List Token) (s r : Said)
-    → text ≡ flat.text → Tokens text ts → us ≡ ts → vs ≡ ts → SaysTokens Operation flat us s → r ≡ with_long (list_any is_long vs) s
-    → SaysLine Operation flat r
-line_said Operation flat text ts us vs s r e t u v h k = (
-  Some ts,
-  subst (λ x. Tokens x ts) e t,
-  (s, subst (λ x. SaysTokens Operation flat x s) u h, k ∙ ap (λ x. with_long (list_any is_long x) s) v),
-)
+pub line_said : {E : Type 0} (Operation : List ℕ → Token → List Token → Result What LineKind → Type 0) (flat : Flat) (text : List ℕ) (ts us vs : List Token)
+    (q r : Result Said E)
+    → text ≡ flat.text → Tokens text ts → us ≡ ts → vs ≡ ts → IfOk q (λ s. SaysTokens Operation flat us s) → r ≡ marked (list_any is_long vs) q
+    → IfOk r (λ s. SaysLine Operation flat s)
+line_said Operation flat text ts us vs (Err f) r e t u v h k = rw k tt
+line_said Operation flat text ts us vs (Ok s) r e t u v h k =
+    rw k (
+      Some ts,
+      subst (λ x. Tokens x ts) e t,
+      (s, subst (λ x. SaysTokens Operation flat x s) u h, ap (λ x. with_long (list_any is_long x) s) v),
+    )

@@ -56,6 +56,11 @@ abbrev pub with_long : Bool → Said → Said
 with_long long (Ok (Some s)) = Ok (Some (record s { is_long = long }))
 with_long long r = r
 
+-- the same of an outcome
+abbrev pub marked : {E : Type 0} → Bool → Result Said E → Result Said E
+marked long (Ok s) = Ok (with_long long s)
+marked long (Err e) = Err e
+
 abbrev pub SaysAll : (List ℕ → Token → List Token → Result What LineKind → Type 0) → Flat → Option (List Token) → Said → Type 0
 SaysAll Operation flat None r = r ≡ Err Syntax
 SaysAll Operation flat (Some ts) r = (s : Said) × SaysTokens Operation flat ts s × (r ≡ with_long (list_any is_long ts) s)

@@ -99,6 +99,9 @@ fn keep(
     Ok(())
 }
 
+/// For how many tokens there is room before the first line.
+const TOKENS_AT_FIRST: usize = 16;
+
 /// What lines say, with local labels as they are written.
 fn read_as_written(alloc: Global, lines: &[Flat]) -> Result<Reading, NoMemory>
     ensures { IfOk result (λ reading. reading_of.IsWritten lines.now reading) }
@@ -108,9 +111,10 @@ fn read_as_written(alloc: Global, lines: &[Flat]) -> Result<Reading, NoMemory>
         unread: None,
         before: 0,
     };
+    let mut tokens = Vec::with_capacity(alloc, TOKENS_AT_FIRST)?;
     let mut thumb = false;
     for line in lines {
-        let said = said_in(alloc, thumb, line)?;
+        let said = said_in(alloc, &mut tokens, thumb, line)?;
         thumb = state_after(thumb, &said);
         keep(alloc, &mut reading, line, said)?;
     }

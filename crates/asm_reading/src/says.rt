@@ -9,11 +9,10 @@ ghost use Rattle.asm_reading.specs.Says as says;
 
 use asm_arm::{line_forms as arm_forms, mnemonics as arm_mnemonics};
 use asm_expr::directives::{Sentence, label_field, parts_of};
-use asm_expr::kinds::both;
-use asm_expr::operands::piece_of;
+use asm_expr::parts::piece_of;
 use asm_expr::says::{ParsedStatement, said_directive, statement, statement_or_refusal};
-use asm_lines::scan::{has_long, scan};
-use asm_model::{Flat, LabelNeed, Statement, Token, What};
+use asm_lines::scan::{has_long, scan_into};
+use asm_model::{Flat, LabelNeed, SharedText, Statement, Token, What};
 use asm_thumb::{line_forms as thumb_forms, mnemonics as thumb_mnemonics};
 use sdt_fault::NoMemory;
 use sdt_fault::answer::Fault;
@@ -27,13 +26,10 @@ fn alone(alloc: Global, line: &Flat, label: Option<Token>) -> Result<ParsedState
     let Some(label) = label else {
         return Ok(Ok(None));
     };
-    match label_field(
-        alloc,
-        LabelNeed::Optional,
-        line.text.as_slice(),
-        Some(label),
-    )? {
-        Ok(label) => statement(alloc, line, Ok((label, What::Nothing))),
+    let source = line.source.share()?;
+    let text = &line.text;
+    match label_field(alloc, LabelNeed::Optional, text, Some(label))? {
+        Ok(label) => Ok(statement(source, line, Ok(label), Ok(What::Nothing))),
         Err(kind) => Ok(Err(kind)),
     }
 }
@@ -42,7 +38,7 @@ fn alone(alloc: Global, line: &Flat, label: Option<Token>) -> Result<ParsedState
 fn read_operation(
     alloc: Global,
     thumb: bool,
-    text: &[u8],
+    text: &SharedText,
     operation: Token,
     tokens: &[Token],
 ) -> Result<Result<What, LineKind>, NoMemory>
@@ -70,10 +66,11 @@ fn with_operation(
     ensures { IfOk result (λ said.
         says.SaysOperation (says.ReadsBy thumb) line.now label operation tokens.now said) }
 {
-    let text = line.text.as_slice();
+    let source = line.source.share()?;
+    let text = &line.text;
     let label = label_field(alloc, LabelNeed::Optional, text, label)?;
     let what = read_operation(alloc, thumb, text, operation, tokens)?;
-    statement(alloc, line, both(label, what))
+    Ok(statement(source, line, label, what))
 }
 
 /// What a line without a directive says.
@@ -111,33 +108,43 @@ fn said_by(
     }
 }
 
-/// What a line says whose tokens say so, where a name among them may be beyond the limit.
-fn with_long(tokens: &[Token], said: ParsedStatement) -> ParsedStatement
-    ensures { result ≡ says.with_long (list_any is_long tokens.now) said }
+/// Marks what a line says, where a name among its tokens is beyond the limit.
+fn mark_long(said: &mut Result<ParsedStatement, NoMemory>, tokens: &[Token])
+    ensures { said.new ≡ says.marked (list_any is_long tokens.now) said.old }
 {
-    match said {
-        Ok(Some(statement)) => Ok(Some(Statement {
-            is_long: has_long(tokens),
-            ..statement
-        })),
-        Ok(None) => Ok(None),
-        Err(kind) => Err(kind),
+    if let Ok(Ok(Some(statement))) = said {
+        statement.is_long = has_long(tokens);
     }
 }
 
-/// What a line of Thumb state says, or one of ARM state. A line of 2^32 bytes counts as want of memory.
-pub fn said_in(alloc: Global, thumb: bool, line: &Flat) -> Result<ParsedStatement, NoMemory>
+/// What a line of Thumb state says, or one of ARM state; its tokens are put in place of those that are there. A line of 2^32
+/// bytes counts as want of memory.
+pub fn said_in(
+    alloc: Global,
+    tokens: &mut Vec<Token>,
+    thumb: bool,
+    line: &Flat,
+) -> Result<ParsedStatement, NoMemory>
     ensures { IfOk result (λ said. says.SaysBy thumb line.now said) }
 {
     let text = line.text.as_slice();
     if text.len() > 0xFFFF_FFFF {
         return Err(NoMemory);
     }
-    let Some(tokens) = scan(alloc, text)? else {
+    let found = scan_into(tokens, text)?;
+    if !found {
         return Ok(Err(LineKind::Syntax));
-    };
-    let said = said_by(alloc, thumb, line, tokens.as_slice())?;
-    Ok(with_long(tokens.as_slice(), said))
+    }
+    let mut said = said_by(alloc, thumb, line, tokens.as_slice());
+    mark_long(&mut said, tokens.as_slice());
+    said
+}
+
+/// What a line that is read alone says.
+fn said_alone(alloc: Global, thumb: bool, line: &Flat) -> Result<ParsedStatement, NoMemory>
+    ensures { IfOk result (λ said. says.SaysBy thumb line.now said) }
+{
+    said_in(alloc, &mut Vec::new(alloc), thumb, line)
 }
 
 /// What a line of ARM state says; None exactly for a blank line. A line with faults is refused, and of several kinds
@@ -148,7 +155,7 @@ pub fn said_in(alloc: Global, thumb: bool, line: &Flat) -> Result<ParsedStatemen
 pub fn parse_arm(alloc: Global, line: &Flat) -> Result<Option<Statement>, Fault>
     ensures { Told line.now.source line.now.number (says.SaysArm line.now) result }
 {
-    let said = said_in(alloc, false, line);
+    let said = said_alone(alloc, false, line);
     statement_or_refusal(alloc, line, said)
 }
 
@@ -160,6 +167,6 @@ pub fn parse_arm(alloc: Global, line: &Flat) -> Result<Option<Statement>, Fault>
 pub fn parse_thumb(alloc: Global, line: &Flat) -> Result<Option<Statement>, Fault>
     ensures { Told line.now.source line.now.number (says.SaysThumb line.now) result }
 {
-    let said = said_in(alloc, true, line);
+    let said = said_alone(alloc, true, line);
     statement_or_refusal(alloc, line, said)
 }

@@ -12,10 +12,10 @@ ghost use Rattle.asm_registers.specs.Giving.{given_by, IsGiven};
 ghost use Rattle.asm_sets.specs.Sets.{HaveSame};
 
 use crate::numbers::register_in;
-use asm_model::{DirectiveLine, RnOperand, Statement, What};
+use asm_model::{DirectiveLine, RnOperand, SharedText, Statement, What};
 use asm_sets::{NameMap, NameSet};
+use sdt_fault::NoMemory;
 use sdt_fault::kinds::LineKind;
-use sdt_fault::{NoMemory, Text};
 use std::alloc::Global;
 
 /// A number as a register.
@@ -56,7 +56,7 @@ fn fault_of(register: Result<u8, LineKind>) -> Option<LineKind>
 pub fn note(
     alloc: Global,
     known: &mut NameMap<u8>,
-    name: &Text,
+    name: &SharedText,
     register: Result<u8, LineKind>,
 ) -> Result<(), NoMemory>
     ensures { OnOk result ((q : List ℕ) → registers.register_in q known.new
@@ -76,7 +76,7 @@ pub fn note(
 fn name_register(
     alloc: Global,
     known: &mut NameMap<u8>,
-    name: &Text,
+    name: &SharedText,
     register: Result<u8, LineKind>,
 ) -> Result<Option<LineKind>, NoMemory>
     ensures told { IfOk result (λ told. told ≡ told_kind (fault_kinds register)) }
@@ -110,7 +110,7 @@ pub fn given_kind(
 }
 
 /// The name that a statement gives a register.
-fn register_name(statement: &Statement) -> Option<&Text>
+fn register_name(statement: &Statement) -> Option<&SharedText>
     ensures { listed (option_copied result) ≡ registers.register_name (defined_by statement.now) }
 {
     match (&statement.label, &statement.what) {

@@ -11,10 +11,9 @@ ghost use Rattle.asm_registers.specs.Scoped.{told_of};
 
 use crate::numbers::register_in;
 use asm_expr::told::first_told;
-use asm_model::Register;
+use asm_model::{Register, SharedText};
 use asm_names::KnownNames;
 use asm_sets::{NameMap, NameSet};
-use sdt_fault::Text;
 use sdt_fault::kinds::LineKind;
 
 /// What the names of a line's registers are judged by.
@@ -29,7 +28,7 @@ pub struct Scope<'a> {
 }
 
 /// Why a name stands for no register.
-fn no_register(scope: &Scope<'_>, name: &Text) -> LineKind
+fn no_register(scope: &Scope<'_>, name: &SharedText) -> LineKind
     ensures { result ≡ registers.no_register scope.now.all.now name.now
         (named_in name.now scope.now.declared.now) }
 {
@@ -43,7 +42,7 @@ fn no_register(scope: &Scope<'_>, name: &Text) -> LineKind
 }
 
 /// The fault of a name.
-fn name_kind(scope: &Scope<'_>, name: &Text) -> Option<LineKind>
+fn name_kind(scope: &Scope<'_>, name: &SharedText) -> Option<LineKind>
     ensures { result ≡ told_kind
         (registers.kinds_unless (registers.register_in name.now scope.now.known.now)
         (registers.no_register scope.now.all.now name.now
@@ -62,7 +61,7 @@ pub fn with_rest(scope: &Scope<'_>, register: &Register, rest: Option<LineKind>)
 {
     match register {
         Register::Number(_) => rest,
-        Register::Named(name) => first_told(name_kind(scope, name), rest),
+        Register::Named(name) => first_told(name_kind(scope, name.as_text()), rest),
     }
 }
 

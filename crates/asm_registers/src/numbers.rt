@@ -3,12 +3,11 @@
 ghost use Rattle.std.specs.Prelude.{◌≡◌};
 ghost use Rattle.source_model.specs.Registers as registers;
 
-use asm_model::Register;
+use asm_model::{Register, SharedText};
 use asm_sets::NameMap;
-use sdt_fault::Text;
 
 /// The register that a name stands for.
-pub fn register_in(known: &NameMap<u8>, name: &Text) -> Option<u8>
+pub fn register_in(known: &NameMap<u8>, name: &SharedText) -> Option<u8>
     ensures { result ≡ registers.register_in name.now known.now }
 {
     known.find(name)
@@ -20,6 +19,6 @@ pub fn number_of(known: &NameMap<u8>, register: &Register) -> Option<u8>
 {
     match register {
         Register::Number(number) => Some(*number),
-        Register::Named(name) => register_in(known, name),
+        Register::Named(name) => register_in(known, name.as_text()),
     }
 }

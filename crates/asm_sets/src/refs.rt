@@ -5,8 +5,9 @@ ghost use Rattle.std.specs.List.{list_any};
 ghost use Rattle.asm_model.specs.Forms.{same};
 ghost use Rattle.asm_sets.specs.Sets.{HaveSame};
 
+use asm_model::SharedText;
 use indexmap::IndexSet;
-use sdt_fault::{NoMemory, Text};
+use sdt_fault::NoMemory;
 use std::alloc::Global;
 use std::marker::Model;
 
@@ -35,7 +36,7 @@ impl<'a> NameRefs<'a> {
     }
 
     /// A name more, unless it is there. `NoMemory` comes where the index finds no memory; the name itself isn't copied.
-    pub fn add(&mut self, name: &'a Text) -> Result<(), NoMemory>
+    pub fn add(&mut self, name: &'a SharedText) -> Result<(), NoMemory>
         ensures { OnOk result (HaveSame self.new (name.now ∷ self.old)) }
     {
         self.names.insert(name.as_slice())?;
@@ -43,7 +44,7 @@ impl<'a> NameRefs<'a> {
     }
 
     /// Whether a name is there.
-    pub fn has(&self, name: &Text) -> bool
+    pub fn has(&self, name: &SharedText) -> bool
         ensures { result ≡ list_any (same name.now) self.now }
     {
         self.names.contains(name.as_slice())

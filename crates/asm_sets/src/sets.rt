@@ -6,15 +6,16 @@ ghost use Rattle.asm_model.specs.Before.{with_name};
 ghost use Rattle.asm_model.specs.Forms.{same};
 ghost use Rattle.asm_sets.specs.Sets.{HaveSame, number_among};
 
+use asm_model::SharedText;
 use indexmap::IndexSet;
-use sdt_fault::{NoMemory, Text};
+use sdt_fault::NoMemory;
 use std::alloc::Global;
 use std::marker::Model;
 
 /// Names, each once, in the order in which they were added.
 #[derive(Debug, Drop)]
 pub struct NameSet {
-    names: IndexSet<Text>,
+    names: IndexSet<SharedText>,
 }
 
 impl Model for NameSet {
@@ -37,26 +38,26 @@ impl NameSet {
 
     /// A name behind the others, unless it is there; and whether it wasn't. `NoMemory`, where its copy or the index finds no
     /// memory, changes nothing.
-    pub fn add(&mut self, alloc: Global, name: &Text) -> Result<bool, NoMemory>
+    pub fn add(&mut self, alloc: Global, name: &SharedText) -> Result<bool, NoMemory>
         ensures fresh { IfOk result (λ fresh. fresh ≡ not (list_any (same name.now) self.old)) }
         ensures more { OnOk result (self.new ≡ with_name (Some name.now) self.old) }
         ensures have { OnOk result (HaveSame self.new (name.now ∷ self.old)) }
         ensures err { OnErr result (self.new ≡ self.old) }
     {
-        let name = name.try_clone(alloc)?;
+        let name = name.share()?;
         let fresh = self.names.insert(name)?;
         Ok(fresh)
     }
 
     /// Whether a name is there.
-    pub fn has(&self, name: &Text) -> bool
+    pub fn has(&self, name: &SharedText) -> bool
         ensures { result ≡ list_any (same name.now) self.now }
     {
         self.names.contains(name)
     }
 
     /// The number of a name, which is its place.
-    pub fn number_of(&self, name: &Text) -> Option<usize>
+    pub fn number_of(&self, name: &SharedText) -> Option<usize>
         ensures number { result ≡ number_among name.now self.now }
         ensures below { IfSome result (λ number. number < length self.now) }
     {
@@ -64,7 +65,7 @@ impl NameSet {
     }
 
     /// The names.
-    pub fn list(&self) -> &[Text]
+    pub fn list(&self) -> &[SharedText]
         ensures { result.now ≡ self.now }
     {
         self.names.as_slice()

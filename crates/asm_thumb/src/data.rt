@@ -11,7 +11,7 @@ use crate::frames::{Frame, ParsedOperation, with_value, with_zero};
 use crate::operands::{copy_of, is_pc, is_sp, may_be_high};
 use asm_arm::operands::{Cut, register, three_registers, two_registers, without_first};
 use asm_expr::or_kind;
-use asm_model::{Register, ThumbLine, ThumbOperand, Token, What};
+use asm_model::{Register, SharedText, ThumbLine, ThumbOperand, Token, What};
 use sdt_fault::kinds::LineKind;
 use std::alloc::Global;
 use thumb_isa::{HighOperation, ImmediateOperation, ThumbOperation, ThumbShift};
@@ -114,7 +114,7 @@ fn pair_line(
 /// Rd and a number, or two registers.
 fn pair(
     alloc: Global,
-    text: &[u8],
+    text: &SharedText,
     operation: ImmediateOperation,
     rd: &[Token],
     operand: &[Token],
@@ -161,7 +161,7 @@ fn sum_of_read(
 /// Rd, Rs, and a number or a register.
 fn sum(
     alloc: Global,
-    text: &[u8],
+    text: &SharedText,
     subtract: bool,
     rd: &[Token],
     rs: &[Token],
@@ -187,7 +187,7 @@ fn sum(
 /// MOV, CMP, ADD and SUB.
 pub fn immediates(
     alloc: Global,
-    text: &[u8],
+    text: &SharedText,
     operation: ImmediateOperation,
     cut: Cut<'_>,
 ) -> ParsedOperation
@@ -207,7 +207,7 @@ pub fn immediates(
 /// AND to MVN.
 pub fn registers(
     alloc: Global,
-    text: &[u8],
+    text: &SharedText,
     operation: ThumbOperation,
     cut: Cut<'_>,
 ) -> ParsedOperation
@@ -245,7 +245,7 @@ fn shift_frame(
 }
 
 /// LSL, LSR and ASR.
-pub fn shifts(alloc: Global, text: &[u8], shift: ThumbShift, cut: Cut<'_>) -> ParsedOperation
+pub fn shifts(alloc: Global, text: &SharedText, shift: ThumbShift, cut: Cut<'_>) -> ParsedOperation
     ensures { IfOk result (λ said. forms.ReadsShift text.now shift (cut_of cut.entry) said) }
 {
     match cut {

@@ -11,8 +11,10 @@ ghost use Rattle.asm_thumb.specs.Frames as frames;
 use asm_arm::addresses::zero;
 use asm_expr::kinds::both;
 use asm_expr::or_kind;
-use asm_expr::read::expression;
-use asm_model::{Expr, LiteralAddress, PseudoLine, Register, ThumbLine, ThumbOperand, Token, What};
+use asm_expr::read::shared_expression;
+use asm_model::{
+    Expr, LiteralAddress, PseudoLine, Register, SharedText, ThumbLine, ThumbOperand, Token, What,
+};
 use sdt_fault::NoMemory;
 use sdt_fault::kinds::LineKind;
 use sdt_word::Condition;
@@ -183,14 +185,14 @@ pub fn filled(frame: Frame, value: Expr) -> What
 /// runs out does not go through every form of a line; so is the next.
 fn with_expression<F: Drop>(
     alloc: Global,
-    text: &[u8],
+    text: &SharedText,
     frame: Result<F, LineKind>,
     tokens: &[Token],
 ) -> Result<Result<(F, Expr), LineKind>, NoMemory>
     ensures { IfOk result (λ read. (value : Result Expr LineKind)
         × ParsesTokens text.now tokens.now value × (read ≡ readings.both frame value)) }
 {
-    let value = expression(alloc, text, tokens)?;
+    let value = shared_expression(alloc, text, tokens)?;
     Ok(both(frame, value))
 }
 
@@ -209,7 +211,7 @@ fn zeroed<F: Drop>(
 /// A line, from what is read of its registers and the tokens of its expression.
 pub fn with_value(
     alloc: Global,
-    text: &[u8],
+    text: &SharedText,
     frame: Result<Frame, LineKind>,
     tokens: &[Token],
 ) -> ParsedOperation

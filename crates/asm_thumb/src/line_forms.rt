@@ -15,12 +15,12 @@ use asm_arm::line_forms::{no_operation, without_hash};
 use asm_arm::operands::{Cut, cut_operands, register};
 use asm_expr::kinds::both;
 use asm_expr::or_kind;
-use asm_model::{Register, RegisterList, ThumbLine, Token, What};
+use asm_model::{Register, RegisterList, SharedText, ThumbLine, Token, What};
 use sdt_fault::kinds::LineKind;
 use std::alloc::Global;
 use thumb_isa::HighOperation;
 
-fn push_pop(alloc: Global, text: &[u8], load: bool, cut: Cut<'_>) -> ParsedOperation
+fn push_pop(alloc: Global, text: &SharedText, load: bool, cut: Cut<'_>) -> ParsedOperation
     ensures { IfOk result (λ said. said ≡ lines.push_pop text.now load (cut_of cut.entry)) }
 {
     match cut {
@@ -35,7 +35,7 @@ fn push_pop(alloc: Global, text: &[u8], load: bool, cut: Cut<'_>) -> ParsedOpera
     }
 }
 
-fn multiple(alloc: Global, text: &[u8], load: bool, cut: Cut<'_>) -> ParsedOperation
+fn multiple(alloc: Global, text: &SharedText, load: bool, cut: Cut<'_>) -> ParsedOperation
     ensures { IfOk result (λ said. said ≡ lines.multiple text.now load (cut_of cut.entry)) }
 {
     match cut {
@@ -53,7 +53,7 @@ fn multiple(alloc: Global, text: &[u8], load: bool, cut: Cut<'_>) -> ParsedOpera
     }
 }
 
-fn exchange(alloc: Global, text: &[u8], cut: Cut<'_>) -> ParsedOperation
+fn exchange(alloc: Global, text: &SharedText, cut: Cut<'_>) -> ParsedOperation
     ensures { IfOk result (λ said. said ≡ lines.exchange text.now (cut_of cut.entry)) }
 {
     match cut {
@@ -77,7 +77,7 @@ fn address_frame(rd: Result<Register, LineKind>) -> Result<Frame, LineKind>
     Ok(Frame::Address { rd })
 }
 
-fn address(alloc: Global, text: &[u8], cut: Cut<'_>) -> ParsedOperation
+fn address(alloc: Global, text: &SharedText, cut: Cut<'_>) -> ParsedOperation
     ensures { IfOk result (λ said. lines.ReadsAddress text.now (cut_of cut.entry) said) }
 {
     match cut {
@@ -90,7 +90,12 @@ fn address(alloc: Global, text: &[u8], cut: Cut<'_>) -> ParsedOperation
 }
 
 /// What the tokens behind an operation word say.
-fn of_word(alloc: Global, text: &[u8], mnemonic: Mnemonic, tokens: &[Token]) -> ParsedOperation
+fn of_word(
+    alloc: Global,
+    text: &SharedText,
+    mnemonic: Mnemonic,
+    tokens: &[Token],
+) -> ParsedOperation
     ensures { IfOk result (λ said. lines.ReadsWord text.now mnemonic tokens.now said) }
 {
     let cut = cut_operands(text, tokens);
@@ -128,7 +133,7 @@ fn of_word(alloc: Global, text: &[u8], mnemonic: Mnemonic, tokens: &[Token]) -> 
 /// What the tokens behind an operation say, or the fault where nothing names it.
 pub fn instruction(
     alloc: Global,
-    text: &[u8],
+    text: &SharedText,
     fault: LineKind,
     word: Option<Mnemonic>,
     tokens: &[Token],

@@ -6,7 +6,7 @@ ghost use Rattle.asm_thumb.specs.Operands as operands;
 use asm_arm::lists;
 use asm_arm::operands::marked;
 use asm_expr::or_kind;
-use asm_model::{ListItem, Register, Token};
+use asm_model::{ListItem, Register, SharedText, Token};
 use sdt_fault::kinds::LineKind;
 use sdt_fault::{List, NoMemory};
 use std::alloc::Global;
@@ -47,14 +47,14 @@ pub fn copy_of(alloc: Global, register: &Register) -> Result<Register, NoMemory>
 {
     match register {
         Register::Number(number) => Ok(Register::Number(*number)),
-        Register::Named(name) => Ok(Register::Named(name.try_clone(alloc)?)),
+        Register::Named(name) => Ok(Register::Named(name.share()?)),
     }
 }
 
 /// A register list, behind which no `^` stands.
 pub fn register_list(
     alloc: Global,
-    text: &[u8],
+    text: &SharedText,
     tokens: &[Token],
 ) -> Result<Result<List<ListItem>, LineKind>, NoMemory>
     ensures { IfOk result (λ list. list ≡ operands.register_list text.now tokens.now) }
@@ -70,7 +70,7 @@ pub fn register_list(
 /// A base that is written back.
 pub fn written_base(
     alloc: Global,
-    text: &[u8],
+    text: &SharedText,
     tokens: &[Token],
 ) -> Result<Result<Register, LineKind>, NoMemory>
     ensures { IfOk result (λ base. base ≡ operands.written_base text.now tokens.now) }

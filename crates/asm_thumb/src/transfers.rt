@@ -16,7 +16,7 @@ use asm_arm::operands::{
     Cut, between, cut_operands, register, three_registers, two_registers, without_first,
 };
 use asm_expr::or_kind;
-use asm_model::{Register, ThumbLine, Token, What};
+use asm_model::{Register, SharedText, ThumbLine, Token, What};
 use sdt_fault::NoMemory;
 use sdt_fault::kinds::LineKind;
 use sdt_word::Width;
@@ -78,7 +78,7 @@ fn number_frame(word: Transfer, rd: Register, rn: Register) -> Frame
 /// A transfer with a number, from the tokens of its registers.
 fn based(
     alloc: Global,
-    text: &[u8],
+    text: &SharedText,
     word: Transfer,
     rd: &[Token],
     rn: &[Token],
@@ -132,7 +132,7 @@ fn register_line(word: Transfer, rd: Register, rn: Register, ro: Register) -> Wh
 /// A number or a register as an offset.
 fn any_offset(
     alloc: Global,
-    text: &[u8],
+    text: &SharedText,
     word: Transfer,
     rd: &[Token],
     rn: &[Token],
@@ -151,7 +151,7 @@ fn any_offset(
 }
 
 /// The operands in brackets.
-fn bracketed<'a>(text: &[u8], tokens: &'a [Token]) -> Option<Cut<'a>>
+fn bracketed<'a>(text: &SharedText, tokens: &'a [Token]) -> Option<Cut<'a>>
     ensures { cuts_in result ≡ transfers.bracketed text.now tokens.now }
 {
     match between(text, b"[", b"]", tokens) {
@@ -163,7 +163,7 @@ fn bracketed<'a>(text: &[u8], tokens: &'a [Token]) -> Option<Cut<'a>>
 /// A transfer with an address in brackets.
 fn in_brackets(
     alloc: Global,
-    text: &[u8],
+    text: &SharedText,
     word: Transfer,
     rd: &[Token],
     tokens: &[Token],
@@ -188,7 +188,7 @@ fn constant_frame(rd: Result<Register, LineKind>) -> Result<Frame, LineKind>
 }
 
 /// Rd and a number that is loaded.
-fn constant(alloc: Global, text: &[u8], rd: &[Token], number: &[Token]) -> ParsedOperation
+fn constant(alloc: Global, text: &SharedText, rd: &[Token], number: &[Token]) -> ParsedOperation
     ensures { IfOk result
         (λ said. frames.ReadsWith text.now
         (readings.mapped (λ rd. frame.Constant rd) (arm_operands.register text.now rd.now)) number.now
@@ -207,7 +207,7 @@ fn label_frame(rd: Result<Register, LineKind>) -> Result<Frame, LineKind>
 }
 
 /// Rd and a label that is loaded.
-fn label(alloc: Global, text: &[u8], rd: &[Token], tokens: &[Token]) -> ParsedOperation
+fn label(alloc: Global, text: &SharedText, rd: &[Token], tokens: &[Token]) -> ParsedOperation
     ensures { IfOk result
         (λ said. frames.ReadsWith text.now
         (readings.mapped (λ rd. frame.Label rd) (arm_operands.register text.now rd.now)) tokens.now
@@ -220,7 +220,7 @@ fn label(alloc: Global, text: &[u8], rd: &[Token], tokens: &[Token]) -> ParsedOp
 /// A transfer whose second operand isn't in brackets.
 fn loaded(
     alloc: Global,
-    text: &[u8],
+    text: &SharedText,
     word: Transfer,
     rd: &[Token],
     tokens: &[Token],
@@ -243,7 +243,12 @@ fn loaded(
 }
 
 /// LDR and STR, with B and H.
-pub fn transferred(alloc: Global, text: &[u8], word: Transfer, cut: Cut<'_>) -> ParsedOperation
+pub fn transferred(
+    alloc: Global,
+    text: &SharedText,
+    word: Transfer,
+    cut: Cut<'_>,
+) -> ParsedOperation
     ensures { IfOk result
         (λ said. transfers.ReadsTransfer text.now word.load word.width (cut_of cut.entry) said) }
 {
@@ -259,7 +264,7 @@ pub fn transferred(alloc: Global, text: &[u8], word: Transfer, cut: Cut<'_>) -> 
 /// LDRSB and LDRSH, behind their Rd.
 fn signed_inside(
     alloc: Global,
-    text: &[u8],
+    text: &SharedText,
     kind: SignedTransfer,
     rd: &[Token],
     address: Option<Cut<'_>>,
@@ -279,7 +284,7 @@ fn signed_inside(
 /// LDRSB and LDRSH.
 pub fn signed_transfer(
     alloc: Global,
-    text: &[u8],
+    text: &SharedText,
     kind: SignedTransfer,
     cut: Cut<'_>,
 ) -> ParsedOperation

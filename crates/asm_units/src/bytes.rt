@@ -98,7 +98,7 @@ pub fn numbers(
     ensures { IfOk result (λ us. all_emitted us
         ≡ units.number_units (context_of tables.now.lookup) width operands.now) }
 {
-    let mut so_far = Ok(Vec::new(alloc));
+    let mut so_far = Ok(Vec::with_capacity(alloc, operands.len())?);
     let mut left = operands;
     'operands: loop {
         match left {
@@ -181,7 +181,7 @@ pub fn bytes(
     ensures { IfOk result (λ us. all_emitted us
         ≡ marked.marked_units (context_of tables.now.lookup) tables.now.strings.now operands.now) }
 {
-    let mut so_far = Ok(Vec::new(alloc));
+    let mut so_far = Ok(Vec::with_capacity(alloc, operands.len())?);
     let mut marks = tables.strings;
     let mut left = operands;
     'operands: loop {

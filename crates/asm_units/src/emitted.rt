@@ -1,8 +1,9 @@
 //! What a line puts into its area.
 
 use arm_isa::ArmInstr;
+use asm_model::SharedText;
+use sdt_fault::Bytes;
 use sdt_fault::kinds::LineKind;
-use sdt_fault::{Bytes, Text};
 use thumb_isa::ThumbInstr;
 
 /// What a word is relocated by.
@@ -11,7 +12,7 @@ pub enum RelocationTarget {
     Nothing,
     /// An area of the source, counted from 0.
     Area(u32),
-    Symbol(Text),
+    Symbol(SharedText),
 }
 
 /// What a word holds before it is relocated.
@@ -32,7 +33,7 @@ pub enum Emitted {
     Instruction {
         instruction: ArmInstr,
         /// Of a branch that is left to the linker.
-        symbol: Option<Text>,
+        symbol: Option<SharedText>,
     },
     /// An instruction of Thumb state.
     Half(ThumbInstr),
@@ -41,7 +42,7 @@ pub enum Emitted {
         first: u16,
         second: u16,
         /// Of one that is left to the linker.
-        symbol: Option<Text>,
+        symbol: Option<SharedText>,
     },
 }
 

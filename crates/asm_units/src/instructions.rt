@@ -14,13 +14,10 @@ ghost use Rattle.asm_units.specs.Emitting.{all_emitted, emitted_of};
 use crate::emitted::Emitted;
 use crate::tables::LineTables;
 use arm_isa::ArmInstr;
-use asm_instructions::{
-    arm_instruction, branch_symbol, link_symbol, pseudo_instructions, thumb_instruction,
-    thumb_pseudo_instruction,
-};
-use asm_model::{ArmLine, PseudoLine, ThumbLine};
+use asm_instructions::{arm_unit, pseudo_instructions, thumb_pseudo_instruction, thumb_unit};
+use asm_model::{ArmLine, PseudoLine, SharedText, ThumbLine};
 use sdt_fault::kinds::LineKind;
-use sdt_fault::{List, NoMemory, Text};
+use sdt_fault::{List, NoMemory};
 use source_model::ThumbCode;
 use std::alloc::Global;
 use thumb_isa::ThumbInstr;
@@ -28,7 +25,7 @@ use thumb_isa::ThumbInstr;
 fn one(alloc: Global, unit: Emitted) -> Result<Vec<Emitted>, NoMemory>
     ensures { IfOk result (λ us. map emitted_of us.items ≡ emitted_of unit ∷ []) }
 {
-    let mut units = Vec::new(alloc);
+    let mut units = Vec::with_capacity(alloc, 1)?;
     units.push(unit)?;
     Ok(units)
 }
@@ -36,7 +33,7 @@ fn one(alloc: Global, unit: Emitted) -> Result<Vec<Emitted>, NoMemory>
 fn instruction_unit(
     alloc: Global,
     instruction: Result<ArmInstr, LineKind>,
-    symbol: Option<Text>,
+    symbol: Option<SharedText>,
 ) -> Result<Result<Vec<Emitted>, LineKind>, NoMemory>
     ensures { IfOk result (λ us. all_emitted us
         ≡ mapped (λ i. units.Instruction i symbol ∷ []) instruction) }
@@ -67,8 +64,7 @@ pub fn arm(
         ≡ mapped (λ i. units.Instruction i (units.branch_symbol c line.now) ∷ [])
         (forms.arm_instruction c line.now)) }
 {
-    let instruction = arm_instruction(alloc, &tables.lookup, line)?;
-    let symbol = branch_symbol(alloc, &tables.lookup, line)?;
+    let (instruction, symbol) = arm_unit(alloc, &tables.lookup, line)?;
     instruction_unit(alloc, instruction, symbol)
 }
 
@@ -76,7 +72,7 @@ fn instruction_units(alloc: Global, instructions: &[ArmInstr]) -> Result<Vec<Emi
     ensures { IfOk result (λ us. map emitted_of us.items
         ≡ units.instruction_units instructions.now) }
 {
-    let mut units = Vec::new(alloc);
+    let mut units = Vec::with_capacity(alloc, instructions.len())?;
     let mut left = instructions;
     'instructions: loop {
         match left {
@@ -107,7 +103,7 @@ fn all_units(
     }
 }
 
-fn code_unit(symbol: Option<Text>, code: ThumbCode) -> Emitted
+fn code_unit(symbol: Option<SharedText>, code: ThumbCode) -> Emitted
     ensures { emitted_of result ≡ units.code_unit symbol code }
 {
     match code {
@@ -122,7 +118,7 @@ fn code_unit(symbol: Option<Text>, code: ThumbCode) -> Emitted
 
 fn code_units(
     alloc: Global,
-    symbol: Option<Text>,
+    symbol: Option<SharedText>,
     code: Result<ThumbCode, LineKind>,
 ) -> Result<Result<Vec<Emitted>, LineKind>, NoMemory>
     ensures { IfOk result (λ us. all_emitted us
@@ -148,8 +144,7 @@ pub fn thumb(
         ≡ mapped (λ i. units.code_unit (units.link_symbol c line.now) i ∷ [])
         (halves.thumb_instruction c line.now)) }
 {
-    let code = thumb_instruction(alloc, &tables.lookup, line)?;
-    let symbol = link_symbol(alloc, &tables.lookup, line)?;
+    let (code, symbol) = thumb_unit(alloc, &tables.lookup, line)?;
     code_units(alloc, symbol, code)
 }
 

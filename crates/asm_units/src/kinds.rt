@@ -17,9 +17,9 @@ use asm_expr::slots::{Slot, known};
 use asm_expr::told::kind_if;
 use asm_instructions::lookups::stands_at;
 use asm_instructions::values::value_there;
-use asm_model::{DirectiveLine, Value, What};
+use asm_model::{DirectiveLine, SharedText, Value, What};
+use sdt_fault::NoMemory;
 use sdt_fault::kinds::LineKind;
-use sdt_fault::{NoMemory, Text};
 use std::alloc::Global;
 
 /// A fault unless a test holds.
@@ -71,7 +71,7 @@ fn exported_kind(tables: &LineTables<'_>, value: Result<Value, LineKind>) -> Opt
 fn export_kind(
     alloc: Global,
     tables: &LineTables<'_>,
-    name: &Text,
+    name: &SharedText,
 ) -> Result<Option<LineKind>, NoMemory>
     ensures { IfOk result (λ kind. kind
         ≡ told_kind (model.export_kinds (context_of tables.now.lookup) (sizes_of tables.now)

@@ -53,7 +53,7 @@ fn add_directive(
     match line {
         DirectiveLine::Export { name } => add_name(alloc, symbols, name),
         DirectiveLine::Keep { name } => add_name(alloc, symbols, name),
-        DirectiveLine::Import { name, weak: _ } => add_name(alloc, symbols, name),
+        DirectiveLine::Import { name, mark: _ } => add_name(alloc, symbols, name),
         DirectiveLine::Constants { item, values } => {
             add_held(alloc, symbols, lookup, held_by(*item), values.as_slice())
         }

@@ -14,11 +14,11 @@ ghost use Rattle.asm_units.specs.Showing.{ShowsNames};
 use crate::emitted::Stored;
 use crate::named::value_named;
 use crate::stored_words::stored;
-use asm_model::Value;
+use asm_model::{SharedText, Value};
 use asm_names::KnownNames;
 use asm_sets::NameRefs;
+use sdt_fault::NoMemory;
 use sdt_fault::kinds::LineKind;
-use sdt_fault::{NoMemory, Text};
 use std::alloc::Global;
 
 /// A value plus a number.
@@ -45,14 +45,14 @@ fn moved(value: Result<Value, LineKind>, plus: u32) -> Result<Value, LineKind>
 fn place_value(
     alloc: Global,
     names: &KnownNames,
-    symbol: &Text,
+    symbol: &SharedText,
     plus: u32,
 ) -> Result<Result<Value, LineKind>, NoMemory>
     ensures { IfOk result (λ v. (s : Names) → s.list ≡ names.now → v
         ≡ symbols.literal_value s (Place symbol.now plus)) }
 {
     if symbol.as_slice().is_empty() {
-        let symbol = symbol.try_clone(alloc)?;
+        let symbol = symbol.share()?;
         return Ok(Ok(Value::Place { symbol, plus }));
     }
     let value = value_named(alloc, names, symbol)?;

@@ -17,13 +17,13 @@ use asm_instructions::Lookup;
 use asm_instructions::branches::target_symbol;
 use asm_instructions::lookups::stands_at;
 use asm_instructions::values::value_there;
-use asm_model::{Expr, Value};
+use asm_model::{Expr, SharedText, Value};
+use sdt_fault::NoMemory;
 use sdt_fault::kinds::LineKind;
-use sdt_fault::{NoMemory, Text};
 use std::alloc::Global;
 
 /// A symbol behind the others, unless it is listed. More symbols than numbers count as want of memory.
-pub fn add_name(alloc: Global, symbols: &mut Symbols, name: &Text) -> Result<(), NoMemory>
+pub fn add_name(alloc: Global, symbols: &mut Symbols, name: &SharedText) -> Result<(), NoMemory>
     ensures { OnOk result (symbols.new ≡ with_name (Some name.now) symbols.old) }
 {
     if symbols.list().len() >= 0xFFFF_FFFF {
@@ -33,7 +33,11 @@ pub fn add_name(alloc: Global, symbols: &mut Symbols, name: &Text) -> Result<(),
 }
 
 /// The symbol that is needed, where one is.
-fn add_needed(alloc: Global, symbols: &mut Symbols, needed: Option<Text>) -> Result<(), NoMemory>
+fn add_needed(
+    alloc: Global,
+    symbols: &mut Symbols,
+    needed: Option<SharedText>,
+) -> Result<(), NoMemory>
     ensures { OnOk result (symbols.new ≡ model.listed_behind symbols.old (one_symbol needed)) }
 {
     match needed {
@@ -43,7 +47,7 @@ fn add_needed(alloc: Global, symbols: &mut Symbols, needed: Option<Text>) -> Res
 }
 
 /// A symbol that stands in no area of the source.
-fn unplaced(lookup: &Lookup<'_>, symbol: Text) -> Option<Text>
+fn unplaced(lookup: &Lookup<'_>, symbol: SharedText) -> Option<SharedText>
     ensures { one_symbol result
         ≡ model.word_symbols (sees (context_of lookup.now)) (Ok (values.Place symbol 0)) }
 {
@@ -57,7 +61,7 @@ fn unplaced(lookup: &Lookup<'_>, symbol: Text) -> Option<Text>
 }
 
 /// The symbol of a word.
-fn word_symbol(lookup: &Lookup<'_>, value: Result<Value, LineKind>) -> Option<Text>
+fn word_symbol(lookup: &Lookup<'_>, value: Result<Value, LineKind>) -> Option<SharedText>
     ensures { one_symbol result ≡ model.word_symbols (sees (context_of lookup.now)) value }
 {
     match value {

@@ -13,11 +13,11 @@ ghost use Rattle.asm_units.specs.Recording.{Shows};
 
 use crate::named::{is_thumb, stands_at, value_named};
 use aof_object::{Scope, Symbol, SymbolParts};
-use asm_model::Value;
+use asm_model::{SharedText, Value};
 use asm_names::KnownNames;
 use asm_sets::NameRefs;
+use sdt_fault::NoMemory;
 use sdt_fault::kinds::LineKind;
-use sdt_fault::{NoMemory, Text};
 use std::alloc::Global;
 
 /// What the records of symbols say of a source: which names have which flags.
@@ -35,7 +35,7 @@ pub struct SymbolFlags<'a> {
     pub code: &'a [bool],
 }
 
-fn scope(flags: &SymbolFlags<'_>, name: &Text) -> Scope
+fn scope(flags: &SymbolFlags<'_>, name: &SharedText) -> Scope
     ensures { (s : Source) → Shows flags.now s → scope_bits result ≡ objects.scope s name.now }
 {
     if flags.exported.has(name) {
@@ -54,7 +54,7 @@ fn holds_code(code: &[bool], area: u32) -> bool
 }
 
 /// Whether a label is a datum in a code area.
-fn is_marked(flags: &SymbolFlags<'_>, label: &Text, area: u32) -> bool
+fn is_marked(flags: &SymbolFlags<'_>, label: &SharedText, area: u32) -> bool
     ensures { result ≡ list_any (same label.now) flags.now.data.now
         && get_or flags.now.code.now area false }
 {
@@ -65,7 +65,7 @@ fn is_marked(flags: &SymbolFlags<'_>, label: &Text, area: u32) -> bool
 }
 
 /// The attributes of a label in an area.
-fn label_word(flags: &SymbolFlags<'_>, name: &Text, label: &Text, area: u32) -> u32
+fn label_word(flags: &SymbolFlags<'_>, name: &SharedText, label: &SharedText, area: u32) -> u32
     ensures { (s : Source) → Shows flags.now s → result ≡ objects.scope s name.now + objects.marks_of s label.now area }
 {
     SymbolParts {
@@ -106,14 +106,14 @@ fn absolute_word(scope: Scope) -> u32
 }
 
 /// Where a label stands.
-fn label_place(flags: &SymbolFlags<'_>, label: &Text) -> Option<(u32, u32)>
+fn label_place(flags: &SymbolFlags<'_>, label: &SharedText) -> Option<(u32, u32)>
     ensures { (s : Source) → Shows flags.now s → result
         ≡ meaning.stands_at (sees (objects.context_in s None)) label.now }
 {
     stands_at(flags.names, None, label)
 }
 
-fn undefined(alloc: Global, flags: &SymbolFlags<'_>, name: &Text) -> Result<Symbol, NoMemory>
+fn undefined(alloc: Global, flags: &SymbolFlags<'_>, name: &SharedText) -> Result<Symbol, NoMemory>
     ensures { IfOk result (λ symbol. (s : Source) → Shows flags.now s → symbol
         ≡ record {
           name = name.now;
@@ -123,7 +123,7 @@ fn undefined(alloc: Global, flags: &SymbolFlags<'_>, name: &Text) -> Result<Symb
           area = None;
         }) }
 {
-    let name_copy = name.try_clone(alloc)?;
+    let name_copy = name.to_text(alloc)?;
     Ok(Symbol {
         name: name_copy,
         attributes: reference_word(flags.weak.has(name)),
@@ -135,8 +135,8 @@ fn undefined(alloc: Global, flags: &SymbolFlags<'_>, name: &Text) -> Result<Symb
 fn placed(
     alloc: Global,
     flags: &SymbolFlags<'_>,
-    name: &Text,
-    label: &Text,
+    name: &SharedText,
+    label: &SharedText,
     plus: u32,
     place: Option<(u32, u32)>,
 ) -> Result<Symbol, NoMemory>
@@ -146,7 +146,7 @@ fn placed(
     match place {
         None => undefined(alloc, flags, name),
         Some((area, offset)) => {
-            let name_copy = name.try_clone(alloc)?;
+            let name_copy = name.to_text(alloc)?;
             Ok(Symbol {
                 name: name_copy,
                 attributes: label_word(flags, name, label, area),
@@ -158,11 +158,11 @@ fn placed(
 }
 
 /// The record of a name with no value.
-fn unvalued(alloc: Global, name: &Text) -> Result<Symbol, NoMemory>
+fn unvalued(alloc: Global, name: &SharedText) -> Result<Symbol, NoMemory>
     ensures { IfOk result (λ symbol. symbol
         ≡ record { name = name.now; attributes = 0; value = 0; area = None }) }
 {
-    let name = name.try_clone(alloc)?;
+    let name = name.to_text(alloc)?;
     Ok(Symbol {
         name,
         attributes: 0,
@@ -174,7 +174,7 @@ fn unvalued(alloc: Global, name: &Text) -> Result<Symbol, NoMemory>
 fn absolute(
     alloc: Global,
     flags: &SymbolFlags<'_>,
-    name: &Text,
+    name: &SharedText,
     number: u32,
 ) -> Result<Symbol, NoMemory>
     ensures { IfOk result (λ symbol. (s : Source) → Shows flags.now s → symbol
@@ -186,7 +186,7 @@ fn absolute(
           area = None;
         }) }
 {
-    let name_copy = name.try_clone(alloc)?;
+    let name_copy = name.to_text(alloc)?;
     Ok(Symbol {
         name: name_copy,
         attributes: absolute_word(scope(flags, name)),
@@ -198,7 +198,7 @@ fn absolute(
 fn valued(
     alloc: Global,
     flags: &SymbolFlags<'_>,
-    name: &Text,
+    name: &SharedText,
     value: Result<Value, LineKind>,
 ) -> Result<Symbol, NoMemory>
     ensures { IfOk result (λ symbol. (s : Source) → Shows flags.now s → symbol
@@ -215,7 +215,11 @@ fn valued(
 }
 
 /// The record of a symbol.
-pub fn record_of(alloc: Global, name: &Text, flags: &SymbolFlags<'_>) -> Result<Symbol, NoMemory>
+pub fn record_of(
+    alloc: Global,
+    name: &SharedText,
+    flags: &SymbolFlags<'_>,
+) -> Result<Symbol, NoMemory>
     ensures { IfOk result (λ symbol. (s : Source) → Shows flags.now s → symbol
         ≡ objects.symbol_named s name.now) }
 {

@@ -10,15 +10,16 @@ ghost use Rattle.asm_model.specs.LayoutKinds.{fault_kinds};
 ghost use Rattle.asm_model.specs.declared.statements.What.{What as Said};
 ghost use Rattle.asm_model.specs.Said.{WhatSaid};
 ghost use Rattle.source_model.specs.Contexts.{Context};
+ghost use Rattle.source_model.specs.Units.{stored};
 ghost use Rattle.source_model.specs.ValueKinds as model;
 ghost use Rattle.asm_instructions.specs.Lookups.{Shows};
 ghost use Rattle.asm_units.specs.Literals.{literal_in};
 ghost use Rattle.asm_units.specs.Passing.{AreJoined, IsNumber, IsPassTwo};
 ghost use Rattle.asm_units.specs.Showing.{ShowsTables};
 
-use crate::emitted::{Emitted, LineUnits, Stored};
+use crate::emitted::{Emitted, LineUnits};
 use crate::kinds::statement_kind;
-use crate::literals::literal_stored;
+use crate::literals::literal_value;
 use crate::statements::units;
 use crate::tables::LineTables;
 use asm_expr::kinds::earlier;
@@ -29,11 +30,15 @@ use sdt_fault::NoMemory;
 use sdt_fault::kinds::LineKind;
 use std::alloc::Global;
 
-fn fault_of(word: &Result<Stored, LineKind>) -> Option<LineKind>
-    ensures { result ≡ told_kind (fault_kinds word.now) }
+/// The kind of the fault of a word with a value.
+fn word_fault(value: &Result<Value, LineKind>) -> Option<LineKind>
+    ensures { (c : Context) (data_names : List (List ℕ))
+        → result ≡ told_kind (fault_kinds (stored c data_names value.now)) }
 {
-    match word {
-        Ok(_) => None,
+    match value {
+        Ok(Value::Number(_)) => None,
+        Ok(Value::Place { .. }) => None,
+        Ok(_) => Some(LineKind::WrongType),
         Err(kind) => Some(*kind),
     }
 }
@@ -53,10 +58,8 @@ fn literal_kind(
     match value {
         None => Ok(None),
         Some(value) => {
-            let lookup = &tables.lookup;
-            let area = lookup.line.place.area;
-            let word = literal_stored(alloc, lookup.names, tables.data, area, value)?;
-            Ok(fault_of(&word))
+            let word = literal_value(alloc, tables.lookup.names, value)?;
+            Ok(word_fault(&word))
         }
     }
 }

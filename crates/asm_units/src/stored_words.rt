@@ -1,35 +1,39 @@
 //! Words that may be relocated.
 
 ghost use Rattle.std.specs.Prelude.{◌≡◌, ◌+◌, ◌%◌, ◌^◌, ℕ, List, Option, Ok, IfOk};
+ghost use Rattle.std.specs.Option.{option_copied};
+ghost use Rattle.asm_model.specs.declared.names.Names.{Names};
 ghost use Rattle.asm_model.specs.Marks as marks;
+ghost use Rattle.asm_model.specs.Meaning.{named_in, stands_at};
 ghost use Rattle.asm_model.specs.Readings.{mapped};
 ghost use Rattle.asm_model.specs.Said.{AllRead, IsRead};
 ghost use Rattle.source_model.specs.Contexts.{Context, sees, value_of};
 ghost use Rattle.source_model.specs.Units as units;
 ghost use Rattle.source_model.specs.Units.{ByArea};
 ghost use Rattle.asm_instructions.specs.Lookups.{context_of};
+ghost use Rattle.asm_sets.specs.Sets.{HaveSame};
 ghost use Rattle.asm_units.specs.Emitting.{all_emitted, emitted_of, stored_of};
 ghost use Rattle.asm_units.specs.Showing.{ShowsNames};
 
 use crate::emitted::{Emitted, RelocationTarget, Stored};
 use crate::joining::{push_next, word_unit};
-use crate::named::{is_thumb, stands_at};
+use crate::named::{is_thumb_entry, place_at};
 use crate::tables::LineTables;
 use asm_instructions::values::value_there;
-use asm_model::{Expr, Value};
+use asm_model::{Expr, LaidName, SharedText, Value};
 use asm_names::KnownNames;
 use asm_sets::NameRefs;
+use sdt_fault::NoMemory;
 use sdt_fault::kinds::LineKind;
-use sdt_fault::{NoMemory, Text};
 use std::alloc::Global;
 
-/// Whether a symbol counts one more in a word: a label of Thumb code that is no datum.
-fn counts_one(names: &KnownNames, data_names: &NameRefs<'_>, symbol: &Text) -> bool
-    ensures { (c : Context) (labels : List (List ℕ)) (area : Option ℕ)
-        → ShowsNames names.now data_names.now area c labels → result
-        ≡ marks.counts_one labels (sees c) symbol.now }
+/// Whether a symbol with this entry counts one more in a word: a label of Thumb code that is no datum.
+fn counts_one(entry: Option<&LaidName>, data_names: &NameRefs<'_>, symbol: &SharedText) -> bool
+    ensures { (s : Names) (labels : List (List ℕ))
+        → named_in symbol.now s.list ≡ option_copied entry.entry → HaveSame data_names.now labels
+        → result ≡ marks.counts_one labels s symbol.now }
 {
-    if is_thumb(names, symbol) {
+    if is_thumb_entry(entry) {
         return !data_names.has(symbol);
     }
     false
@@ -59,16 +63,18 @@ fn in_area(area: u32, offset: u32, plus: u32, counts: bool) -> Stored
     }
 }
 
-/// A word with a symbol plus a number: of the label's area where it is of this source, and else of the symbol.
+/// A word with a symbol with this entry plus a number: of the label's area where it is of this source, and else of the
+/// symbol.
 fn placed(
-    names: &KnownNames,
+    entry: Option<&LaidName>,
     data_names: &NameRefs<'_>,
-    symbol: Text,
+    symbol: SharedText,
     plus: u32,
     place: Option<(u32, u32)>,
 ) -> Stored
-    ensures { (c : Context) (labels : List (List ℕ)) (area : Option ℕ)
-        → ShowsNames names.now data_names.now area c labels → stored_of result
+    ensures { (c : Context) (labels : List (List ℕ))
+        → named_in symbol (sees c).list ≡ option_copied entry.entry
+        → HaveSame data_names.now labels → stored_of result
         ≡ units.placed c labels symbol plus place }
 {
     match place {
@@ -77,10 +83,27 @@ fn placed(
             target: RelocationTarget::Symbol(symbol),
         },
         Some((area, offset)) => {
-            let counts = counts_one(names, data_names, &symbol);
+            let counts = counts_one(entry, data_names, &symbol);
             in_area(area, offset, plus, counts)
         }
     }
+}
+
+/// A word with a symbol plus a number, where the empty symbol is the start of this area.
+fn symbol_stored(
+    names: &KnownNames,
+    data_names: &NameRefs<'_>,
+    area: Option<u32>,
+    symbol: SharedText,
+    plus: u32,
+) -> Stored
+    ensures { (c : Context) (labels : List (List ℕ))
+        → ShowsNames names.now data_names.now area c labels → stored_of result
+        ≡ units.placed c labels symbol plus (stands_at (sees c) symbol) }
+{
+    let entry = names.find(&symbol);
+    let place = place_at(area, entry, &symbol);
+    placed(entry, data_names, symbol, plus, place)
 }
 
 /// What a word with a value holds, where the empty symbol is the start of this area.
@@ -100,8 +123,7 @@ pub fn stored(
             target: RelocationTarget::Nothing,
         }),
         Ok(Value::Place { symbol, plus }) => {
-            let place = stands_at(names, area, &symbol);
-            Ok(placed(names, data_names, symbol, plus, place))
+            Ok(symbol_stored(names, data_names, area, symbol, plus))
         }
         Ok(_) => Err(LineKind::WrongType),
         Err(kind) => Err(kind),
@@ -135,7 +157,7 @@ pub fn words(
     ensures { IfOk result (λ us. all_emitted us
         ≡ units.word_units (context_of tables.now.lookup) tables.now.data.now operands.now) }
 {
-    let mut so_far = Ok(Vec::new(alloc));
+    let mut so_far = Ok(Vec::with_capacity(alloc, operands.len())?);
     let mut left = operands;
     'operands: loop {
         match left {

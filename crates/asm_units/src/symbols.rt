@@ -4,8 +4,9 @@ ghost use Rattle.std.specs.Prelude.{◌≡◌, ◌-◌, ◌<◌, ◌^◌, [], le
 ghost use Rattle.asm_model.specs.Before.{with_name};
 ghost use Rattle.asm_sets.specs.Sets.{number_among};
 
+use asm_model::SharedText;
 use asm_sets::NameSet;
-use sdt_fault::{NoMemory, Text};
+use sdt_fault::NoMemory;
 use std::alloc::Global;
 use std::marker::Model;
 
@@ -36,7 +37,7 @@ impl Symbols {
     }
 
     /// A symbol behind the others, unless it is listed. An `Err` changes nothing.
-    pub fn add(&mut self, alloc: Global, name: &Text) -> Result<(), NoMemory>
+    pub fn add(&mut self, alloc: Global, name: &SharedText) -> Result<(), NoMemory>
         requires { length self.old < 2 ^ 32 - 1 }
         ensures ok { OnOk result (self.new ≡ with_name (Some name.now) self.old) }
         ensures err { OnErr result (self.new ≡ self.old) }
@@ -46,7 +47,7 @@ impl Symbols {
     }
 
     /// The number of a symbol.
-    pub fn number_of(&self, name: &Text) -> Option<u32>
+    pub fn number_of(&self, name: &SharedText) -> Option<u32>
         ensures { result ≡ number_among name.now self.now }
     {
         match self.names.number_of(name) {
@@ -56,7 +57,7 @@ impl Symbols {
     }
 
     /// The symbols, in order of their numbers.
-    pub fn list(&self) -> &[Text]
+    pub fn list(&self) -> &[SharedText]
         ensures { result.now ≡ self.now }
     {
         self.names.list()

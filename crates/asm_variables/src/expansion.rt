@@ -7,10 +7,10 @@ ghost use Rattle.asm_variables.specs.Expanding.{Becomes, Enters, Replaces, macro
 
 use crate::maps::put;
 use crate::variables::Tables;
-use asm_model::{Flat, Line, Value};
+use asm_model::{Flat, Line, SharedText, Value};
 use expand_model::Prototype;
 use indexmap::{IndexMap, IndexSet};
-use sdt_fault::{List, NoMemory, Text};
+use sdt_fault::{List, NoMemory};
 use std::alloc::Global;
 use std::mem;
 use std::rc::Rc;
@@ -19,8 +19,8 @@ use std::rc::Rc;
 #[derive(Drop)]
 pub struct Scope {
     pub in_call: bool,
-    pub locals: IndexMap<Text, Value>,
-    pub arguments: IndexMap<Text, Text>,
+    pub locals: IndexMap<SharedText, Value>,
+    pub arguments: IndexMap<SharedText, SharedText>,
 }
 
 /// A macro. Copies share it.
@@ -38,12 +38,12 @@ pub struct Expansion {
     pub tables: Tables,
     /// Whether a call of a macro is open.
     pub in_call: bool,
-    pub macros: IndexMap<Text, Definition>,
+    pub macros: IndexMap<SharedText, Definition>,
     pub flats: Vec<Flat>,
     /// The names that an EQU made a number.
-    pub numbers: IndexMap<Text, u32>,
+    pub numbers: IndexMap<SharedText, u32>,
     /// The names in label fields of flat lines.
-    pub labels: IndexSet<Text>,
+    pub labels: IndexSet<SharedText>,
     pub thumb: bool,
 }
 
@@ -59,7 +59,11 @@ impl Definition {
 }
 
 /// Sets the value of a name that has one.
-fn replace(map: &mut IndexMap<Text, Value>, name: Text, value: Value) -> Result<(), NoMemory>
+fn replace(
+    map: &mut IndexMap<SharedText, Value>,
+    name: SharedText,
+    value: Value,
+) -> Result<(), NoMemory>
     ensures { OnOk result (Replaces name value map.old map.new) }
 {
     if !map.contains_key(&name) {
@@ -100,7 +104,7 @@ impl Expansion {
     }
 
     /// A global variable more.
-    pub fn declare_global(&mut self, name: Text, value: Value) -> Result<(), NoMemory>
+    pub fn declare_global(&mut self, name: SharedText, value: Value) -> Result<(), NoMemory>
         ensures state { OnOk result (Becomes self.old self.new (model.declared_global name value)) }
         ensures visits { self.new.visits ≡ self.old.visits }
         ensures flats { self.new.flats.items ≡ self.old.flats.items }
@@ -109,7 +113,7 @@ impl Expansion {
     }
 
     /// A local variable more of the call that is open.
-    pub fn declare_local(&mut self, name: Text, value: Value) -> Result<(), NoMemory>
+    pub fn declare_local(&mut self, name: SharedText, value: Value) -> Result<(), NoMemory>
         requires { self.old.in_call ≡ true }
         ensures state { OnOk result (Becomes self.old self.new (model.declared_local name value)) }
         ensures visits { self.new.visits ≡ self.old.visits }
@@ -119,7 +123,7 @@ impl Expansion {
     }
 
     /// Another value of a variable.
-    pub fn set(&mut self, name: Text, value: Value) -> Result<(), NoMemory>
+    pub fn set(&mut self, name: SharedText, value: Value) -> Result<(), NoMemory>
         ensures state { OnOk result (Becomes self.old self.new (model.with_variable name value)) }
         ensures visits { self.new.visits ≡ self.old.visits }
         ensures flats { self.new.flats.items ≡ self.old.flats.items }
@@ -156,7 +160,7 @@ impl Expansion {
         ensures visits { self.new.visits ≡ self.old.visits }
         ensures flats { self.new.flats.items ≡ self.old.flats.items }
     {
-        let name = definition.prototype.as_ref().name.try_clone(alloc)?;
+        let name = definition.prototype.as_ref().name.share()?;
         put(&mut self.macros, name, definition)
     }
 }

@@ -11,8 +11,9 @@ ghost use Rattle.asm_variables.specs.Operands.{Takes, trimmed_pieces};
 use crate::line_fields::without_blanks;
 use crate::substitution::{first_of, standing_at};
 use asm_lines::bytes::{Class, is_of};
+use asm_model::SharedText;
 use expand_model::Standing;
-use sdt_fault::{NoMemory, Text};
+use sdt_fault::NoMemory;
 use std::alloc::Global;
 
 /// How many blanks stand at the end.
@@ -87,12 +88,16 @@ fn is_quoted(standing: Standing) -> bool
 }
 
 /// Ends the piece so far.
-fn end_piece(alloc: Global, piece: &mut Vec<u8>, pieces: &mut Vec<Text>) -> Result<(), NoMemory>
+fn end_piece(
+    alloc: Global,
+    piece: &mut Vec<u8>,
+    pieces: &mut Vec<SharedText>,
+) -> Result<(), NoMemory>
     ensures empty { OnOk result (piece.new.items ≡ []) }
     ensures more { OnOk result (pieces.new.items
         ≡ pieces.old.items ++ model.trimmed piece.old.items ∷ []) }
 {
-    let text = Text::from_slice(alloc, trimmed(piece.as_slice()))?;
+    let text = SharedText::from_slice(alloc, trimmed(piece.as_slice()))?;
     pieces.push(text)?;
     piece.clear();
     Ok(())
@@ -104,7 +109,7 @@ fn take_byte(
     first: u8,
     standing: Standing,
     piece: &mut Vec<u8>,
-    pieces: &mut Vec<Text>,
+    pieces: &mut Vec<SharedText>,
 ) -> Result<(), NoMemory>
     ensures { OnOk result
         (Takes (first, standing) pieces.old.items piece.old.items pieces.new.items
@@ -119,7 +124,7 @@ fn take_byte(
 }
 
 /// The pieces between the commas outside quotes, without the blanks around each.
-fn pieces_of(alloc: Global, text: &[u8]) -> Result<Vec<Text>, NoMemory>
+fn pieces_of(alloc: Global, text: &[u8]) -> Result<Vec<SharedText>, NoMemory>
     ensures { IfOk result (λ texts. texts.items ≡ trimmed_pieces text.now) }
 {
     let mut pieces = Vec::new(alloc);
@@ -146,7 +151,7 @@ fn pieces_of(alloc: Global, text: &[u8]) -> Result<Vec<Text>, NoMemory>
 
 /// The arguments behind an operation; none where nothing stands there.
 #[tactic(auto, unfolding(expand_model::specs::Words::arguments))]
-pub fn arguments(alloc: Global, behind: &[u8]) -> Result<Vec<Text>, NoMemory>
+pub fn arguments(alloc: Global, behind: &[u8]) -> Result<Vec<SharedText>, NoMemory>
     ensures { IfOk result (λ texts. texts.items ≡ model.arguments behind.now) }
 {
     if operand_text(behind).is_empty() {

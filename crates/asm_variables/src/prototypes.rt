@@ -11,8 +11,9 @@ ghost use Rattle.asm_variables.specs.Steps.{words_shown};
 use crate::line_fields::{Words, without_blanks};
 use crate::operands::arguments;
 use asm_lines::bytes::{Class, is_between_bars, is_letter, is_of};
+use asm_model::SharedText;
 use expand_model::{Parameter, Prototype};
-use sdt_fault::{List, NoMemory, Text};
+use sdt_fault::{List, NoMemory};
 use std::alloc::Global;
 
 fn is_of_words(text: &[u8]) -> bool
@@ -75,13 +76,13 @@ fn parameter_of(alloc: Global, text: &[u8]) -> Result<Option<Parameter>, NoMemor
     let Some(name) = dollar_name(&text[..width]) else {
         return Ok(None);
     };
-    let name = Text::from_slice(alloc, name)?;
-    let otherwise = Text::from_slice(alloc, without_blanks(default_part(text, width)))?;
+    let name = SharedText::from_slice(alloc, name)?;
+    let otherwise = SharedText::from_slice(alloc, without_blanks(default_part(text, width)))?;
     Ok(Some(Parameter { name, otherwise }))
 }
 
 /// The parameters that texts say; None where one says none.
-fn parameters_of(alloc: Global, texts: &[Text]) -> Result<Option<Vec<Parameter>>, NoMemory>
+fn parameters_of(alloc: Global, texts: &[SharedText]) -> Result<Option<Vec<Parameter>>, NoMemory>
     ensures { IfOk result (λ found. MatchOption found (model.parameters_of texts.now ≡ None)
         (λ v. model.parameters_of texts.now ≡ Some v.items)) }
 {
@@ -166,17 +167,17 @@ pub fn name_of(text: &[u8]) -> Option<&[u8]>
 }
 
 /// The parameter in a label field that isn't empty.
-fn label_of(alloc: Global, text: &[u8]) -> Result<Option<Text>, NoMemory>
+fn label_of(alloc: Global, text: &[u8]) -> Result<Option<SharedText>, NoMemory>
     ensures { IfOk result (λ name. name ≡ model.dollar_name text.now) }
 {
     let Some(name) = dollar_name(text) else {
         return Ok(None);
     };
-    Ok(Some(Text::from_slice(alloc, name)?))
+    Ok(Some(SharedText::from_slice(alloc, name)?))
 }
 
 /// The parameter in the label field; None where another text stands there.
-fn label_parameter(alloc: Global, text: &[u8]) -> Result<Option<Option<Text>>, NoMemory>
+fn label_parameter(alloc: Global, text: &[u8]) -> Result<Option<Option<SharedText>>, NoMemory>
     ensures { IfOk result (λ label. label ≡ model.label_parameter text.now) }
 {
     if text.is_empty() {
@@ -203,7 +204,7 @@ pub fn prototype_of(alloc: Global, words: Words<'_>) -> Result<Option<Prototype>
     let Some(parameters) = parameters_of(alloc, texts.as_slice())? else {
         return Ok(None);
     };
-    let name = Text::from_slice(alloc, name)?;
+    let name = SharedText::from_slice(alloc, name)?;
     let parameters = List::from_vec(parameters);
     Ok(Some(Prototype {
         name,

@@ -9,8 +9,9 @@ ghost use Rattle.asm_variables.specs.Substitution.{Fails, Gives, PutsByte, PutsD
 use crate::standing::begun_at;
 use crate::variables::Tables;
 use asm_lines::bytes::{Class, is_letter, run_len};
+use asm_model::SharedText;
 use expand_model::Standing;
-use sdt_fault::{NoMemory, Text};
+use sdt_fault::NoMemory;
 use std::alloc::Global;
 
 fn begins_with(byte: u8, rest: &[u8]) -> bool
@@ -58,7 +59,7 @@ fn named(
     requires { width ≤ length rest.now }
     ensures { IfOk result (PutsName tables.now width rest.now out.old.items out.new.items) }
 {
-    let name = Text::from_slice(alloc, &rest[..width])?;
+    let name = SharedText::from_slice(alloc, &rest[..width])?;
     if tables.append_text(&name, out)? {
         return Ok(Some(taken_width(width, rest)));
     }

@@ -16,9 +16,9 @@ use crate::expansion::Expansion;
 use asm_expr::known::add_entry;
 use asm_expr::told::{first_told, kind_if, told_value};
 use asm_expr::{KnownNames, Seen, value_seen};
-use asm_model::{EvalFault, Expr, ExprItem, LaidName, Meaning, UnaryOp, Value};
+use asm_model::{EvalFault, Expr, ExprItem, LaidName, Meaning, SharedText, UnaryOp, Value};
+use sdt_fault::NoMemory;
 use sdt_fault::kinds::LineKind;
-use sdt_fault::{NoMemory, Text};
 use std::alloc::Global;
 use std::mem;
 
@@ -31,7 +31,7 @@ pub enum Visible {
     Numbers,
 }
 
-fn number_named(state: &Expansion, name: &Text) -> Option<Value>
+fn number_named(state: &Expansion, name: &SharedText) -> Option<Value>
     ensures { IsNamed visible.Numbers state.now name.now result }
 {
     match state.numbers.get(name) {
@@ -46,7 +46,7 @@ fn value_named(
     alloc: Global,
     state: &Expansion,
     visible: Visible,
-    name: &Text,
+    name: &SharedText,
 ) -> Result<Option<Value>, NoMemory>
     ensures { IfOk result (λ value. IsNamed visible state.now name.now value) }
 {
@@ -61,7 +61,7 @@ fn value_named(
 
 /// Whether a name stands for a value.
 #[tactic(auto, using(crate::proofs::StateLemmas::tables_of))]
-fn has_value(state: &Expansion, visible: Visible, name: &Text) -> bool
+fn has_value(state: &Expansion, visible: Visible, name: &SharedText) -> bool
     ensures { HasValue visible state.now name.now result }
 {
     match visible {
@@ -73,7 +73,7 @@ fn has_value(state: &Expansion, visible: Visible, name: &Text) -> bool
 }
 
 /// Whether one of the names with values is this one.
-fn knows(state: &Expansion, visible: Visible, name: &Text) -> bool
+fn knows(state: &Expansion, visible: Visible, name: &SharedText) -> bool
     ensures { Knows visible state.now name.now result }
 {
     has_value(state, visible, name)
@@ -140,10 +140,10 @@ fn items_fault(state: &Expansion, visible: Visible, items: &[ExprItem]) -> Optio
 }
 
 /// An entry with a value of its own.
-fn entry_of(alloc: Global, name: &Text, value: Value) -> Result<LaidName, NoMemory>
+fn entry_of(alloc: Global, name: &SharedText, value: Value) -> Result<LaidName, NoMemory>
     ensures { IfOk result (λ entry. entry ≡ valued_entry name.now value false) }
 {
-    let name = name.try_clone(alloc)?;
+    let name = name.share()?;
     Ok(LaidName {
         name,
         meaning: Meaning::Known(value),
@@ -156,7 +156,11 @@ fn entry_of(alloc: Global, name: &Text, value: Value) -> Result<LaidName, NoMemo
 
 /// The entry of a name in label fields.
 #[tactic(auto, using(crate::proofs::KnownLemmas::named_label))]
-fn label_named(alloc: Global, state: &Expansion, name: &Text) -> Result<Option<LaidName>, NoMemory>
+fn label_named(
+    alloc: Global,
+    state: &Expansion,
+    name: &SharedText,
+) -> Result<Option<LaidName>, NoMemory>
     ensures { IfOk result (λ entry. IsLabel state.now name.now entry) }
 {
     if !state.labels.contains(name) {
@@ -172,7 +176,7 @@ fn entry_named(
     alloc: Global,
     state: &Expansion,
     visible: Visible,
-    name: &Text,
+    name: &SharedText,
 ) -> Result<Option<LaidName>, NoMemory>
     ensures { IfOk result (λ entry. IsEntry visible state.now name.now entry) }
 {

@@ -7,18 +7,18 @@ ghost use Rattle.expand_model.specs.States as model;
 ghost use Rattle.asm_variables.specs.Maps.{value_named};
 ghost use Rattle.asm_variables.specs.Variables.{HasTables, Appends};
 
-use asm_model::Value;
+use asm_model::{SharedText, Value};
 use indexmap::IndexMap;
+use sdt_fault::NoMemory;
 use sdt_fault::digits::push_hexadecimal_places;
-use sdt_fault::{NoMemory, Text};
 use std::alloc::Global;
 
 /// The global variables, and the variables and arguments of the call that is open.
 #[derive(Debug, Drop)]
 pub struct Tables {
-    pub globals: IndexMap<Text, Value>,
-    pub locals: IndexMap<Text, Value>,
-    pub arguments: IndexMap<Text, Text>,
+    pub globals: IndexMap<SharedText, Value>,
+    pub locals: IndexMap<SharedText, Value>,
+    pub arguments: IndexMap<SharedText, SharedText>,
 }
 
 /// Appends a variable's text.
@@ -49,7 +49,7 @@ fn append_value(value: &Value, out: &mut Vec<u8>) -> Result<(), NoMemory>
 impl Tables {
     /// The value of a local variable.
     #[tactic(auto, using(crate::proofs::MapLemmas::none_named))]
-    fn local(&self, name: &Text) -> Option<&Value>
+    fn local(&self, name: &SharedText) -> Option<&Value>
         ensures { option_copied result ≡ value_named self.now.locals name.now }
     {
         if self.locals.is_empty() {
@@ -60,7 +60,7 @@ impl Tables {
 
     /// Whether a local variable has the name.
     #[tactic(auto, using(crate::proofs::MapLemmas::none_named))]
-    pub fn has_local(&self, name: &Text) -> bool
+    pub fn has_local(&self, name: &SharedText) -> bool
         ensures { result ≡ is_some (value_named self.now.locals name.now) }
     {
         if self.locals.is_empty() {
@@ -70,7 +70,7 @@ impl Tables {
     }
 
     /// The value of a variable; a local hides a global.
-    pub fn variable(&self, name: &Text) -> Option<&Value>
+    pub fn variable(&self, name: &SharedText) -> Option<&Value>
         ensures { (s : State) → HasTables self.now s → option_copied result
             ≡ model.variable s name.now }
     {
@@ -81,7 +81,7 @@ impl Tables {
     }
 
     /// Appends the text for which a name stands, where there is one.
-    pub fn append_text(&self, name: &Text, out: &mut Vec<u8>) -> Result<bool, NoMemory>
+    pub fn append_text(&self, name: &SharedText, out: &mut Vec<u8>) -> Result<bool, NoMemory>
         ensures { IfOk result (λ known. (s : State) → HasTables self.now s
             → Appends (model.text_named s name.now) known out.old.items out.new.items) }
     {

@@ -9,6 +9,8 @@ use Rattle.aof_object.specs.declared.records.Entry.{Entry}
 use Rattle.aof_object.specs.declared.records.Object.{Object}
 use Rattle.aof_object.specs.declared.records.Reloc.{Reloc}
 use Rattle.aof_object.specs.declared.records.Symbol.{Symbol}
+use Rattle.arm_isa.specs.declared.instr.Operation.{Operation}
+use Rattle.arm_isa.specs.declared.instr.Operation.TheVariants as operation
 use Rattle.asm_model.specs.declared.directives.Contents.{Contents}
 use Rattle.asm_model.specs.declared.directives.Contents.TheVariants as contents
 use Rattle.asm_model.specs.declared.directives.DirectiveLine.TheVariants as line
@@ -38,7 +40,7 @@ use Rattle.big_faults.specs.Big.{words_bytes, code_area, data_area, BigHasObject
 use Rattle.word_source.specs.Words.{more}
 use Rattle.word_source.proofs.WordLemmas.{same_statements}
 use Rattle.word_source.proofs.CalmLemmas.{calm_area}
-use Rattle.big_faults.proofs.StatementLemmas.{data_small}
+use Rattle.big_faults.proofs.StatementLemmas.{data_small, number_line}
 use Rattle.big_faults.proofs.BytesLemmas.{code_bytes, data_bytes}
 use Rattle.big_faults.proofs.BigLemmas.{all_calm, entered, code_laid, second_laid, data_laid, code_ends, ends_zero, NoEntries, steps_enter, data_enter}
 
@@ -60,23 +62,19 @@ kept_if : (t : Bool) (c : Contents) → is_kept (Some c) ≡ true → is_kept (c
 kept_if true c h = h
 kept_if false c h = refl
 
-step_mute : (v : ℕ) → v < 256 → IsMute (step_what v)
-step_mute v h = record {
+number_mute : (o : Operation) (rd rn v : ℕ) → v < 256 → IsMute (what.Arm (number_line o rd rn v))
+number_mute o rd rn v h = record {
   block = λ s. (4, 4, refl);
   no_symbols = λ names l a n. refl;
-  bare =
-      λ c d s word. rw (data_small _ _ false 4 4 v h) ((λ s at. refl), tt);
+  bare = λ c d s word. rw (data_small _ _ false rn rd v h) ((λ s at. refl), tt);
   kept = λ area l. refl;
 }
 
+step_mute : (v : ℕ) → v < 256 → IsMute (step_what v)
+step_mute v h = number_mute operation.Add 4 4 v h
+
 clear_mute : IsMute clear
-clear_mute = record {
-  block = λ s. (4, 4, refl);
-  no_symbols = λ names l a n. refl;
-  bare =
-      λ c d s word. rw (data_small _ _ false 0 4 0 (omega arith)) ((λ s at. refl), tt);
-  kept = λ area l. refl;
-}
+clear_mute = number_mute operation.Mov 4 0 0 (omega arith)
 
 give_mute : IsMute give
 give_mute = record { block = λ s. (4, 4, refl); no_symbols = λ names l a n. refl; bare = λ c d s word. ((λ s at. refl), tt); kept = λ area l. refl }

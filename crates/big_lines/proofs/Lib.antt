@@ -5,4 +5,5 @@ pub mod RowLemmas
 pub mod SayLemmas
 mod StepLemmas
 pub mod TextLemmas
+pub mod TokenLemmas
 mod WholeLemmas

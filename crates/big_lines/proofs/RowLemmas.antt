@@ -15,8 +15,7 @@ use Rattle.asm_reading.specs.Laws.{OneLine}
 use Rattle.asm_reading.specs.FlatLines.{IsReading, Say, statements_in, first_unread}
 use Rattle.expand_model.specs.Expands.{Flats, Expands}
 use Rattle.expand_model.specs.Steps.{Sources, visit_limit}
-use Rattle.plain_source.specs.Plain.{ArePlain, flats_of}
-use Rattle.plain_source.proofs.PlainLemmas.{plain_sources_expand}
+use Rattle.plain_source.specs.Plain.{ArePlain, PlainSourcesExpand, flats_of}
 use Rattle.big_model.specs.Sources.{spelled}
 use Rattle.big_lines.proofs.SayLemmas.{IsLine}
 use Rattle.big_lines.proofs.TextLemmas.{AreClean, lines_spelled}
@@ -35,13 +34,13 @@ none_beyond n (t ∷ u ∷ ts) h few =
     rw (a, b) (none_beyond (n + 1) (u ∷ ts) h.1 (omega arith))
 
 -- plain lines that are not too many, as a text
-pub lines_expand : (sources : Sources) (name : List ℕ) (ls : List (List ℕ)) → AreClean ls → ArePlain ls → length ls ≤ 200000
-    → Expands sources visit_limit name (spelled ls) (Flats (flats_of (numbered name 1 ls)))
-lines_expand sources name ls clean plain few =
+pub lines_expand : PlainSourcesExpand → (sources : Sources) (name : List ℕ) (ls : List (List ℕ)) → AreClean ls → ArePlain ls
+    → length ls ≤ 200000 → Expands sources visit_limit name (spelled ls) (Flats (flats_of (numbered name 1 ls)))
+lines_expand law sources name ls clean plain few =
     let read : lines (spelled ls) ≡ ls = lines_spelled ls clean in
     let fits = none_beyond 1 ls plain (omega arith) in
     let Made : List (List ℕ) → Type 0 = λ ts. Expands sources visit_limit name (spelled ls) (Flats (flats_of (numbered name 1 ts))) in
-    subst Made read (plain_sources_expand sources visit_limit name (spelled ls) (rw read fits) (rw read plain) (rw read (omega arith)))
+    subst Made read (law sources visit_limit name (spelled ls) (rw read fits) (rw read plain) (rw read (omega arith)))
 
 -- ---- what they say
 

@@ -31,7 +31,8 @@ use Rattle.expand_model.specs.Operations.{operation_of, structure_word, variable
 use Rattle.big_model.specs.Sources.{step_line, label_of}
 use Rattle.big_model.specs.Statements.{constant, stated, step_what}
 use Rattle.big_lines.proofs.DigitLemmas.{AreDigits, IsDecimal, decimal_is, number_longest, longest_is, digits_begin, digits_part, digits_no, any_alone, any_joined, no_dollar, no_end, few_digits}
-use Rattle.big_lines.proofs.SayLemmas.{IsLine, flat, token, one_number, by_operation, by_operation_word}
+use Rattle.big_lines.proofs.SayLemmas.{IsLine, flat, one_number, by_operation, by_operation_word}
+use Rattle.big_lines.proofs.TokenLemmas.{token}
 
 -- ---- pieces
 

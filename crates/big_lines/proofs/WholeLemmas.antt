@@ -14,6 +14,7 @@ use Rattle.asm_reading.specs.FlatLines.{IsReading}
 use Rattle.expand_model.specs.Expands.{ExpansionLaw}
 use Rattle.expand_model.specs.Steps.{visit_limit}
 use Rattle.plain_source.specs.Plain.{ArePlain, flats_of}
+use Rattle.plain_source.proofs.PlainLemmas.{plain_sources_expand}
 use Rattle.big_model.specs.Sources.{step_line, data_line, big_lines, big_text}
 use Rattle.big_model.specs.Statements.{stated, step_statements, data_statements, begun, data_part, big_statements}
 use Rattle.big_lines.specs.Lines.{big_flats, BigExpands, BigIsRead, BigIsShort}
@@ -191,7 +192,7 @@ big_expands law sources name n o few h =
     let Clean : List (List ℕ) → Type 0 = λ ls. AreClean ls in
     let plain = subst Plain (forwards name n) (plain_reversed (before_end name n) (data_part name n) (codes " END") [] all end.plain) in
     let clean = subst Clean (forwards name n) (clean_reversed (before_end name n) (data_part name n) (codes " END" ∷ []) all (end.clean, tt)) in
-    law sources visit_limit name (big_text n) o _ h (lines_expand sources name (big_lines n) clean plain (omega arith))
+    law sources visit_limit name (big_text n) o _ h (lines_expand plain_sources_expand sources name (big_lines n) clean plain (omega arith))
 
 bounded : (a b n : ℕ) → a ≤ 81 * b → b ≡ n + n + 7 → n ≤ 50000 → a ≤ 2 ^ 24
 bounded a b n h e few = omega arith

@@ -2,24 +2,22 @@
 use Rattle.std.proofs.Common.{◌≡◌, ℕ, ◌^◌, ◌<◌, ◌≤◌, List, [], length, true, false, refl, ap, subst, arith, Option, None, Some, inl, inr}
 use Rattle.std.specs.Prelude.{Result, Ok, Err}
 use Rattle.std.specs.List.{list_any}
-use Rattle.std.specs.Str.Lines.{lines}
 use Rattle.sdt_fault.specs.declared.refusal.Refusal.{Refusal}
 use Rattle.sdt_outside.specs.Files.{content}
 use Rattle.aof_object.specs.declared.records.Object.{Object}
 use Rattle.asm_model.specs.declared.statements.Statement.{Statement}
 use Rattle.asm_model.specs.Laid.{reversed}
-use Rattle.asm_model.specs.Lines.{first_beyond, numbered}
 use Rattle.asm_reading.specs.declared.flat_lines.Reading.{Reading}
 use Rattle.asm_reading.specs.Laws.{OneLine}
 use Rattle.asm_reading.specs.FlatLines.{IsReading}
-use Rattle.expand_model.specs.Expands.{Expands, ExpansionLaw, Flats, Outcome}
-use Rattle.expand_model.specs.Steps.{Sources, visit_limit}
+use Rattle.expand_model.specs.Expands.{ExpansionLaw, Outcome}
+use Rattle.expand_model.specs.Steps.{visit_limit}
 use Rattle.expand_model.specs.Words.{token_width, words_of}
-use Rattle.plain_source.specs.Plain.{ArePlain, PlainSourcesExpand, flats_of}
+use Rattle.plain_source.specs.Plain.{ArePlain, PlainSourcesExpand}
 use Rattle.source_model.specs.Objects.{IsObject}
 use Rattle.armasm_core.specs.Assembling.{says_area, source_faults, FlatsMake, OutcomeMakes}
-use Rattle.big_lines.proofs.RowLemmas.{AreRows, rows_read}
-use Rattle.big_lines.proofs.TextLemmas.{AreClean, lines_spelled}
+use Rattle.big_lines.proofs.RowLemmas.{AreRows, lines_expand, rows_read}
+use Rattle.big_lines.proofs.TextLemmas.{AreClean}
 use Rattle.example_laws.specs.Words.{words_lines, words_text, words_flats, words_statements, WordsExpand, WordsAreRead, WordsHaveNoFault, WordsAreAccepted}
 use Rattle.example_laws.proofs.LineLemmas.{area_line, entry_line, find_line, print_line, leave_line, text_line, rest_line, end_line}
 
@@ -43,15 +41,8 @@ all_plain = (
   ),
 )
 
--- lines that are those of a text
-lines_expand : PlainSourcesExpand → (sources : Sources) (name text : List ℕ) (ls : List (List ℕ)) → lines text ≡ ls → first_beyond 1 ls ≡ None → ArePlain ls
-    → length ls ≤ visit_limit → Expands sources visit_limit name text (Flats (flats_of (numbered name 1 ls)))
-lines_expand law sources name text ls read fits plain few =
-    let Made : List (List ℕ) → Type 0 = λ ts. Expands sources visit_limit name text (Flats (flats_of (numbered name 1 ts))) in
-    subst Made read (law sources visit_limit name text (rw read fits) (rw read plain) (rw read few))
-
 pub words_expand : PlainSourcesExpand → WordsExpand
-words_expand plain sources name = lines_expand plain sources name words_text words_lines (lines_spelled words_lines all_clean) refl all_plain (omega arith)
+words_expand law sources name = lines_expand law sources name words_lines all_clean all_plain (omega arith)
 
 -- ---- what the lines say
 

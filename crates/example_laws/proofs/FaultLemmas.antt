@@ -1,6 +1,7 @@
 -- What layout and values find in the statements of `words.s`.
-use Rattle.std.proofs.Common.{◌≡◌, ℕ, ◌<◌, List, [], ◌∷◌, ◌++◌, false, true, refl, arith, None, Some}
+use Rattle.std.proofs.Common.{◌≡◌, ℕ, ◌<◌, List, [], ◌∷◌, ◌++◌, true, refl, arith, None, Some}
 use Rattle.std.specs.Prelude.{codes}
+use Rattle.arm_isa.specs.declared.instr.Operation.TheVariants as operation
 use Rattle.asm_model.specs.declared.directives.Contents.TheVariants as contents
 use Rattle.asm_model.specs.declared.directives.DirectiveLine.TheVariants as line
 use Rattle.asm_model.specs.declared.names.LaidName.{LaidName}
@@ -13,7 +14,8 @@ use Rattle.asm_model.specs.LayoutKinds.{settled, equals_in}
 use Rattle.asm_model.specs.Offsets.{area_size}
 use Rattle.source_model.specs.Registers.{register_names}
 use Rattle.big_faults.proofs.BigLemmas.{end_laid, ends_zero, enter_on, entered, opened_enter, some_size}
-use Rattle.big_faults.proofs.StatementLemmas.{area_calm, data_small, datum_calm, datum_takes, end_calm, entry_calm, leave_calm}
+use Rattle.big_faults.proofs.StatementLemmas.{area_calm, call_calm, datum_calm, end_calm, entry_calm, leave_calm, number_calm}
+use Rattle.big_faults.proofs.StatementLemmas.{call_takes, datum_takes, number_takes}
 use Rattle.big_model.specs.Statements.{stated}
 use Rattle.word_source.specs.Words.{AllCalm, AllFresh, AllWords, CalmHaveNoFault, IsCalm, TakesWord, WordsHaveNoFault}
 use Rattle.word_source.proofs.CalmLemmas.{calm_area, calm_late}
@@ -22,54 +24,13 @@ use Rattle.example_laws.specs.Words.{begun, call, find, word_statements, words_s
 use Rattle.example_laws.specs.Words as words
 
 find_calm : IsCalm find
-find_calm = record {
-  block = λ s. (4, 4, refl);
-  no_kinds = λ c data_names sizes s a n word. rw (data_small _ _ false 15 0 4 (omega arith)) refl;
-  state = λ thumb. refl;
-}
+find_calm = number_calm operation.Add 0 15 4 (omega arith)
 
 print_calm : IsCalm (call 0x02)
-print_calm = record { block = λ s. (4, 4, refl); no_kinds = λ c data_names sizes s a n word. refl; state = λ thumb. refl }
+print_calm = call_calm 2 refl
 
 find_takes : TakesWord find
-find_takes = record {
-  extent = λ s. refl;
-  aligns = λ t l. refl;
-  state = λ t. refl;
-  no_area = refl;
-  again = λ n s a t r. refl;
-  contents = λ o. refl;
-  labelled = λ n. refl;
-  imports = refl;
-  no_map = λ s. refl;
-  names_none = λ s b. refl;
-  registers = λ n s k. refl;
-  operands = λ k. refl;
-  no_entry = refl;
-  no_thumb = refl;
-  good = refl;
-  small = refl;
-}
-
-call_takes : (k : ℕ) → TakesWord (call k)
-call_takes k = record {
-  extent = λ s. refl;
-  aligns = λ t l. refl;
-  state = λ t. refl;
-  no_area = refl;
-  again = λ n s a t r. refl;
-  contents = λ o. refl;
-  labelled = λ n. refl;
-  imports = refl;
-  no_map = λ s. refl;
-  names_none = λ s b. refl;
-  registers = λ n s k. refl;
-  operands = λ k. refl;
-  no_entry = refl;
-  no_thumb = refl;
-  good = refl;
-  small = refl;
-}
+find_takes = number_takes operation.Add 0 15 4
 
 all_calm : (name : List ℕ) → AllCalm (words_statements name)
 all_calm name = (

@@ -11,14 +11,13 @@ use Rattle.asm_model.specs.Areas.{attribute_named, is_repeated, is_contradicting
 use Rattle.asm_model.specs.Directives.{directive_named, named_data, named_symbol, named_report, named_variable, named_structure}
 use Rattle.asm_model.specs.Operands.{depth_behind}
 use Rattle.asm_model.specs.Registers.{register_named, numbered_register, special_register, call_register}
-use Rattle.asm_model.specs.Tokens.{Tokens}
 use Rattle.asm_arm.specs.declared.operands.Second.TheVariants as second
 use Rattle.asm_arm.specs.Mnemonics.{operation_named, data_named, multiply_named, long_named, moving_named, other_named, float_named, data_stem, condition_named, flags_suffix, multiply_stem, long_stem, transfer_named, block_named, swap_named, transfer_stem, block_stem, swap_stem, plain_named, plain_stem}
 use Rattle.asm_lines.specs.Lengths.{best_of}
 use Rattle.expand_model.specs.Operations.{operation_of, structure_word, variable_word}
-use Rattle.big_model.specs.Statements.{constant, stated, attributes, area_what, datum_what}
-use Rattle.big_lines.proofs.DigitLemmas.{longest_is}
-use Rattle.big_lines.proofs.SayLemmas.{IsLine, flat, token, one_number, by_directive, by_operation, by_operation_word}
+use Rattle.big_model.specs.Statements.{constant, attributes, area_what, datum_what}
+use Rattle.big_lines.proofs.SayLemmas.{IsSeen, Line, directive_line, one_number, operation_line, seen}
+use Rattle.big_lines.proofs.TokenLemmas.{token}
 use Rattle.example_laws.specs.Words.{call, find}
 
 -- ---- AREA
@@ -28,60 +27,21 @@ area_text = codes "        AREA    words, CODE, READONLY   ; each statement take
 
 abbrev area_tokens : List Token
 area_tokens =
-    token kind.Name 8 12 ∷ token kind.Name 16 21 ∷ token kind.Sign 21 22
-    ∷ token kind.Name 23 27 ∷ token kind.Sign 27 28 ∷ token kind.Name 29 37 ∷ []
+    token kind.Name 8 12 ∷ token kind.Name 16 21 ∷ token kind.Sign 21 22 ∷ token kind.Name 23 27 ∷ token kind.Sign 27 28
+    ∷ token kind.Name 29 37 ∷ []
 
-area_are : Tokens area_text area_tokens
-unfolding best_of
-area_are = (
-  4,
-  refl,
-  refl,
-  longest_is kind.Name 4 _ refl (omega arith),
-  (
-    5,
-    refl,
-    refl,
-    longest_is kind.Name 5 _ refl (omega arith),
-    (
-      1,
-      refl,
-      refl,
-      longest_is kind.Sign 1 _ refl (omega arith),
-      (
-        4,
-        refl,
-        refl,
-        longest_is kind.Name 4 _ refl (omega arith),
-        (
-          1,
-          refl,
-          refl,
-          longest_is kind.Sign 1 _ refl (omega arith),
-          (8, refl, refl, longest_is kind.Name 8 _ refl (omega arith), refl),
-        ),
-      ),
-    ),
-  ),
-)
+area_seen : IsSeen false area_text area_tokens (codes "AREA")
+unfolding best_of operation_of structure_word variable_word
+area_seen = seen _ _ _ _ 6 refl refl refl refl refl refl refl refl refl (omega arith)
 
-pub area_line : (name : List ℕ) (number : ℕ) → IsLine false (flat name number area_text)
-    (stated name number None (area_what (codes "words") contents.Code true))
+pub area_line : Line false area_text None (area_what (codes "words") contents.Code true)
 unfolding directive_named named_data named_symbol named_report named_variable named_structure depth_behind attribute_named is_repeated is_contradicting
-    operation_of structure_word variable_word
-area_line name number = record {
-  says = by_directive name number area_text area_tokens None (area_what (codes "words") contents.Code true) area_are (
-    Ok (line.Area (codes "words") (attributes contents.Code true)),
-    (Ok [], (Ok None, Ok [], refl, (Ok None, Ok [], refl, refl, refl), refl), refl),
-    refl,
-  ) refl;
-  state = refl;
-  not_local = refl;
-  names_none = λ t. refl;
-  plain = by_operation_word false area_text area_tokens (codes "AREA") area_are refl refl refl refl refl (omega arith);
-  clean = refl;
-  short = omega arith;
-}
+area_line =
+    directive_line _ _ _ _ None (area_what (codes "words") contents.Code true) area_seen (refl, refl, λ t. refl) (λ name number. (
+      Ok (line.Area (codes "words") (attributes contents.Code true)),
+      (Ok [], (Ok None, Ok [], refl, (Ok None, Ok [], refl, refl, refl), refl), refl),
+      refl,
+    ))
 
 -- ---- ENTRY
 
@@ -91,21 +51,14 @@ entry_text = codes "        ENTRY"
 abbrev entry_tokens : List Token
 entry_tokens = token kind.Name 8 13 ∷ []
 
-entry_are : Tokens entry_text entry_tokens
-unfolding best_of
-entry_are = (5, refl, refl, longest_is kind.Name 5 _ refl (omega arith), refl)
+entry_seen : IsSeen false entry_text entry_tokens (codes "ENTRY")
+unfolding best_of operation_of structure_word variable_word
+entry_seen = seen _ _ _ _ 1 refl refl refl refl refl refl refl refl refl (omega arith)
 
-pub entry_line : (name : List ℕ) (number : ℕ) → IsLine false (flat name number entry_text) (stated name number None (what.Directive line.Entry))
-unfolding directive_named named_data named_symbol named_report named_variable named_structure operation_of structure_word variable_word
-entry_line name number = record {
-  says = by_directive name number entry_text entry_tokens None (what.Directive line.Entry) entry_are (Ok line.Entry, refl, refl) refl;
-  state = refl;
-  not_local = refl;
-  names_none = λ t. refl;
-  plain = by_operation_word false entry_text entry_tokens (codes "ENTRY") entry_are refl refl refl refl refl (omega arith);
-  clean = refl;
-  short = omega arith;
-}
+pub entry_line : Line false entry_text None (what.Directive line.Entry)
+unfolding directive_named named_data named_symbol named_report named_variable named_structure
+entry_line =
+    directive_line _ _ _ _ None (what.Directive line.Entry) entry_seen (refl, refl, λ t. refl) (λ name number. (Ok line.Entry, refl, refl))
 
 -- ---- ADD
 
@@ -117,61 +70,22 @@ find_tokens =
     token kind.Name 8 11 ∷ token kind.Name 16 18 ∷ token kind.Sign 18 19 ∷ token kind.Name 19 21
     ∷ token kind.Sign 21 22 ∷ token kind.Sign 22 23 ∷ token kind.Number 23 24 ∷ []
 
-find_are : Tokens find_text find_tokens
-unfolding best_of
-find_are = (
-  3,
-  refl,
-  refl,
-  longest_is kind.Name 3 _ refl (omega arith),
-  (
-    2,
-    refl,
-    refl,
-    longest_is kind.Name 2 _ refl (omega arith),
-    (
-      1,
-      refl,
-      refl,
-      longest_is kind.Sign 1 _ refl (omega arith),
-      (
-        2,
-        refl,
-        refl,
-        longest_is kind.Name 2 _ refl (omega arith),
-        (
-          1,
-          refl,
-          refl,
-          longest_is kind.Sign 1 _ refl (omega arith),
-          (
-            1,
-            refl,
-            refl,
-            longest_is kind.Sign 1 _ refl (omega arith),
-            (1, refl, refl, longest_is kind.Number 1 _ refl (omega arith), refl),
-          ),
-        ),
-      ),
-    ),
-  ),
-)
+find_seen : IsSeen false find_text find_tokens (codes "ADD")
+unfolding best_of operation_of structure_word variable_word
+find_seen = seen _ _ _ _ 7 refl refl refl refl refl refl refl refl refl (omega arith)
 
-pub find_line : (name : List ℕ) (number : ℕ) → IsLine false (flat name number find_text) (stated name number None (find))
+pub find_line : Line false find_text None find
 unfolding directive_named named_data named_symbol named_report named_variable named_structure operation_named data_named data_stem condition_named flags_suffix
-    depth_behind register_named numbered_register special_register call_register operation_of structure_word variable_word
-find_line name number = record {
-  says = by_operation name number find_text find_tokens None (find) find_are refl
-      (Ok find, (Ok (second.Number (constant 4)), (Ok (constant 4), one_number find_text (token kind.Number 23 24) 4 refl, refl), refl), refl) refl;
-  state = refl;
-  not_local = refl;
-  names_none = λ t. refl;
-  plain = by_operation_word false find_text find_tokens (codes "ADD") find_are refl refl refl refl refl (omega arith);
-  clean = refl;
-  short = omega arith;
-}
+    depth_behind register_named numbered_register special_register call_register
+find_line =
+    operation_line _ _ _ _ None find find_seen (refl, refl, λ t. refl) (λ name number. refl)
+    (λ name number. (
+      Ok find,
+      (Ok (second.Number (constant 4)), (Ok (constant 4), one_number find_text (token kind.Number 23 24) 4 refl, refl), refl),
+      refl,
+    ))
 
--- ---- SWI
+-- ---- SWI 0x02
 
 abbrev print_text : List ℕ
 print_text = codes "        SWI     0x02            ; prints it"
@@ -179,32 +93,19 @@ print_text = codes "        SWI     0x02            ; prints it"
 abbrev print_tokens : List Token
 print_tokens = token kind.Name 8 11 ∷ token kind.Number 16 20 ∷ []
 
-print_are : Tokens print_text print_tokens
-unfolding best_of
-print_are = (
-  3,
-  refl,
-  refl,
-  longest_is kind.Name 3 _ refl (omega arith),
-  (4, refl, refl, longest_is kind.Number 4 _ refl (omega arith), refl),
-)
+print_seen : IsSeen false print_text print_tokens (codes "SWI")
+unfolding best_of operation_of structure_word variable_word
+print_seen = seen _ _ _ _ 2 refl refl refl refl refl refl refl refl refl (omega arith)
 
-pub print_line : (name : List ℕ) (number : ℕ) → IsLine false (flat name number print_text) (stated name number None (call 0x02))
+pub print_line : Line false print_text None (call 0x02)
 unfolding directive_named named_data named_symbol named_report named_variable named_structure operation_named data_named multiply_named long_named moving_named
     other_named float_named data_stem condition_named flags_suffix multiply_stem long_stem transfer_named block_named swap_named transfer_stem block_stem
-    swap_stem plain_named plain_stem depth_behind register_named numbered_register special_register call_register operation_of structure_word variable_word
-print_line name number = record {
-  says = by_operation name number print_text print_tokens None (call 0x02) print_are refl
-      (Ok (call 0x02), (Ok (constant 2), one_number print_text (token kind.Number 16 20) 2 refl, refl), refl) refl;
-  state = refl;
-  not_local = refl;
-  names_none = λ t. refl;
-  plain = by_operation_word false print_text print_tokens (codes "SWI") print_are refl refl refl refl refl (omega arith);
-  clean = refl;
-  short = omega arith;
-}
+    swap_stem plain_named plain_stem depth_behind register_named numbered_register special_register call_register
+print_line =
+    operation_line _ _ _ _ None (call 0x02) print_seen (refl, refl, λ t. refl) (λ name number. refl)
+    (λ name number. (Ok (call 0x02), (Ok (constant 2), one_number print_text (token kind.Number 16 20) 2 refl, refl), refl))
 
--- ---- SWI
+-- ---- SWI 0x11
 
 abbrev leave_text : List ℕ
 leave_text = codes "        SWI     0x11            ; ends"
@@ -212,32 +113,19 @@ leave_text = codes "        SWI     0x11            ; ends"
 abbrev leave_tokens : List Token
 leave_tokens = token kind.Name 8 11 ∷ token kind.Number 16 20 ∷ []
 
-leave_are : Tokens leave_text leave_tokens
-unfolding best_of
-leave_are = (
-  3,
-  refl,
-  refl,
-  longest_is kind.Name 3 _ refl (omega arith),
-  (4, refl, refl, longest_is kind.Number 4 _ refl (omega arith), refl),
-)
+leave_seen : IsSeen false leave_text leave_tokens (codes "SWI")
+unfolding best_of operation_of structure_word variable_word
+leave_seen = seen _ _ _ _ 2 refl refl refl refl refl refl refl refl refl (omega arith)
 
-pub leave_line : (name : List ℕ) (number : ℕ) → IsLine false (flat name number leave_text) (stated name number None (call 0x11))
+pub leave_line : Line false leave_text None (call 0x11)
 unfolding directive_named named_data named_symbol named_report named_variable named_structure operation_named data_named multiply_named long_named moving_named
     other_named float_named data_stem condition_named flags_suffix multiply_stem long_stem transfer_named block_named swap_named transfer_stem block_stem
-    swap_stem plain_named plain_stem depth_behind register_named numbered_register special_register call_register operation_of structure_word variable_word
-leave_line name number = record {
-  says = by_operation name number leave_text leave_tokens None (call 0x11) leave_are refl
-      (Ok (call 0x11), (Ok (constant 17), one_number leave_text (token kind.Number 16 20) 17 refl, refl), refl) refl;
-  state = refl;
-  not_local = refl;
-  names_none = λ t. refl;
-  plain = by_operation_word false leave_text leave_tokens (codes "SWI") leave_are refl refl refl refl refl (omega arith);
-  clean = refl;
-  short = omega arith;
-}
+    swap_stem plain_named plain_stem depth_behind register_named numbered_register special_register call_register
+leave_line =
+    operation_line _ _ _ _ None (call 0x11) leave_seen (refl, refl, λ t. refl) (λ name number. refl)
+    (λ name number. (Ok (call 0x11), (Ok (constant 17), one_number leave_text (token kind.Number 16 20) 17 refl, refl), refl))
 
--- ---- DCD
+-- ---- DCD 0x64726F77
 
 abbrev text_text : List ℕ
 text_text = codes "text    DCD     0x64726F77      ; w, o, r, d"
@@ -245,39 +133,24 @@ text_text = codes "text    DCD     0x64726F77      ; w, o, r, d"
 abbrev text_tokens : List Token
 text_tokens = token kind.Name 0 4 ∷ token kind.Name 8 11 ∷ token kind.Number 16 26 ∷ []
 
-text_are : Tokens text_text text_tokens
-unfolding best_of
-text_are = (
-  4,
-  refl,
-  refl,
-  longest_is kind.Name 4 _ refl (omega arith),
-  (
-    3,
-    refl,
-    refl,
-    longest_is kind.Name 3 _ refl (omega arith),
-    (10, refl, refl, longest_is kind.Number 10 _ refl (omega arith), refl),
-  ),
-)
+text_seen : IsSeen false text_text text_tokens (codes "DCD")
+unfolding best_of operation_of structure_word variable_word
+text_seen = seen _ _ _ _ 3 refl refl refl refl refl refl refl refl refl (omega arith)
 
-pub text_line : (name : List ℕ) (number : ℕ) → IsLine false (flat name number text_text) (stated name number (Some (codes "text")) (datum_what 0x64726F77))
-unfolding directive_named named_data named_symbol named_report named_variable named_structure depth_behind operation_of structure_word variable_word
-text_line name number = record {
-  says = by_directive name number text_text text_tokens (Some (codes "text")) (datum_what 0x64726F77) text_are (
-    Ok (line.Constants Word (constant 0x64726F77 ∷ [])),
-    (Ok (constant 0x64726F77 ∷ []), (Ok (constant 0x64726F77), Ok [], one_number text_text (token kind.Number 16 26) 0x64726F77 refl, refl, refl), refl),
-    refl,
-  ) refl;
-  state = refl;
-  not_local = refl;
-  names_none = λ t. refl;
-  plain = by_operation_word false text_text text_tokens (codes "DCD") text_are refl refl refl refl refl (omega arith);
-  clean = refl;
-  short = omega arith;
-}
+pub text_line : Line false text_text (Some (codes "text")) (datum_what 0x64726F77)
+unfolding directive_named named_data named_symbol named_report named_variable named_structure depth_behind
+text_line =
+    directive_line _ _ _ _ (Some (codes "text")) (datum_what 0x64726F77) text_seen (refl, refl, λ t. refl) (λ name number. (
+      Ok (line.Constants Word (constant 0x64726F77 ∷ [])),
+      (
+        Ok (constant 0x64726F77 ∷ []),
+        (Ok (constant 0x64726F77), Ok [], one_number text_text (token kind.Number 16 26) 0x64726F77 refl, refl, refl),
+        refl,
+      ),
+      refl,
+    ))
 
--- ---- DCD
+-- ---- DCD 0x0A73
 
 abbrev rest_text : List ℕ
 rest_text = codes "        DCD     0x0A73          ; s, a line feed, and the end"
@@ -285,31 +158,22 @@ rest_text = codes "        DCD     0x0A73          ; s, a line feed, and the end
 abbrev rest_tokens : List Token
 rest_tokens = token kind.Name 8 11 ∷ token kind.Number 16 22 ∷ []
 
-rest_are : Tokens rest_text rest_tokens
-unfolding best_of
-rest_are = (
-  3,
-  refl,
-  refl,
-  longest_is kind.Name 3 _ refl (omega arith),
-  (6, refl, refl, longest_is kind.Number 6 _ refl (omega arith), refl),
-)
+rest_seen : IsSeen false rest_text rest_tokens (codes "DCD")
+unfolding best_of operation_of structure_word variable_word
+rest_seen = seen _ _ _ _ 2 refl refl refl refl refl refl refl refl refl (omega arith)
 
-pub rest_line : (name : List ℕ) (number : ℕ) → IsLine false (flat name number rest_text) (stated name number None (datum_what 0x0A73))
-unfolding directive_named named_data named_symbol named_report named_variable named_structure depth_behind operation_of structure_word variable_word
-rest_line name number = record {
-  says = by_directive name number rest_text rest_tokens None (datum_what 0x0A73) rest_are (
-    Ok (line.Constants Word (constant 0x0A73 ∷ [])),
-    (Ok (constant 0x0A73 ∷ []), (Ok (constant 0x0A73), Ok [], one_number rest_text (token kind.Number 16 22) 0x0A73 refl, refl, refl), refl),
-    refl,
-  ) refl;
-  state = refl;
-  not_local = refl;
-  names_none = λ t. refl;
-  plain = by_operation_word false rest_text rest_tokens (codes "DCD") rest_are refl refl refl refl refl (omega arith);
-  clean = refl;
-  short = omega arith;
-}
+pub rest_line : Line false rest_text None (datum_what 0x0A73)
+unfolding directive_named named_data named_symbol named_report named_variable named_structure depth_behind
+rest_line =
+    directive_line _ _ _ _ None (datum_what 0x0A73) rest_seen (refl, refl, λ t. refl) (λ name number. (
+      Ok (line.Constants Word (constant 0x0A73 ∷ [])),
+      (
+        Ok (constant 0x0A73 ∷ []),
+        (Ok (constant 0x0A73), Ok [], one_number rest_text (token kind.Number 16 22) 0x0A73 refl, refl, refl),
+        refl,
+      ),
+      refl,
+    ))
 
 -- ---- END
 
@@ -319,18 +183,11 @@ end_text = codes "        END"
 abbrev end_tokens : List Token
 end_tokens = token kind.Name 8 11 ∷ []
 
-end_are : Tokens end_text end_tokens
-unfolding best_of
-end_are = (3, refl, refl, longest_is kind.Name 3 _ refl (omega arith), refl)
+end_seen : IsSeen true end_text end_tokens (codes "END")
+unfolding best_of operation_of structure_word variable_word
+end_seen = seen _ _ _ _ 1 refl refl refl refl refl refl refl refl refl (omega arith)
 
-pub end_line : (name : List ℕ) (number : ℕ) → IsLine true (flat name number end_text) (stated name number None (what.Directive line.End))
-unfolding directive_named named_data named_symbol named_report named_variable named_structure operation_of structure_word variable_word
-end_line name number = record {
-  says = by_directive name number end_text end_tokens None (what.Directive line.End) end_are (Ok line.End, refl, refl) refl;
-  state = refl;
-  not_local = refl;
-  names_none = λ t. refl;
-  plain = by_operation_word true end_text end_tokens (codes "END") end_are refl refl refl refl refl (omega arith);
-  clean = refl;
-  short = omega arith;
-}
+pub end_line : Line true end_text None (what.Directive line.End)
+unfolding directive_named named_data named_symbol named_report named_variable named_structure
+end_line =
+    directive_line _ _ _ _ None (what.Directive line.End) end_seen (refl, refl, λ t. refl) (λ name number. (Ok line.End, refl, refl))

@@ -1,4 +1,5 @@
-//! Laws of programs of `examples`. There is no engine.
+//! Law: a program of `examples` is accepted, from its text to the object of its statements. This project's, over the
+//! definitions that `assemble` meets; there is no engine. No crate stands on it: the law is for the reader.
 #![tactic(auto)]
 
 ghost use Rattle.example_laws.specs.Words.{WordsAreAccepted, WordsAreRead, WordsExpand, WordsHaveNoFault};

@@ -1,21 +1,21 @@
 //! Macros.
 
-use asm_model::Line;
-use sdt_fault::{List, Text};
+use asm_model::{Line, SharedText};
+use sdt_fault::List;
 
 #[derive(Debug, Drop)]
 pub struct Parameter {
-    pub name: Text,
+    pub name: SharedText,
     /// The text for which an argument of a lone bar stands.
-    pub otherwise: Text,
+    pub otherwise: SharedText,
 }
 
 /// What a macro's calls are written by.
 #[derive(Debug, Drop)]
 pub struct Prototype {
-    pub name: Text,
+    pub name: SharedText,
     /// The parameter for which the label stands.
-    pub label: Option<Text>,
+    pub label: Option<SharedText>,
     pub parameters: List<Parameter>,
 }
 

@@ -4,12 +4,12 @@
 use asm_expr::{evaluate, parse_directive, parse_expr};
 use asm_lines::tokens;
 use asm_model::{
-    ArmLine, DataItem, DirectiveLine, Expr, FileName, Flat, LaidName, Meaning, Names, Statement,
-    ThumbLine, Token, TokenKind, Value, What,
+    ArmLine, DataItem, DirectiveLine, Expr, FileName, Flat, LaidName, Meaning, Names, SharedText,
+    Statement, ThumbLine, Token, TokenKind, Value, What,
 };
 use asm_reading::{parse_arm, parse_thumb};
 use sdt_fault::answer::Fault;
-use sdt_fault::{Bytes, List, Text};
+use sdt_fault::{List, Text};
 use std::alloc::Global;
 use std::test::*;
 
@@ -25,7 +25,7 @@ fn line(alloc: Global, text: &[u8]) -> Result<Flat, Fault> {
     Ok(Flat {
         source: FileName::of(alloc, &Text::from_slice(alloc, b"t.s")?)?,
         number: 3,
-        text: Bytes::from_slice(alloc, text)?,
+        text: SharedText::from_slice(alloc, text)?,
     })
 }
 
@@ -33,7 +33,7 @@ fn line(alloc: Global, text: &[u8]) -> Result<Flat, Fault> {
 fn names(alloc: Global) -> Result<Names, Fault> {
     let mut list = Vec::new(alloc);
     list.push(LaidName {
-        name: Text::from_slice(alloc, b"x")?,
+        name: SharedText::from_slice(alloc, b"x")?,
         meaning: Meaning::Known(Value::Number(7)),
         area: None,
         offset: 0,

@@ -73,8 +73,8 @@ pub names_text : (s : Statement) → HasTexts s → AllByRecursion HoldsNoZero (
 names_text s h = (each_part HoldsNoZero (label_names s.label) (what_names s.what) h).1
 
 pub import_text : (w : What) → AllByRecursion HoldsNoZero (what_names w) → OptionText (imported_in w)
-import_text (what.Directive (line.Import name weak)) h = h.0
-import_text (what.Directive (line.Extern name weak)) h = h.0
+import_text (what.Directive (line.Import name mark)) h = h.0
+import_text (what.Directive (line.Extern name mark)) h = h.0
 import_text w h = tt
 
 pub area_text : (w : What) → AllByRecursion HoldsNoZero (what_names w) → OptionText (area_named w)

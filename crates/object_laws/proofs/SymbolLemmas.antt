@@ -392,7 +392,7 @@ line_good ss h before l word t (what.Directive (line.Export name)) k =
     ((export_good ss h (context_behind ss l before) refl name k.kinds, k.texts.0), tt)
 line_good ss h before l word t (what.Directive (line.Keep name)) k =
     ((export_good ss h (context_behind ss l before) refl name k.kinds, k.texts.0), tt)
-line_good ss h before l word t (what.Directive (line.Import name weak)) k = (k.imports name refl, tt)
+line_good ss h before l word t (what.Directive (line.Import name mark)) k = (k.imports name refl, tt)
 line_good ss h before l word t (what.Directive (line.Constants item es)) k = held_good ss h before l (held_by item) es k.fits
 line_good ss h before l word t (what.Directive d) k = tt
 

@@ -24,11 +24,13 @@ use Rattle.asm_model.specs.declared.operands.BlockMode.{BlockMode}
 use Rattle.asm_model.specs.declared.operands.BlockMode.TheVariants as mode
 use Rattle.asm_model.specs.declared.operands.ListItem.{ListItem}
 use Rattle.asm_model.specs.declared.operands.ListItem.TheVariants as item
+use Rattle.asm_model.specs.declared.operands.StatusRegister.{StatusRegister}
+use Rattle.asm_model.specs.declared.operands.StatusRegister.TheVariants.{Saved}
+use Rattle.asm_model.specs.declared.operands.StatusFields.{StatusFields}
 use Rattle.asm_model.specs.declared.arm_lines.ArmLine.{ArmLine}
 use Rattle.asm_model.specs.declared.arm_lines.ArmLine.TheVariants as arm
 use Rattle.asm_model.specs.declared.values.Value.{Value}
 use Rattle.asm_model.specs.declared.values.Value.TheVariants.{Number, Place}
-use Rattle.asm_model.specs.LayoutKinds.{is_true}
 use Rattle.asm_model.specs.Meaning.{named_in, stands_at}
 use Rattle.asm_model.specs.Readings.{and_then, mapped}
 use Rattle.asm_model.specs.Symbols.{is_in_area, keeps_state}
@@ -107,6 +109,21 @@ is_block_up mode.IncrementBefore = true
 is_block_up mode.DecrementAfter = false
 is_block_up mode.DecrementBefore = false
 
+-- ---- status registers
+
+-- whether it is the saved one; a word that names none says nothing
+abbrev pub is_saved : Option StatusRegister → Bool
+is_saved (Some Saved) = true
+is_saved _ = false
+
+abbrev pub are_saved : Option StatusFields → Bool
+are_saved None = false
+are_saved (Some f) = is_saved (Some f.register)
+
+abbrev pub mask_of : Option StatusFields → ℕ
+mask_of None = 0
+mask_of (Some f) = f.mask
+
 -- ---- branches
 
 -- a displacement modulo 2^32 as the field of an ARM branch
@@ -157,10 +174,10 @@ arm_instruction c (arm.MultiplyLong condition signed accumulate set_flags low hi
     Ok (instr.MultiplyLong condition signed accumulate set_flags (register c high) (register c low) (register c rs) (register c rm))
 arm_instruction c (arm.Swap condition byte rd rm rn) = Ok (instr.Swap condition byte (register c rn) (register c rd) (register c rm))
 arm_instruction c (arm.BranchExchange condition rm) = Ok (instr.BranchExchange condition (register c rm))
-arm_instruction c (arm.ReadStatus condition saved rd) = Ok (instr.ReadStatus condition (is_true saved) (register c rd))
-arm_instruction c (arm.WriteStatus condition saved fields rm) = Ok (instr.WriteStatus condition saved fields (register c rm))
-arm_instruction c (arm.WriteStatusImmediate condition saved fields e) =
-    and_then (number_in c e) (λ n. status_of condition saved fields (immediate n))
+arm_instruction c (arm.ReadStatus condition status rd) = Ok (instr.ReadStatus condition (is_saved status) (register c rd))
+arm_instruction c (arm.WriteStatus condition fields rm) = Ok (instr.WriteStatus condition (are_saved fields) (mask_of fields) (register c rm))
+arm_instruction c (arm.WriteStatusImmediate condition fields e) =
+    and_then (number_in c e) (λ n. status_of condition (are_saved fields) (mask_of fields) (immediate n))
 arm_instruction c (arm.TransferImmediate condition load byte rd a) = transfer_at c condition load byte (register c rd) a
 arm_instruction c (arm.TransferShifted condition load byte rd rn ix subtract rm by) =
     mapped (λ f. instr.TransferShifted condition (is_before ix) (not subtract) byte (writes_back ix) load (register c rn) (register c rd)

@@ -19,6 +19,7 @@ use Rattle.asm_model.specs.declared.directives.AreaAttributes.{AreaAttributes}
 use Rattle.asm_model.specs.declared.directives.Contents.{Contents}
 use Rattle.asm_model.specs.declared.directives.Contents.TheVariants as contents
 use Rattle.asm_model.specs.declared.directives.DirectiveLine.TheVariants as line
+use Rattle.asm_model.specs.declared.directives.ImportMark.TheVariants as mark
 use Rattle.asm_model.specs.declared.names.LaidName.{LaidName}
 use Rattle.asm_model.specs.declared.statements.Statement.{Statement}
 use Rattle.asm_model.specs.declared.statements.What.{What}
@@ -32,7 +33,7 @@ use Rattle.asm_model.specs.Meaning.{named_in, stands_at, value_of}
 use Rattle.asm_model.specs.Before.{areas_behind, place_of, is_code}
 use Rattle.asm_model.specs.Entries.{thumb_of}
 use Rattle.asm_model.specs.Laid.{LaidLine, taken, pieces_of, laid, final_names}
-use Rattle.asm_model.specs.LayoutKinds.{exponent, is_entry, is_thumb_area, is_true}
+use Rattle.asm_model.specs.LayoutKinds.{exponent, is_entry, is_thumb_area}
 use Rattle.asm_model.specs.Marks.{datum_names}
 use Rattle.asm_model.specs.Offsets.{is_of, area_size, all_pooled}
 use Rattle.asm_model.specs.Symbols.{symbols_of, literal_value}
@@ -232,8 +233,8 @@ exports_name name (what.Directive (line.Export n)) = same n name
 exports_name name _ = false
 
 abbrev pub is_weak_import : List ℕ → What → Bool
-is_weak_import name (what.Directive (line.Import n weak)) = same n name && is_true weak
-is_weak_import name (what.Directive (line.Extern n weak)) = same n name && is_true weak
+is_weak_import name (what.Directive (line.Import n mark.Weak)) = same n name
+is_weak_import name (what.Directive (line.Extern n mark.Weak)) = same n name
 is_weak_import name _ = false
 
 abbrev pub is_exported : Source → List ℕ → Bool

@@ -8,6 +8,7 @@ use Rattle.asm_model.specs.declared.directives.Contents.{Contents}
 use Rattle.asm_model.specs.declared.directives.Contents.TheVariants as contents
 use Rattle.asm_model.specs.declared.directives.DataItem.TheVariants as datum
 use Rattle.asm_model.specs.declared.directives.DirectiveLine.TheVariants as line
+use Rattle.asm_model.specs.declared.directives.ImportMark.TheVariants as mark
 use Rattle.asm_model.specs.declared.exprs.BinaryOp.TheVariants.{Add}
 use Rattle.asm_model.specs.declared.exprs.Expr.{Expr}
 use Rattle.asm_model.specs.declared.exprs.ExprItem.{ExprItem}
@@ -41,7 +42,7 @@ area c = says 1 None (what.Directive (line.Area (codes "words") (record {
 })))
 
 abbrev import_far : Statement
-import_far = says 2 None (what.Directive (line.Import (codes "far") (Some false)))
+import_far = says 2 None (what.Directive (line.Import (codes "far") mark.Absent))
 
 abbrev items : List ExprItem → Expr
 items is = record { items = is }

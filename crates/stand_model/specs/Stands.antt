@@ -192,10 +192,10 @@ ArmStands s a (arm.MultiplyLong condition signed accumulate set_flags low high r
     InstructionStands s a (arm.MultiplyLong condition signed accumulate set_flags low high rm rs)
 ArmStands s a (arm.Swap condition byte rd rm rn) = InstructionStands s a (arm.Swap condition byte rd rm rn)
 ArmStands s a (arm.BranchExchange condition rm) = InstructionStands s a (arm.BranchExchange condition rm)
-ArmStands s a (arm.ReadStatus condition saved rd) = InstructionStands s a (arm.ReadStatus condition saved rd)
-ArmStands s a (arm.WriteStatus condition saved fields rm) = InstructionStands s a (arm.WriteStatus condition saved fields rm)
-ArmStands s a (arm.WriteStatusImmediate condition saved fields e) =
-    InstructionStands s a (arm.WriteStatusImmediate condition saved fields e)
+ArmStands s a (arm.ReadStatus condition status rd) = InstructionStands s a (arm.ReadStatus condition status rd)
+ArmStands s a (arm.WriteStatus condition fields rm) = InstructionStands s a (arm.WriteStatus condition fields rm)
+ArmStands s a (arm.WriteStatusImmediate condition fields e) =
+    InstructionStands s a (arm.WriteStatusImmediate condition fields e)
 ArmStands s a (arm.TransferImmediate condition load byte rd (address.Based rn indexing e)) =
     InstructionStands s a (arm.TransferImmediate condition load byte rd (address.Based rn indexing e))
 ArmStands s a (arm.TransferImmediate condition load byte rd (address.Label e)) =

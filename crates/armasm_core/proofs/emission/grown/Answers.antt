@@ -2,7 +2,7 @@ use Rattle.std.proofs.Common.{◌≡◌, ◌-◌, ◌∷◌, ◌∙◌, List, sy
 use Rattle.std.proofs.lemmas.Result.{err_from_is_err_and}
 use Rattle.asm_model.specs.declared.statements.Statement.{Statement}
 use Rattle.asm_layout.specs.declared.laid.LaidArea.{LaidArea}
-use Rattle.asm_layout.specs.declared.laid.LaidStatement.{LaidStatement}
+use Rattle.asm_laying.specs.declared.laying.LaidStatement.{LaidStatement}
 use Rattle.source_model.specs.Objects.{source_of}
 use Rattle.source_model.specs.Registers.{register_in}
 use Rattle.armasm_core.specs.Gathered.{AllLaidSaid}
@@ -93,8 +93,8 @@ lines-preserved c =
     let put = c.in_ok-units-in-len1-up.ensures statements n.before n.rest n.line
     (subst (λ (areas : List LaidArea). IsHere statements areas w known n.before n.rest n.line x) (sym c.as_slice-areas.ensures) n.here) in
     let pieces = put_there statements l w names x more known gs n u us c.as_slice.ensures.value put in
-    let apart = apart_there c.sources_stand_apart.ensures statements j.sound j.states n.before n.rest n.line x.place.area
-    (pieces_put x.place.offset us) n.here.parts n.here.line.place.area pieces in
+    let apart = apart_there c.sources_stand_apart.ensures statements j.sound j.states n.before n.rest n.line x.line.place.area
+    (pieces_put x.line.place.offset us) n.here.parts n.here.line.line.place.area pieces in
     grown_more statements l w names x more known c.define_register.new.known gs c.put_line.new.builds.items n u us c.as_slice.ensures.value put
     (c.in_ok-put_line-in-len1-up.ensures.more (things_so_far (source_of statements) n.before (n.line ∷ n.rest)) n.builders apart)
     c.in_ok-define_register-in-len1-up.ensures in (

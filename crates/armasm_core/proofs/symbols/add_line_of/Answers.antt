@@ -9,7 +9,6 @@ returns c = λ statements before rest l h.
     let areas = c.args.areas.now in
     let w = c.args.whole.now in
     let x = c.args.laid.now in
-    let y = c.line_of-line.result in
-    needed_there statements areas w before rest l x y c.args.symbols.now c.add_line.new.symbols h c.line_of-line.ensures
-    (c.in_ok-add_line.ensures l.line (taken l.extent) (seen_there statements areas w before rest l x y h c.line_of-line.ensures)
+    needed_there statements areas w before rest l x c.args.symbols.now c.add_line.new.symbols h
+    (c.in_ok-add_line.ensures l.line (taken l.extent) (seen_there statements areas w before rest l x h)
     (loaded c.pool_law.ensures statements areas w before rest l x h ∙ sym c.literal_of-literal.ensures))

@@ -1,6 +1,6 @@
 use Rattle.std.proofs.Common.{◌-◌, ℕ, List, sym, subst, length, take, drop}
 use Rattle.asm_layout.specs.declared.laid.LaidArea.{LaidArea}
-use Rattle.asm_layout.specs.declared.laid.LaidStatement.{LaidStatement}
+use Rattle.asm_laying.specs.declared.laying.LaidStatement.{LaidStatement}
 use Rattle.armasm_core.specs.Gathered.{AllLaidSaid}
 use Rattle.armasm_core.proofs.SetLemmas.{said_first}
 use Rattle.armasm_core.specs.Listing.{IsListed, StandsThere}

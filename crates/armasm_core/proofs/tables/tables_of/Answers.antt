@@ -14,7 +14,7 @@ returns c = λ statements before rest l h.
     (record {
       lookup = record {
         names = refl;
-        line = c.requires;
+        line = refl;
         registers = refl;
       };
       labels = refl;

@@ -8,16 +8,16 @@ use Rattle.asm_expand.proofs.first_lines.read_dollars.Goals as goal
 pub returns-in-None-clause-says : goal.returns-in-None-clause-says
 returns-in-None-clause-says c =
     λ sources s l ls a r.
-    let fails = rw c.in-None.is at c.in_ok-substitute.ensures in
+    let fails = rw (c.in-None.is, c.as_slice.ensures) at c.in_ok-substitute.ensures in
     let failed = fails s (record { globals = r.globals; locals = r.locals; arguments = r.arguments }) in
     (Err UnknownWord, rw failed refl, rw failed (shows_bad sources c.args.state.now c.args.at UnknownWord l ls a))
 
-pub returns-in-Some-clause-says : goal.returns-in-Some-clause-says
-returns-in-Some-clause-says c =
+pub returns-in_ok-flat-in-Some-clause-says : goal.returns-in_ok-flat-in-Some-clause-says
+returns-in_ok-flat-in-Some-clause-says c =
     IfOk-weaker c.read_text.result _ _
     (λ n h sources s l ls a r.
-    let gives = rw c.in-Some.is at c.in_ok-substitute.ensures in
+    let gives = rw (c.in-Some.is, c.as_slice.ensures) at c.in_ok-substitute.ensures in
     let given = gives s (record { globals = r.globals; locals = r.locals; arguments = r.arguments }) in
     let said = h sources s l ls a r in
-    rw given (rw c.as_slice.ensures.value at said))
+    rw given (rw c.in_ok-flat-in-Some.ensures at said))
     c.read_text.ensures.says

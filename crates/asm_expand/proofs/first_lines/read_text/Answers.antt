@@ -1,4 +1,4 @@
-use Rattle.std.proofs.Common.{◌≡◌, ◌<◌, ◌≤◌, true, false, nat_lt, length, arith}
+use Rattle.std.proofs.Common.{refl, ◌≡◌, ◌<◌, ◌≤◌, true, false, nat_lt, length, arith}
 use Rattle.std.specs.Prelude.{Ok}
 use Rattle.std.proofs.lemmas.Bool.{lt-ltb, le-ltb}
 use Rattle.std.proofs.lemmas.Result.{IfOk-weaker}
@@ -7,6 +7,7 @@ use Rattle.asm_model.specs.Limits.{line_bytes}
 use Rattle.asm_variables.specs.Steps.{words_shown}
 use Rattle.asm_expand.specs.FirstLines.{kind_shown}
 use Rattle.asm_expand.specs.Saying.{depth_of}
+use Rattle.asm_expand.proofs.PlainLemmas.{label_begins}
 use Rattle.asm_expand.proofs.ReadingLemmas.{some_text, text_said}
 use Rattle.asm_expand.proofs.SayingLemmas.{shows_bad}
 use Rattle.asm_expand.proofs.first_lines.read_text.Goals as goal
@@ -14,18 +15,26 @@ use Rattle.asm_expand.proofs.first_lines.read_text.Goals as goal
 pub returns-then-text-gt-LINE_BYTES-clause-says : goal.returns-then-text-gt-LINE_BYTES-clause-says
 returns-then-text-gt-LINE_BYTES-clause-says c =
     λ sources s l ls a r.
-    let x = some_text s.macros (Ok c.args.text.now) in
-    let more : line_bytes < length c.args.text.now = omega arith in
-    let long : nat_lt line_bytes (length c.args.text.now) ≡ true = lt-ltb line_bytes (length c.args.text.now) more in
+    let x = some_text s.macros (Ok c.args.flat.now) in
+    let there : line_bytes < length c.as_slice-text.result.now = omega arith in
+    let more : line_bytes < length c.args.flat.now = rw c.as_slice-text.ensures at there in
+    let long : nat_lt line_bytes (length c.args.flat.now) ≡ true = lt-ltb line_bytes (length c.args.flat.now) more in
     (x.0, x.1, rw long (shows_bad sources c.args.state.now c.args.at TooMany l ls a))
 
 pub returns-clause-says : goal.returns-clause-says
 returns-clause-says c =
-    let less : length c.args.text.now ≤ line_bytes = omega arith in
-    let short : nat_lt line_bytes (length c.args.text.now) ≡ false = le-ltb line_bytes (length c.args.text.now) less in
+    let is = c.as_slice-text.ensures in
+    let there : length c.as_slice-text.result.now ≤ line_bytes = omega arith in
+    let less : length c.args.flat.now ≤ line_bytes = rw is at there in
+    let short : nat_lt line_bytes (length c.args.flat.now) ≡ false = le-ltb line_bytes (length c.args.flat.now) less in
     IfOk-weaker c.say.result _ _
     (λ n h sources s l ls a r.
-    text_said sources (depth_of c.args.depth) c.say.new.state n s l ls c.args.text.now (words_shown c.words_of-words.result) (kind_shown c.in_ok-kind.kind)
+    text_said sources (depth_of c.args.depth) c.say.new.state n s l ls c.args.flat.now (words_shown c.words_of-words.result) (kind_shown c.in_ok-kind.kind)
     c.in_ok-operand.operand short
-    (c.in_ok-kind.ensures s r) c.words_of-words.ensures c.in_ok-operand.ensures.reads (h sources s l ls a r))
+    (c.in_ok-kind.ensures s r) (rw is at c.words_of-words.ensures) (rw is at c.in_ok-operand.ensures.reads) (h sources s l ls a r))
     c.say.ensures.says
+
+pub say-requires-clause-begins : goal.say-requires-clause-begins
+say-requires-clause-begins c =
+    label_begins c.args.flat.now c.words_of-words.result.label.now (words_shown c.words_of-words.result)
+    (rw c.as_slice-text.ensures at c.words_of-words.ensures) refl

@@ -1,5 +1,5 @@
 use Rattle.std.proofs.Common.{◌≡◌, ◌<◌, ◌-◌, ◌∷◌, List, [], take, drop, length, refl, sym, ◌∙◌, subst, arith}
-use Rattle.asm_layout.specs.declared.laid.LaidStatement.{LaidStatement}
+use Rattle.asm_laying.specs.declared.laying.LaidStatement.{LaidStatement}
 use Rattle.asm_layout.specs.Late.{IsLeft}
 use Rattle.asm_layout.proofs.LateLemmas.{first_left, next_of, stands, told_here, none_here, none_left}
 use Rattle.base_lemmas.proofs.BaseLemmas.{rest_of}
@@ -18,17 +18,17 @@ returns-in-empty c =
 
 pub returns-in-Some : goal.returns-in-Some
 returns-in-Some c = λ all w h.
-    let x = c.line-item.result in
+    let x = c.next-item.result in
     let more = take (length c.lines.left.now - 1) (drop 1 c.lines.left.now) in
-    let n = next_of all x more (subst (λ (xs : List LaidStatement). IsLeft all xs) (rest_of c.lines.left.now x c.in-len1-up.len_at_least c.line-item.is)
+    let n = next_of all x more (subst (λ (xs : List LaidStatement). IsLeft all xs) (rest_of c.lines.left.now x c.in-len1-up.len_at_least c.next-item.is)
     (c.lines.invariant all w h)) in
     told_here all x more n c.in-Some.kind c.told_of.result
     (sym c.in-Some.is ∙ c.late_kind.ensures all n.before n.rest n.l w (rw c.position_of.ensures (stands all x more n))) c.told_of.ensures
 
 pub lines-preserved : goal.lines-preserved
 lines-preserved c = λ all w h.
-    let x = c.line-item.result in
+    let x = c.next-item.result in
     let more = take (length c.lines.left.now - 1) (drop 1 c.lines.left.now) in
-    let n = next_of all x more (subst (λ (xs : List LaidStatement). IsLeft all xs) (rest_of c.lines.left.now x c.in-len1-up.len_at_least c.line-item.is)
+    let n = next_of all x more (subst (λ (xs : List LaidStatement). IsLeft all xs) (rest_of c.lines.left.now x c.in-len1-up.len_at_least c.next-item.is)
     (c.lines.invariant all w h)) in
     none_here all x more n (sym c.in_default.is ∙ c.late_kind.ensures all n.before n.rest n.l w (rw c.position_of.ensures (stands all x more n)))

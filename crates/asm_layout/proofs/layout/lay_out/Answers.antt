@@ -4,8 +4,8 @@ use Rattle.asm_layout.proofs.FinishLemmas.{said_reversed}
 use Rattle.asm_layout.proofs.layout.lay_out.Goals as goal
 
 pub returns : goal.returns
-returns c = c.finished.ensures (reversed c.args.statements.items []) (record {
-  said = said_reversed c.args.statements.items [] c.requires.said tt;
-  outlined = rw c.as_slice.ensures.value at c.in_ok-outline.ensures;
+returns c = c.finished.ensures (reversed c.args.statements.now []) (record {
+  said = said_reversed c.args.statements.now [] c.requires.said tt;
+  outlined = c.in_ok-outline.ensures;
   walked = c.in_ok-walk.ensures;
 })

@@ -1,6 +1,9 @@
-use Rattle.std.proofs.Common.{◌++◌, drop}
-use Rattle.asm_layout.specs.Walking.{IsAlong}
+use Rattle.std.proofs.Common.{◌++◌, drop, length}
+use Rattle.asm_layout.specs.Walking.{IsOn}
 use Rattle.asm_layout.proofs.walking.walked_front.Given as goal
 
 abbrev pub invariant-statements : goal.invariant-statements
-invariant-statements l = IsAlong l.fn.statements.items l.yielded (l.statement-iterator.rest.items ++ drop l.fn.count l.fn.statements.items) l.walk
+invariant-statements l = IsOn l.statements (l.left ++ drop l.count l.statements) l.walk
+
+abbrev pub decreases-statements : goal.decreases-statements
+decreases-statements l = length l.left

@@ -5,4 +5,4 @@ use Rattle.asm_reading.proofs.says.parse_arm.Goals as goal
 pub returns : goal.returns
 returns c =
     let line = c.args.line.now in
-    told_said line.source line.number (SaysArm line) c.said_in-said.result c.statement_or_refusal.result c.said_in-said.ensures c.statement_or_refusal.ensures
+    told_said line.source line.number (SaysArm line) c.said_alone-said.result c.statement_or_refusal.result c.said_alone-said.ensures c.statement_or_refusal.ensures

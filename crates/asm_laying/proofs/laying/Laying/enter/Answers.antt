@@ -19,5 +19,5 @@ returns c = λ d before h.
       all_known =
           c.args.self.now.all_known;
     })
-    c.stepped-next.result c.start-offset.result c.is_thumb_label-label_thumb.result h c.stepped-next.ensures refl c.in_ok-enter.ensures c.start-offset.ensures
-    refl refl refl c.is_thumb_label-label_thumb.ensures
+    c.stepped-next.result c.start-offset.result c.is_thumb_label-thumb_label.result h c.stepped-next.ensures refl c.in_ok-enter.ensures c.start-offset.ensures
+    refl refl refl c.is_thumb_label-thumb_label.ensures

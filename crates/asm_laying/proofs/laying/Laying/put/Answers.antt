@@ -20,7 +20,7 @@ returns-in-Err c = λ d before reach found marked owned.
 
 pub returns-in_ok-add_names-in-Ok : goal.returns-in_ok-add_names-in-Ok
 returns-in_ok-add_names-in-Ok c = λ d before reach found marked owned.
-    lays d c.args.statement.now before c.args.self.now _ c.args.location.now c.args.extent c.args.map c.args.equal c.in-Ok.placed reach.at reach.location found
+    lays d c.args.statement before c.args.self.now _ c.args.location.now c.args.extent c.args.map c.args.equal c.in-Ok.placed reach.at reach.location found
     (subst (λ (r : Result PlacedExtent TooLarge). Places c.args.location.now.area (extent_of_code c.args.extent) (pieces_of before) c.place.new.self (Ok r))
     c.in-Ok.is
     (c.in_ok-placed.ensures.places (pieces_of before) reach.at.areas.ends))
@@ -29,5 +29,5 @@ returns-in_ok-add_names-in-Ok c = λ d before reach found marked owned.
     (c.in_ok-add_names-in-Ok.ensures
     ∙ ap (λ (o : Option LaidName). c.args.self.now.names ++ one_entry o ++ one_entry c.args.equal.entry
     ++ imported_entries (imported_in c.args.statement.now.what))
-    (c.sized-own.ensures c.args.location.now.area c.args.location.now.offset c.args.location.now.map c.args.location.now.label_thumb owned))
+    (c.sized-own.ensures c.args.location.now.area c.args.location.now.offset c.args.location.now.map c.args.location.now.thumb_label owned))
     c.still_known-self.ensures c.args.strings marked

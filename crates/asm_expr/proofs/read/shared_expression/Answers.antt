@@ -2,7 +2,7 @@ use Rattle.std.proofs.Common.{map}
 use Rattle.asm_model.specs.Parts.{part_of}
 use Rattle.asm_expr.proofs.ParseLaws.{parsed_none}
 use Rattle.asm_expr.proofs.Spelled.{parsed_spelled}
-use Rattle.asm_expr.proofs.read.expression.Goals as goal
+use Rattle.asm_expr.proofs.read.shared_expression.Goals as goal
 
 pub returns-in-None : goal.returns-in-None
 returns-in-None c = parsed_none (map (part_of c.args.text.now) c.args.tokens.now) (rw c.in-None.is at c.in_ok-read.ensures)
