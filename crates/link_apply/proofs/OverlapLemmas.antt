@@ -1,13 +1,14 @@
 -- Overlapping fields, by what begins around them.
-use Rattle.std.proofs.Common.{◌≡◌, ◌⊎◌, inl, inr, ℕ, zero, suc, ◌+◌, ◌-◌, ◌<◌, ◌≤◌, Bool, true, false, cond, List, [], ◌∷◌, refl, sym, ap, subst, ◌∙◌, arith}
-use Rattle.std.specs.Prelude.{Option, Some, None, not, ◌||◌, ◌&&◌, nat_lt, ◌==◌, slice_get, is_some, max}
+use Rattle.std.proofs.Common.{◌≡◌, ◌≢◌, ◌⊎◌, inl, inr, ℕ, zero, suc, ◌+◌, ◌-◌, ◌%◌, ◌<◌, ◌≤◌, length, drop, drop-cons, get_or, Bool, true, false, cond, List, [], ◌∷◌, refl, sym, ap, subst, ◌∙◌, arith}
+use Rattle.indexmap.specs.IndexMap.{get}
+use Rattle.std.specs.Prelude.{Option, Some, None, nat_eq, not, ◌||◌, ◌&&◌, nat_lt, ◌==◌, slice_get, is_some, max}
 use Rattle.std.specs.List.{list_any}
 use Rattle.std.proofs.lemmas.Bool.{or_cases, or_left, or_right, and_parts, and_from, and_left, and_right, not-true, not-false, not_from_false, or_parts, ltb-true, ltb-false, lt-ltb, le-ltb, eqb-true, eq-eqb, ne_eqb, cases_order, cases_lt, both_ways}
 use Rattle.aof_object.specs.declared.records.Reloc.{Reloc}
 use Rattle.patch_model.specs.Fields.{Kind, Byte, Half, Word, Branch, Values, field_of, kind_of, is_same_kind, size_of}
 use Rattle.link_apply.specs.declared.starts.FieldDirectives.{FieldDirectives}
 use Rattle.link_apply.specs.Flaws.{overlaps}
-use Rattle.link_apply.specs.Starts.{started, starts, goes_on, reaches, begins, is_crowded}
+use Rattle.link_apply.specs.Starts.{Starts, AreEven, started, starts, goes_on, reaches, begins, is_crowded}
 
 -- ---- kinds
 
@@ -398,3 +399,43 @@ kind_there values relocs r k s at there unmixed =
     let found = h.there in
     let same : h.start ≡ s = cc in
     h.says.kind (ap (λ (x : FieldDirectives). x.is_mixed) same ∙ unmixed) ∙ ap (λ (x : FieldDirectives). x.kind) same
+
+-- ---- fields that begin at whole words alone
+
+even_apart : (start : ℕ → Option FieldDirectives) (place size : ℕ) → ((p : ℕ) → p % 4 ≢ 0 → start p ≡ None) → place % 4 ≡ 0 → (mixed : Bool) → is_crowded start place size mixed ≡ mixed
+even_apart start place size even whole true = refl
+even_apart start place size even whole false = rw (behind 1 (omega arith) (omega arith), behind 2 (omega arith) (omega arith), behind 3 (omega arith) (omega arith), after 1 (omega arith) (omega arith), after 2 (omega arith) (omega arith), after 3 (omega arith) (omega arith)) refl
+  where
+    behind : (d : ℕ) → 0 < d → d < 4 → reaches start place d ≡ false
+    behind d low high = by (nat_lt place d) refl
+      where
+        by : (b : Bool) → nat_lt place d ≡ b → cond b false (goes_on d (start (place - d))) ≡ false
+        by true e = refl
+        by false e = let below = ltb-false place d e in ap (λ o. goes_on d o) (even (place - d) (λ z. absurd (omega (arith, z))))
+
+    after : (d : ℕ) → 0 < d → d < 4 → begins start place size d ≡ false
+    after d low high = ap (λ o. nat_lt d size && is_some o) (even (place + d) (λ z. absurd (omega (arith, z)))) ∙ by (nat_lt d size)
+      where
+        by : (b : Bool) → (b && false) ≡ false
+        by true = refl
+        by false = refl
+
+pub even_is_apart : (m : Starts) (place size : ℕ) → AreEven m → place % 4 ≡ 0 → is_crowded (λ p. get nat_eq m p) place size false ≡ false
+even_is_apart m place size even whole = even_apart (λ p. get nat_eq m p) place size even whole false
+
+-- where one begins, a whole word is
+pub even_place : (m : Starts) (place : ℕ) (s : FieldDirectives) → AreEven m → get nat_eq m place ≡ Some s → place % 4 ≡ 0
+even_place m place s even there = by (place % 4) refl
+  where
+    by : (r : ℕ) → place % 4 ≡ r → place % 4 ≡ 0
+    by zero e = e
+    by (suc r) e = let none = even place (λ z. absurd (omega (arith, e, z))) in absurd cc
+
+pub none_begins : (values : Values) (rs : List Reloc) (i : ℕ) (r : Reloc) (p : ℕ) → i < length rs → r ≡ get_or rs i r → (field_of r).place % 4 ≡ 0 → p % 4 ≢ 0
+    → starts values (drop (i + 1) rs) p ≡ starts values (drop i rs) p
+none_begins values rs i r p h e whole part =
+    let n : i + 1 ≡ suc i = omega arith in
+    let here : drop i rs ≡ r ∷ drop (suc i) rs = drop-cons rs i r h ∙ ap (λ (y : Reloc). y ∷ drop (suc i) rs) (sym e) in
+    let other : ((field_of r).place == p) ≡ false = ne_eqb (field_of r).place p (λ same. part (sym (ap (λ (k : ℕ). k % 4) same) ∙ whole)) in
+    ap (λ (k : ℕ). starts values (drop k rs) p) n
+    ∙ sym (ap (λ (xs : List Reloc). starts values xs p) here ∙ ap (λ (b : Bool). cond b (Some (started values r (starts values (drop (suc i) rs) p))) (starts values (drop (suc i) rs) p)) other)

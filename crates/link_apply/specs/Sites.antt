@@ -1,5 +1,5 @@
 -- What stands fast of a placed link, and of one of its areas. This project's.
-use Rattle.std.specs.Prelude.{◌≡◌, ℕ, ◌≤◌, ◌<◌, ◌^◌, List, length, slice_get, Some}
+use Rattle.std.specs.Prelude.{◌≡◌, ℕ, ◌≤◌, ◌<◌, ◌^◌, true, List, length, slice_get, Some}
 use Rattle.patch_model.specs.Fields.{Values}
 use Rattle.link_model.specs.Members.{link_of}
 use Rattle.link_values.specs.declared.values.SymbolValue.{SymbolValue}
@@ -10,7 +10,7 @@ use Rattle.link_apply.specs.declared.sites.PlacedLink.{PlacedLink}
 use Rattle.link_apply.specs.declared.sites.Site.{Site}
 use Rattle.link_apply.specs.Applied.{IsWithin}
 use Rattle.link_apply.specs.Detours.{AreVeneers}
-use Rattle.link_apply.specs.Starts.{AreBelow, AreStarts}
+use Rattle.link_apply.specs.Starts.{AreBelow, AreEven, AreStarts}
 use Rattle.link_apply.specs.Targets.{values_by}
 
 abbrev pub AreAllBelow : List (List SymbolValue) → Type 0
@@ -38,3 +38,4 @@ pub record IsSite (known : PlacedLink) (site : Site) : Type 0 where
   pub below : AreBelow site.symbols.now
   pub few : length site.area.now.relocs < 2 ^ 28
   pub starts : AreStarts (values_at known site) site.area.now.relocs site.starts
+  pub even : site.even ≡ true → AreEven site.starts

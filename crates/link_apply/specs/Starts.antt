@@ -1,5 +1,5 @@
 -- What relocations do at a place, from the last one on. This project's.
-use Rattle.std.specs.Prelude.{◌≡◌, ℕ, ◌+◌, ◌-◌, ◌<◌, ◌^◌, ◌==◌, ◌||◌, ◌&&◌, nat_lt, is_some, Bool, true, false, not, nat_eq, max, if◌then◌else◌, List, [], ◌∷◌, slice_get, Option, Some, None}
+use Rattle.std.specs.Prelude.{◌≡◌, ◌≢◌, ℕ, ◌+◌, ◌-◌, ◌%◌, ◌<◌, ◌^◌, ◌==◌, ◌||◌, ◌&&◌, nat_lt, is_some, Bool, true, false, not, nat_eq, max, if◌then◌else◌, List, [], ◌∷◌, slice_get, Option, Some, None}
 use Rattle.std.specs.declared.hash.FoldHasher.{FoldHasher}
 use Rattle.std.specs.declared.hash.BuildHasherDefault.{BuildHasherDefault}
 use Rattle.indexmap.specs.IndexMap.{IndexMap, get}
@@ -48,6 +48,10 @@ Starts = IndexMap ℕ FieldDirectives (BuildHasherDefault FoldHasher)
 
 abbrev pub AreStarts : Values → List Reloc → Starts → Type 0
 AreStarts values relocs m = (p : ℕ) → get nat_eq m p ≡ starts values relocs p
+
+-- fields begin at whole words alone
+abbrev pub AreEven : Starts → Type 0
+AreEven m = (p : ℕ) → p % 4 ≢ 0 → get nat_eq m p ≡ None
 
 -- ---- numbers that fit
 

@@ -60,7 +60,16 @@ fn judged_by(
 {
     let base = site.placed.address;
     let number = site.placed.area.area;
-    let flaw = flaw_of_relocation(&site.starts, start, number, base, site.area, reloc, detour);
+    let flaw = flaw_of_relocation(
+        &site.starts,
+        start,
+        site.even,
+        number,
+        base,
+        site.area,
+        reloc,
+        detour,
+    );
     match flaw {
         Some(flaw) => Err(flaw),
         None => Ok(new_number(start, base, site.area, reloc, detour)),

@@ -1,13 +1,13 @@
 //! What is wrong with the relocations of an area.
 
-ghost use Rattle.std.specs.Prelude.{◌≡◌, ◌*◌, ◌<◌, ◌^◌, List, nat_eq, false, Some};
+ghost use Rattle.std.specs.Prelude.{◌≡◌, ◌*◌, ◌<◌, ◌^◌, List, nat_eq, false, true, Some};
 ghost use Rattle.indexmap.specs.IndexMap.{get};
 ghost use Rattle.link_apply.specs.Sums.{Tells};
 ghost use Rattle.aof_object.specs.declared.records.Reloc.{Reloc as Relocation};
 ghost use Rattle.link_model.specs.Veneers.{IsIn};
 ghost use Rattle.patch_model.specs.Fields.{field_of, Field, Values};
 ghost use Rattle.link_apply.specs.Flaws.{has_bad_field, is_based, is_of_itself, is_outside};
-ghost use Rattle.link_apply.specs.Starts.{starts, AreStarts};
+ghost use Rattle.link_apply.specs.Starts.{starts, AreEven, AreStarts};
 
 use crate::overlaps::is_overlapping;
 use crate::starts::FieldDirectives;
@@ -44,15 +44,17 @@ fn is_based_alone(reloc: Reloc) -> bool
 }
 
 /// Whether the field of a relocation of an area of a number is a bad one. `start` is what the area's relocations do
-/// where it begins.
+/// where it begins, and `even` says that all begin at whole words.
 pub fn is_bad_field(
     starts: &IndexMap<u64, FieldDirectives>,
     start: FieldDirectives,
+    even: bool,
     number: u32,
     area: &Area,
     reloc: Reloc,
 ) -> bool
     requires there { get nat_eq starts.now (field_of reloc).place ≡ Some start }
+    requires even { even ≡ true → AreEven starts.now }
     requires own { IsIn area.now.relocs reloc }
     ensures { (values : Values) → AreStarts values area.now.relocs starts.now
         → result ≡ has_bad_field number area.now reloc }
@@ -66,7 +68,7 @@ pub fn is_bad_field(
     if is_based_alone(reloc) {
         return true;
     }
-    is_overlapping(starts, start, reloc)
+    is_overlapping(starts, start, even, reloc)
 }
 
 /// What the relocations of a field add, and what they take away.

@@ -1,13 +1,13 @@
 //! The flaw of one relocation.
 
-ghost use Rattle.std.specs.Prelude.{◌≡◌, ℕ, Bool, ◌<◌, ◌^◌, ◌&&◌, nat_eq, false, Some};
+ghost use Rattle.std.specs.Prelude.{◌≡◌, ℕ, Bool, ◌<◌, ◌^◌, ◌&&◌, nat_eq, false, true, Some};
 ghost use Rattle.indexmap.specs.IndexMap.{get};
 ghost use Rattle.link_model.specs.Veneers.{IsIn};
 ghost use Rattle.link_model.specs.declared.placing.Placement.{Placement};
 ghost use Rattle.patch_model.specs.Fields.{field_of, is_relative, number_in, Branch, Values};
 ghost use Rattle.link_apply.specs.Flaws.{flaw_of, is_outside};
 ghost use Rattle.link_apply.specs.Judged.{flaw_by, IsIndex, IsWay};
-ghost use Rattle.link_apply.specs.Starts.{AreStarts};
+ghost use Rattle.link_apply.specs.Starts.{AreEven, AreStarts};
 ghost use Rattle.link_apply.specs.Targets.{way_by, IsWayOf};
 
 use crate::fields::number_at;
@@ -104,10 +104,11 @@ pub fn number_of(bytes: &[u8], reloc: Reloc) -> u32
 }
 
 /// Of a relocation of an area of a number at a base. `start` is what the area's relocations do where its field
-/// begins.
+/// begins, and `even` says that all begin at whole words.
 pub fn flaw_of_relocation(
     starts: &IndexMap<u64, FieldDirectives>,
     start: FieldDirectives,
+    even: bool,
     number: u32,
     base: u64,
     area: &Area,
@@ -116,6 +117,7 @@ pub fn flaw_of_relocation(
 ) -> Option<Flaw>
     requires known { IsIndex area.now.relocs starts.now }
     requires there { get nat_eq starts.now (field_of reloc).place ≡ Some start }
+    requires even { even ≡ true → AreEven starts.now }
     requires own { IsIn area.now.relocs reloc }
     requires base { base < 2 ^ 33 }
     requires added { start.added < 2 ^ 63 }
@@ -127,7 +129,7 @@ pub fn flaw_of_relocation(
         → IsWay values base number area.now reloc (way_by detour.target)
         → result ≡ flaw_of p values region base number area.now reloc }
 {
-    if is_bad_field(starts, start, number, area, reloc) {
+    if is_bad_field(starts, start, even, number, area, reloc) {
         return Some(Flaw::Malformed);
     }
     let word = number_of(area.bytes.as_slice(), reloc);

@@ -6,7 +6,7 @@ ghost use Rattle.link_apply.specs.Sites.{AreAllBelow, IsSite, Knows};
 ghost use Rattle.link_apply.specs.Starts.{AreBelow};
 ghost use Rattle.link_apply.specs.Targets.{meant_at};
 
-use crate::starts::{FieldDirectives, starts_of};
+use crate::starts::{FieldDirectives, are_even, starts_of};
 use aof_object::Area;
 use indexmap::IndexMap;
 use link_model::{Linked, PlacedArea, Placement, Veneer};
@@ -25,13 +25,15 @@ pub struct PlacedLink<'a> {
     pub veneers: IndexMap<Veneer, u32>,
 }
 
-/// A placed area, with the values of its object's symbols and what its relocations do at each place.
+/// A placed area, with the values of its object's symbols and what its relocations do at each place. `even` says that these
+/// places are whole words.
 #[derive(Drop)]
 pub struct Site<'a> {
     pub placed: PlacedArea,
     pub area: &'a Area,
     pub symbols: &'a [SymbolValue],
     pub starts: IndexMap<u64, FieldDirectives>,
+    pub even: bool,
 }
 
 /// The values of an object's symbols.
@@ -70,5 +72,6 @@ pub fn site_of<'a>(
         area,
         symbols,
         starts,
+        even: are_even(relocs),
     })
 }

@@ -1,10 +1,10 @@
 //! What relocations do to the fields that begin at each place of an area.
 
-ghost use Rattle.std.specs.Prelude.{◌≡◌, ℕ, ◌<◌, ◌^◌, ◌==◌, ◌||◌, not, Some, nat_eq, length, OnOk, IfOk, IfSome, if◌then◌else◌};
-ghost use Rattle.patch_model.specs.Fields.{field_of, mark_of as field_mark, value_named, is_thumb_label as is_label, is_same_kind};
+ghost use Rattle.std.specs.Prelude.{◌≡◌, ◌≢◌, ℕ, ◌%◌, ◌<◌, ◌^◌, ◌==◌, ◌||◌, not, true, None, Some, nat_eq, length, OnOk, IfOk, IfSome, if◌then◌else◌};
+ghost use Rattle.patch_model.specs.Fields.{field_of, Values, mark_of as field_mark, value_named, is_thumb_label as is_label, is_same_kind};
 ghost use Rattle.indexmap.specs.IndexMap.{get};
 ghost use Rattle.link_apply.specs.Targets.{values_by};
-ghost use Rattle.link_apply.specs.Starts.{symbol_by, started as start_with, AreBelow, AreLow, AreSmall, AreStarts, IsSmall};
+ghost use Rattle.link_apply.specs.Starts.{symbol_by, started as start_with, starts, AreBelow, AreLow, AreSmall, AreStarts, IsSmall};
 ghost use Rattle.link_values.specs.Bases.{base_of};
 
 use aof_object::{FieldKind, Reloc, RelocationTarget};
@@ -159,6 +159,18 @@ fn note(
     let start = started(bases, object, symbols, reloc, rest);
     starts.insert(place, start)?;
     Ok(())
+}
+
+/// Whether each field begins at a whole word, so that those of different places are apart.
+pub fn are_even(relocs: &[Reloc]) -> bool
+    ensures { result ≡ true → (values : Values) (p : ℕ) → p % 4 ≢ 0 → starts values relocs.now p ≡ None }
+{
+    for reloc in relocs {
+        if reloc.field().place % 4 != 0 {
+            return false;
+        }
+    }
+    true
 }
 
 /// What relocations do at each place where a field begins.

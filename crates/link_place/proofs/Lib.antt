@@ -1,5 +1,6 @@
 pub mod PartLemmas
 pub mod LayoutLemmas
+pub mod MergeLemmas
 pub mod CheckLemmas
 pub mod PlanLemmas
 pub mod PlacedLemmas

@@ -1,5 +1,6 @@
 pub mod Pieces
 pub mod Parts
+pub mod Merging
 pub mod Layouts
 pub mod Checks
 pub mod Writable

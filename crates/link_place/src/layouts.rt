@@ -5,6 +5,7 @@ ghost use Rattle.place_model.specs.Plans.{base_behind};
 ghost use Rattle.link_place.specs.Parts.{piece_count};
 ghost use Rattle.link_place.specs.Layouts.{laid_at, laid_from, loaded, size_of, regions_by, load_by, loads_by, row_words, has_room as has_enough, layout_for, layout_of};
 
+use crate::merging::merged_parts;
 use crate::parts::{Group, Part};
 use crate::pieces::reach;
 use link_model::Region;
@@ -140,8 +141,8 @@ pub fn lay_out(
     requires few { length groups.now ≤ 2 ^ 31 }
     ensures { IfOk result (λ layout. layout ≡ layout_for origin groups.now parts.now words) }
 {
-    let mut loads = Vec::new(alloc);
-    let mut regions = Vec::new(alloc);
+    let mut loads = Vec::with_capacity(alloc, groups.len())?;
+    let mut regions = Vec::with_capacity(alloc, parts.len())?;
     let mut rest = parts;
     for (i, group) in groups.iter().enumerate() {
         let (own, others) = rest.split_at(group.count);
@@ -205,8 +206,8 @@ fn has_room(regions: &[RegionLayout], words: u32) -> bool
     true
 }
 
-/// All regions, with the least table that has room, of those that have at most so many words.
-pub fn least_layout(
+/// All regions, with the least table that has room, of those that have at most so many words. Each is tried in turn.
+fn search(
     alloc: Global,
     origin: u32,
     groups: &[Group],
@@ -226,4 +227,26 @@ pub fn least_layout(
         }
     }
     lay_out(alloc, most, origin, groups, parts)
+}
+
+/// All regions, with the least table that has room, of those that have at most so many words. Regions of fewer pieces are
+/// tried in their place.
+pub fn least_layout(
+    alloc: Global,
+    origin: u32,
+    groups: &[Group],
+    parts: &[Part],
+    most: u32,
+) -> Result<Layout, NoMemory>
+    requires most { most < 2 ^ 30 }
+    requires room { sum_by piece_count parts.now ≤ 2 ^ 28 }
+    requires counts { sum_by (λ g. g.count) groups.now ≡ length parts.now }
+    requires few { length groups.now ≤ 2 ^ 31 }
+    ensures { IfOk result (λ layout. layout ≡ layout_of origin groups.now parts.now most) }
+{
+    if origin != 0 {
+        return search(alloc, origin, groups, parts, most);
+    }
+    let merged = merged_parts(alloc, parts)?;
+    search(alloc, 0, groups, merged.as_slice(), most)
 }

@@ -3,6 +3,7 @@
 
 mod faults;
 mod layouts;
+mod merging;
 mod parts;
 mod pieces;
 mod placed;

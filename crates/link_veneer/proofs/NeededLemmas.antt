@@ -1,7 +1,8 @@
 -- The veneer that a branch needs, by its distance from its target.
-use Rattle.std.proofs.Common.{◌≡◌, ℕ, ◌+◌, ◌-◌, ◌%◌, ◌^◌, ◌≤◌, Bool, true, false, cond, List, length, take, drop, Option, Some, None, refl, sym, ap, ◌∙◌, arith}
-use Rattle.std.specs.Prelude.{◌==◌, ◌&&◌, nat_le, count_by}
-use Rattle.std.specs.Option.{option_and_then, option_map}
+use Rattle.std.proofs.Common.{◌≡◌, ℕ, suc, ◌+◌, ◌-◌, ◌%◌, ◌^◌, ◌<◌, ◌≤◌, Bool, true, false, cond, List, length, take, drop, drop-cons, get_or, Option, Some, None, refl, sym, ap, ◌∙◌, arith}
+use Rattle.std.specs.Prelude.{◌==◌, ◌&&◌, nat_le, count_by, is_some}
+use Rattle.std.specs.Option.{option_and_then, option_map, option_or}
+use Rattle.std.specs.List.{cons_option, filter_map}
 use Rattle.std.proofs.lemmas.Bool.{eqb-true}
 use Rattle.sdt_word.specs.Bytes.{number_of, word_in}
 use Rattle.base_lemmas.proofs.BaseLemmas.{both_true}
@@ -12,13 +13,17 @@ use Rattle.aof_object.specs.declared.records.Symbol.{Symbol}
 use Rattle.patch_model.specs.Fields.{Kind, Byte, Half, Word, Branch, Home, Meant, field_of, kind_of, is_relative, is_by_symbol, number_named, number_in, directives, size_of}
 use Rattle.patch_model.specs.Patched.{total, other_state, is_branch, biased_displacement, bias, pc_offset, Directly, ByVeneer, way_home, way_of}
 use Rattle.link_model.specs.declared.placing.AreaName.{AreaName}
+use Rattle.link_model.specs.declared.placing.Veneer.{Veneer}
 use Rattle.link_model.specs.Meaning.{Meaning, Defined, OfRegion, Weak, symbol_of}
 use Rattle.link_model.specs.Members.{Link}
 use Rattle.link_model.specs.Values.{home_area, meant_at, meant_of, meant_by}
+use Rattle.link_model.specs.Options.{first_given}
 use Rattle.link_model.specs.Veneers.{shares_field, is_alone, has_branch, veneer_by, values_apart, needed_as, needed_by, IsIn}
 use Rattle.link_model.proofs.WayLemmas.{alone_way, sole_directive}
 use Rattle.link_veneer.specs.Fields.{Marks, is_branch_kind, marked_by, AreMarks}
 use Rattle.link_veneer.specs.Targets.{target_of}
+use Rattle.link_values.specs.declared.values.BranchTarget.{BranchTarget}
+use Rattle.link_veneer.specs.Interworking.{refusal_by, refused_by}
 use Rattle.link_veneer.specs.Needing.{led, led_from, veneer_to}
 use Rattle.link_veneer.proofs.FieldLemmas.{is_branch_of, marks_tell}
 
@@ -141,3 +146,59 @@ alone_led l region a area m r known there h alone =
     let kind = is_branch_of r h in
     ap (λ (k : Kind). needed_as k l region a.object area r) kind
     ∙ branch_there l region a.object area r (r.offset % 2 == 1) kind there (sym (marks_tell area.relocs m r (r.offset % 2 == 1) known kind) ∙ alone)
+
+-- ---- a branch to code of the same state needs none, whether it is alone or not
+
+led_anywhere : (region : ℕ) (thumb : Bool) (d : Option ℕ) (t : Option BranchTarget)
+    → option_and_then (λ distance. option_and_then (veneer_to 0 thumb distance) t) d ≡ None → option_and_then (λ distance. option_and_then (veneer_to region thumb distance) t) d ≡ None
+led_anywhere region thumb None t h = refl
+led_anywhere region thumb (Some d) None h = refl
+led_anywhere region thumb (Some d) (Some t) h = by (other_state thumb t.thumb) h
+  where
+    to : ℕ → Veneer
+    to r = record { region = r; area = record { object = t.place.object; area = t.place.area }; offset = (t.place.offset + d) % 2 ^ 32; thumb = t.thumb }
+
+    by : (b : Bool) → cond b (Some (to 0)) None ≡ None → cond b (Some (to region)) None ≡ None
+    by false e = refl
+    by true e = absurd cc
+
+pub led_nowhere : (l : Link) (region : ℕ) (a : AreaName) (area : Area) (r : Reloc) → IsIn area.relocs r → is_branch_kind (kind_of r) ≡ true → led l 0 a.object area.bytes r ≡ None
+    → needed_by l region a area r ≡ None
+led_nowhere l region a area r there h nowhere =
+    let kind = is_branch_of r h in
+    let thumb : Bool = r.offset % 2 == 1 in
+    ap (λ (k : Kind). needed_as k l region a.object area r) kind ∙ by thumb kind (is_alone area.relocs r) refl nowhere
+  where
+    by : (thumb : Bool) → kind_of r ≡ Branch thumb → (b : Bool) → is_alone area.relocs r ≡ b
+        → option_and_then (λ distance. option_and_then (veneer_to 0 thumb distance) (target_of ((values_apart l a.object).symbol (number_named r)))) (led_from area.bytes thumb (field_of r).place) ≡ None
+        → needed_as (Branch thumb) l region a.object area r ≡ None
+    by thumb kind false e none = not_alone_as l region a.object area r thumb e
+    by thumb kind true e none =
+        branch_there l region a.object area r thumb kind there e
+        ∙ led_anywhere region thumb (led_from area.bytes thumb (field_of r).place) (target_of ((values_apart l a.object).symbol (number_named r))) none
+
+pub none_of : (o : Option Veneer) → is_some o ≡ false → o ≡ None
+none_of None e = refl
+none_of (Some v) e = absurd cc
+
+-- one more of those without any
+pub none_next : {A B : Type 0} (f : A → Option B) (xs : List A) (i : ℕ) (d : A) (ys : List B) → i < length xs → f (get_or xs i d) ≡ None
+    → filter_map f (drop i xs) ≡ ys → filter_map f (drop (i + 1) xs) ≡ ys
+none_next f xs i d ys h none known =
+    let n : suc i ≡ i + 1 = omega arith in
+    ap (λ (k : ℕ). filter_map f (drop k xs)) (sym n)
+    ∙ (sym (ap (λ o. cons_option o (filter_map f (drop (suc i) xs))) none) ∙ (sym (ap (filter_map f) (drop-cons xs i d h)) ∙ known))
+
+pub given_next : {A B : Type 0} (f : A → Option B) (xs : List A) (i : ℕ) (d : A) (y : Option B) → i < length xs → f (get_or xs i d) ≡ None
+    → first_given f (drop i xs) ≡ y → first_given f (drop (i + 1) xs) ≡ y
+given_next f xs i d y h none known =
+    let n : suc i ≡ i + 1 = omega arith in
+    ap (λ (k : ℕ). first_given f (drop k xs)) (sym n)
+    ∙ (sym (ap (λ o. option_or o (first_given f (drop (suc i) xs))) none) ∙ (sym (ap (first_given f) (drop-cons xs i d h)) ∙ known))
+
+pub not_refused : (l : Link) (a : AreaName) (area : Area) (r : Reloc) → needed_by l 0 a area r ≡ None → refused_by l a area r ≡ None
+not_refused l a area r none = ap (refusal_by l.objects (symbol_of l.objects a.object (number_named r))) none ∙ by (symbol_of l.objects a.object (number_named r))
+  where
+    by : (o : Option Symbol) → refusal_by l.objects o None ≡ None
+    by None = refl
+    by (Some s) = refl

@@ -10,7 +10,7 @@ ghost use Rattle.link_values.specs.Index.{IsIndexOf};
 ghost use Rattle.link_veneer.specs.Interworking.{not_interworking, refusal_by, refused_by, refused_in};
 
 use crate::fields::marks_of;
-use crate::needing::needed;
+use crate::needing::{has_other_state, needed};
 use aof_object::{Area, Object, Reloc, Symbol};
 use indexmap::IndexMap;
 use link_model::{AreaName, Linked, Named, Veneer, to_u32};
@@ -49,6 +49,24 @@ fn refusal_of(
 
 /// The first refusal of an area's relocations.
 fn refusal_in_area(
+    alloc: Global,
+    linked: &Linked,
+    index: &IndexMap<&[u8], Defined>,
+    name: AreaName,
+    area: &Area,
+) -> Result<Option<Refusal>, NoMemory>
+    requires { IsIndexOf linked.now.definitions index.now }
+    ensures { IfOk result (λ refusal. refusal ≡ first_given
+        (refused_by (link_of linked.now) name area.now) area.now.relocs) }
+{
+    if !has_other_state(linked, index, name, area) {
+        return Ok(None);
+    }
+    refusal_of_each(alloc, linked, index, name, area)
+}
+
+/// The same, with a note of which fields stand alone.
+fn refusal_of_each(
     alloc: Global,
     linked: &Linked,
     index: &IndexMap<&[u8], Defined>,

@@ -1,10 +1,12 @@
 //! The veneers that relocations need.
 
-ghost use Rattle.std.specs.Prelude.{◌≡◌, ◌+◌, ◌-◌, ◌^◌, ◌<◌, Some, OnOk, IfSome};
+ghost use Rattle.std.specs.Prelude.{◌≡◌, ◌+◌, ◌-◌, ◌^◌, ◌<◌, ℕ, false, [], None, Some, OnOk, IfSome};
 ghost use Rattle.patch_model.specs.Patched.{pc_offset, is_branch as reads_as_branch, bias, biased_displacement};
 ghost use Rattle.link_model.specs.Members.{link_of};
 ghost use Rattle.link_model.specs.Veneers.{needed_by, needed_in, IsIn};
+ghost use Rattle.link_model.specs.Options.{first_given};
 ghost use Rattle.link_veneer.specs.Fields.{AreMarks};
+ghost use Rattle.link_veneer.specs.Interworking.{refused_by};
 ghost use Rattle.link_values.specs.Index.{IsIndexOf};
 ghost use Rattle.link_veneer.specs.Needing.{led, led_from, veneer_to, with_all, with_one};
 
@@ -124,6 +126,44 @@ pub fn needed(
     )
 }
 
+/// Whether the branch of a relocation leads to code of the other state. One that doesn't needs no veneer.
+fn leads_away(
+    linked: &Linked,
+    index: &IndexMap<&[u8], Defined>,
+    name: AreaName,
+    area: &Area,
+    reloc: Reloc,
+) -> bool
+    requires index { IsIndexOf linked.now.definitions index.now }
+    requires there { IsIn area.now.relocs reloc }
+    ensures { result ≡ false → (region : ℕ) → needed_by (link_of linked.now) region name area.now reloc ≡ None }
+{
+    if !is_branch(reloc) {
+        return false;
+    }
+    led_by(linked, index, 0, name.object, area.bytes.as_slice(), reloc).is_some()
+}
+
+/// Whether a branch of an area leads to code of the other state. An area without one needs no veneer, whether its fields
+/// stand alone or not.
+pub fn has_other_state(
+    linked: &Linked,
+    index: &IndexMap<&[u8], Defined>,
+    name: AreaName,
+    area: &Area,
+) -> bool
+    requires { IsIndexOf linked.now.definitions index.now }
+    ensures needs { result ≡ false → (region : ℕ) → needed_in (link_of linked.now) region name (Some area.now) ≡ [] }
+    ensures refusals { result ≡ false → first_given (refused_by (link_of linked.now) name area.now) area.now.relocs ≡ None }
+{
+    for reloc in area.relocs.as_slice() {
+        if leads_away(linked, index, name, area, *reloc) {
+            return true;
+        }
+    }
+    false
+}
+
 /// Adds a veneer behind the others, unless it is among them.
 pub fn add_one(needs: &mut IndexSet<Veneer>, need: Veneer) -> Result<(), NoMemory>
     ensures { OnOk result (needs.new.keys ≡ with_one needs.old.keys need) }
@@ -134,6 +174,26 @@ pub fn add_one(needs: &mut IndexSet<Veneer>, need: Veneer) -> Result<(), NoMemor
 
 /// Adds the veneers that an area in a region needs.
 pub fn add_area(
+    alloc: Global,
+    linked: &Linked,
+    index: &IndexMap<&[u8], Defined>,
+    needs: &mut IndexSet<Veneer>,
+    region: u32,
+    name: AreaName,
+    area: &Area,
+) -> Result<(), NoMemory>
+    requires { IsIndexOf linked.now.definitions index.now }
+    ensures { OnOk result (needs.new.keys ≡ with_all needs.old.keys (needed_in
+        (link_of linked.now) region name (Some area.now))) }
+{
+    if !has_other_state(linked, index, name, area) {
+        return Ok(());
+    }
+    add_each(alloc, linked, index, needs, region, name, area)
+}
+
+/// The same, with a note of which fields stand alone.
+fn add_each(
     alloc: Global,
     linked: &Linked,
     index: &IndexMap<&[u8], Defined>,

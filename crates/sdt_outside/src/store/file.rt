@@ -14,7 +14,7 @@ use std::{fs, str};
 /// A file of more bytes than this is not read.
 const MAX_BYTES: u32 = 1 << 30;
 
-/// How many bytes are read at once.
+/// How many bytes are read at once, of a longer file.
 const CHUNK: usize = 65536;
 
 /// The files of the system, by their paths. It tells nothing, and each error counts as a fault of its
@@ -63,6 +63,16 @@ impl<R: Files + Drop> FileStore<R> {
     }
 }
 
+// How many bytes are read at once of a file of a length: one more than it has, but no more than of a longer one.
+fn chunk_of(length: u64) -> usize
+    ensures { result ≤ 65536 }
+{
+    match usize::try_from(length) {
+        Ok(length) if length < CHUNK => length + 1,
+        _ => CHUNK,
+    }
+}
+
 // An opened file, if it has at most so many bytes. The length of a regular file is asked first.
 fn read_file<F: Read + OpenFile>(
     alloc: Global,
@@ -73,19 +83,27 @@ fn read_file<F: Read + OpenFile>(
 {
     match file.metadata() {
         Ok(found) if found.is_file() && found.len() > u64::from(most) => Ok(None),
-        _ => read_all(alloc, file, most),
+        Ok(found) if found.is_file() => read_all(alloc, file, most, chunk_of(found.len())),
+        _ => read_all(alloc, file, most, CHUNK),
     }
 }
 
-// The rest of an opened file, if it has at most so many bytes; of a longer one, one byte more is read.
-fn read_all<F: Read>(alloc: Global, file: &mut F, most: u32) -> Result<Option<Vec<u8>>, StoreError>
+// The rest of an opened file, if it has at most so many bytes; of a longer one, one byte more is read. So many bytes are
+// read at once.
+fn read_all<F: Read>(
+    alloc: Global,
+    file: &mut F,
+    most: u32,
+    size: usize,
+) -> Result<Option<Vec<u8>>, StoreError>
+    requires { size ≤ 65536 }
     ensures { IfOk result (λ found. IfSome found (λ bytes. vec_len bytes ≤ most)) }
 {
     let mut bytes = Vec::new(alloc);
-    let mut chunk = vec![in alloc; 0; CHUNK].map_err(|_| StoreError::NoMemory)?;
+    let mut chunk = vec![in alloc; 0; size].map_err(|_| StoreError::NoMemory)?;
     let most = most as usize;
     'chunks: for _ in 0..u64::MAX {
-        let asked = CHUNK.min(most + 1 - bytes.len());
+        let asked = size.min(most + 1 - bytes.len());
         let Ok(count) = file.read(&mut chunk[..asked]) else {
             return Err(StoreError::Failed);
         };

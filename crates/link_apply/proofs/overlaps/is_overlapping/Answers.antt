@@ -1,9 +1,14 @@
-use Rattle.std.proofs.Common.{◌≡◌, sym, ap, ◌∙◌, nat_eq}
+use Rattle.std.proofs.Common.{◌≡◌, ℕ, ◌%◌, sym, ap, ◌∙◌, nat_eq}
 use Rattle.indexmap.specs.IndexMap.{get}
 use Rattle.patch_model.specs.Fields.{Field, field_of, kind_of, size_of}
 use Rattle.link_apply.specs.Starts.{is_crowded, starts}
-use Rattle.link_apply.proofs.OverlapLemmas.{crowded_is}
+use Rattle.link_apply.proofs.OverlapLemmas.{crowded_is, even_place}
 use Rattle.link_apply.proofs.overlaps.is_overlapping.Goals as goal
+
+pub is_crowded_at-requires-clause-whole : goal.is_crowded_at-requires-clause-whole
+is_crowded_at-requires-clause-whole c = λ even.
+    ap (λ (k : ℕ). k % 4) (c.from.ensures ∙ ap (λ (f : Field). f.place) c.field-field.ensures)
+    ∙ even_place c.args.starts.now (field_of c.args.reloc).place c.args.start (c.requires.even even) c.requires.there
 
 pub returns : goal.returns
 returns c = λ values relocs there known.
