@@ -86,6 +86,24 @@ at_end old now i irq fiq h e =
 pub both_lines : (irq fiq : Bool) (lines : Lines) → irq ≡ lines.irq → fiq ≡ lines.fiq → ◌≡◌ {A = Lines} (record { irq = irq; fiq = fiq }) lines
 both_lines irq fiq lines e f = rw (e, f) refl
 
+-- two devices, one after the other
+both_halfway : (old now new : List Seat) (first second : Lines) (irq fiq : Bool) → now ≡ ticked_at 0 old → new ≡ ticked_at 1 now
+    → first ≡ lines_at 0 now → second ≡ lines_at 1 new → irq ≡ (first.irq || second.irq) → fiq ≡ (first.fiq || second.fiq) → IsHalfway old new 2 irq fiq
+both_halfway old now new first second irq fiq n m l k x y =
+    let start : IsHalfway old old 0 false false = record { seats = refl; irq_is = refl; fiq_is = refl } in
+    at_next old now new 1 2 first.irq first.fiq irq fiq second (at_next old old now 0 1 false false first.irq first.fiq first start refl n l refl refl) refl m k x y
+
+pub two_ticked : (old now new : List Seat) → now ≡ ticked_at 0 old → new ≡ ticked_at 1 now → length old ≡ 2 → new ≡ map seat_ticked old
+two_ticked old now new n m e =
+    let both = both_halfway old now new (lines_at 0 now) (lines_at 1 new) _ _ n m refl refl refl refl in
+    (at_end old new 2 _ _ both (sym e)).0
+
+pub two_lines : (old now new : List Seat) (first second both : Lines) → now ≡ ticked_at 0 old → new ≡ ticked_at 1 now → length old ≡ 2
+    → first ≡ lines_at 0 now → second ≡ lines_at 1 new → both.irq ≡ (first.irq || second.irq) → both.fiq ≡ (first.fiq || second.fiq) → both ≡ lines_up new
+two_lines old now new first second both n m e l k x y =
+    let end = at_end old new 2 both.irq both.fiq (both_halfway old now new first second both.irq both.fiq n m l k x y) (sym e) in
+    both_lines both.irq both.fiq (lines_up new) end.1 end.2
+
 module _ {B : Type 0} (base size : B → ℕ) (state : B → DeviceState) (touched : B → ℕ) where
   abbrev seat : B → Seat
   seat b = record { base = base b; size = size b; state = state b; touches = touched b }

@@ -1,6 +1,6 @@
 //! What a data-processing operation computes.
 
-ghost use Rattle.std.specs.Prelude.{◌≡◌, ◌==◌, ◌&&◌, not};
+ghost use Rattle.std.specs.Prelude.{◌≡◌, ◌==◌, ◌&&◌, not, true, false, MatchOption};
 ghost use Rattle.sdt_word.specs.Numbers.{bit, flag};
 ghost use Rattle.arm7_model.specs.Arithmetic.{computed, difference, is_comparison, overflow_in, sum_with};
 ghost use Rattle.arm7_registers.specs.Values.{computed_of};
@@ -76,6 +76,39 @@ pub fn computed(operation: Operation, a: u32, operand: Operand, status: u32) -> 
         Operation::Bic => logical(a & !b, carry, status),
         Operation::Mvn => logical(!b, carry, status),
     }
+}
+
+/// The word that two words and a carry make.
+#[tactic(auto, unfolding(arm7_model::specs::Arithmetic::sum_with))]
+fn sum_of(a: u32, b: u32, carry: bool) -> u32
+    ensures { result ≡ (sum_with a b (flag carry)).value }
+{
+    a.wrapping_add(b).wrapping_add(u32::from(carry))
+}
+
+/// What the operation writes; nothing, where it sets flags alone.
+#[inline(always)]
+#[tactic(auto, unfolding(arm7_model::specs::Arithmetic::computed))]
+pub fn value_of(operation: Operation, a: u32, operand: Operand, status: u32) -> Option<u32>
+    ensures { MatchOption result (is_comparison operation ≡ true) (λ v. (is_comparison operation ≡ false) × (v ≡ (computed operation a operand.value (flag operand.carry) status).value)) }
+{
+    let b = operand.value;
+    let v = match operation {
+        Operation::And => a & b,
+        Operation::Eor => a ^ b,
+        Operation::Sub => sum_of(a, !b, true),
+        Operation::Rsb => sum_of(b, !a, true),
+        Operation::Add => sum_of(a, b, false),
+        Operation::Adc => sum_of(a, b, carry_in(status)),
+        Operation::Sbc => sum_of(a, !b, carry_in(status)),
+        Operation::Rsc => sum_of(b, !a, carry_in(status)),
+        Operation::Orr => a | b,
+        Operation::Mov => b,
+        Operation::Bic => a & !b,
+        Operation::Mvn => !b,
+        Operation::Tst | Operation::Teq | Operation::Cmp | Operation::Cmn => return None,
+    };
+    Some(v)
 }
 
 /// Whether the operation sets flags alone.

@@ -1,6 +1,6 @@
 //! Instructions of ARM state: their conditions, and when they are unpredictable.
 
-ghost use Rattle.std.specs.Prelude.{◌≡◌, ◌<◌, ◌==◌, ◌||◌, not, if◌then◌else◌};
+ghost use Rattle.std.specs.Prelude.{◌≡◌, ◌<◌, ◌==◌, ◌||◌, not, true, if◌then◌else◌};
 ghost use Rattle.sdt_word.specs.Numbers.{operand};
 ghost use Rattle.sdt_word.specs.Rows.{FitsRow};
 ghost use Rattle.arm_isa.specs.ArmRows.{arm_fields, arm_row};
@@ -45,16 +45,25 @@ pub fn arm_condition(i: &ArmInstr) -> Condition
     }
 }
 
+/// Whether a data-processing instruction into pc would return by an SPSR that is none.
+#[inline(never)]
+#[tactic(auto, unfolding(arm7_model::specs::ArmStep::bad_return))]
+fn returns_badly(operation: Operation, set_flags: bool, state: &ArmState) -> bool
+    ensures { result ≡ bad_return operation set_flags 15 state.now }
+{
+    set_flags && !is_comparison(operation) && (!has_saved(state) || !has_mode(saved(state)))
+}
+
 /// Whether a data-processing instruction would return by an SPSR that is none.
 #[inline(always)]
 #[tactic(auto, unfolding(arm7_model::specs::ArmStep::bad_return))]
 fn bad_return(operation: Operation, set_flags: bool, rd: u8, state: &ArmState) -> bool
     ensures { result ≡ bad_return operation set_flags rd state.now }
 {
-    set_flags
-        && rd == 15
-        && !is_comparison(operation)
-        && (!has_saved(state) || !has_mode(saved(state)))
+    if rd == 15 {
+        return returns_badly(operation, set_flags, state);
+    }
+    false
 }
 
 /// Whether CPSR would change its bit T or have no mode.
@@ -122,11 +131,24 @@ fn bad_block_base(write_back: bool, load: bool, rn: u8, list: u32) -> bool
 }
 
 /// Whether a block with `^` has no SPSR, is written back where it is no load of pc, or returns to no mode.
+#[inline(never)]
+#[tactic(auto, unfolding(arm7_model::specs::ArmStep::bad_user))]
+fn bad_marked(write_back: bool, load: bool, list: u32, state: &ArmState) -> bool
+    ensures { result ≡ bad_user true write_back load list state.now }
+{
+    !has_saved(state) || bad_return_or_base(write_back, load && lists(list, 15), state)
+}
+
+/// Whether a block is one that may not have `^`, where it has it.
+#[inline(always)]
 #[tactic(auto, unfolding(arm7_model::specs::ArmStep::bad_user))]
 fn bad_user(user: bool, write_back: bool, load: bool, list: u32, state: &ArmState) -> bool
     ensures { result ≡ bad_user user write_back load list state.now }
 {
-    user && (!has_saved(state) || bad_return_or_base(write_back, load && lists(list, 15), state))
+    if user {
+        return bad_marked(write_back, load, list, state);
+    }
+    false
 }
 
 /// Whether a load of pc returns to no mode, or another block is written back.

@@ -101,13 +101,25 @@ fn irq_pending(irq: bool, fiq: bool, status: u32) -> Option<Exception>
 
 /// The interrupt that comes next, by the levels of the lines: FIQ before IRQ.
 #[tactic(auto, unfolding(arm7_model::specs::Step::interrupt))]
-pub fn interrupt(irq: bool, fiq: bool, status: u32) -> Option<Exception>
+fn first_pending(irq: bool, fiq: bool, status: u32) -> Option<Exception>
     ensures { result ≡ interrupt (record { irq = irq; fiq = fiq }) status }
 {
     if bit(status, 6) != 1 && fiq {
         return Some(Exception::Fiq);
     }
     irq_pending(irq, fiq, status)
+}
+
+/// The interrupt that comes next, by the levels of the lines. Mostly no line is up.
+#[inline(always)]
+#[tactic(auto, unfolding(arm7_model::specs::Step::interrupt, arm7_model::specs::Step::irq_pending))]
+pub fn interrupt(irq: bool, fiq: bool, status: u32) -> Option<Exception>
+    ensures { result ≡ interrupt (record { irq = irq; fiq = fiq }) status }
+{
+    if irq | fiq {
+        return first_pending(irq, fiq, status);
+    }
+    None
 }
 
 /// The width of an instruction.

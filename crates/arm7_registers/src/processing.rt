@@ -7,7 +7,7 @@ ghost use Rattle.arm7_model.specs.Data.{calculated, completed, flagged, kept_fla
 ghost use Rattle.arm7_model.specs.Registers.{register, saved};
 ghost use Rattle.arm7_registers.specs.Values.{computed_of, shifted_of};
 
-use crate::arithmetic::{Computation, computed, is_comparison};
+use crate::arithmetic::{Computation, computed, is_comparison, value_of};
 use crate::flags::{bit, carry_in, overflow_in, with_flags};
 use crate::modes::is_user;
 use crate::registers::{
@@ -56,9 +56,10 @@ fn complete(
     }
 }
 
-/// The operation on register `rn` and the shifter's operand, into register `rd`.
+/// The operation with its flags.
+#[inline(never)]
 #[tactic(auto, unfolding(arm7_model::specs::Data::calculated))]
-pub fn calculate(
+fn calculate_with_flags(
     state: &mut ArmState,
     operation: Operation,
     set_flags: bool,
@@ -72,6 +73,31 @@ pub fn calculate(
 {
     let computation = computed(operation, operand_at(state, rn), operand, state.cpsr);
     complete(state, operation, set_flags, rd, computation);
+}
+
+/// The operation on register `rn` and the shifter's operand, into register `rd`. Without S only its value is computed.
+#[inline(always)]
+#[tactic(auto, unfolding(arm7_model::specs::Data::calculated, arm7_model::specs::Data::completed))]
+pub fn calculate(
+    state: &mut ArmState,
+    operation: Operation,
+    set_flags: bool,
+    rn: u8,
+    rd: u8,
+    operand: Operand,
+)
+    requires first { rn < 16 }
+    requires target { rd < 16 }
+    ensures { state.new ≡ calculated operation set_flags rn rd (shifted_of operand) state.old }
+{
+    if set_flags {
+        calculate_with_flags(state, operation, true, rn, rd, operand);
+        return;
+    }
+    match value_of(operation, operand_at(state, rn), operand, state.cpsr) {
+        Some(v) => set_result(state, rd, v),
+        None => calculate_with_flags(state, operation, false, rn, rd, operand),
+    }
 }
 
 /// Sets N and Z of a value.

@@ -1,3 +1,4 @@
 pub mod ChokeLemmas
+pub mod QuietLemmas
 pub mod StringLemmas
 pub mod TurnLemmas

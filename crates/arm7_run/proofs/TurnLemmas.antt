@@ -54,7 +54,7 @@ pub record IsUnderWay (core : ArmState) (s : State) (before : Option (List ℕ))
 pub begins : (core : ArmState) (s : State) (before : Option (List ℕ)) → IsUnderWay core s before 0 core s before
 begins core s before = record { text = []; leads = stays; got = got_none before }
 
-one-more : (n : ℕ) → suc n ≡ n + 1
+pub one-more : (n : ℕ) → suc n ≡ n + 1
 one-more n = omega arith
 
 not_none : (x : RunEnd) → Some x ≡ None → ⊥

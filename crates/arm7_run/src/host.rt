@@ -3,13 +3,13 @@
 ghost use Rattle.std.specs.Prelude.{◌≡◌, ◌≤◌, ◌<◌, ◌+◌, ◌-◌, ◌^◌, ◌%◌, IfSome};
 ghost use Rattle.sdt_outside.specs.Counts.{Rose};
 ghost use Rattle.arm7_bus.specs.Buses.{IsStarted};
-ghost use Rattle.arm7_model.specs.Registers.{IsValid, register};
-ghost use Rattle.arm7_core.specs.Machines.{IsStep};
+ghost use Rattle.arm7_model.specs.Registers.{IsValid};
 ghost use Rattle.arm7_transfers.specs.Ready.{IsReady};
 ghost use Rattle.arm7_transfers.specs.Views.{state_of};
 ghost use Rattle.arm7_run.specs.Runs.{RunsInto};
-ghost use Rattle.arm7_run.specs.Turns.{Bytes, Strings, Turned, Turns, ended};
+ghost use Rattle.arm7_run.specs.Turns.{Bytes, Strings, Turns, ended};
 
+use crate::quiet::{register, run_quietly};
 use crate::strings::{print_bytes, string_len};
 use arm7_bus::Bus;
 use arm7_core::Machine;
@@ -68,14 +68,6 @@ fn print_byte<K: Sink>(value: u32, sink: &mut K) -> Turn
     }
 }
 
-#[tactic(auto, unfolding(arm7_model::specs::Registers::register))]
-fn register(machine: &Machine, k: usize) -> u32
-    requires { k < 16 }
-    ensures { result ≡ register machine.now.state k }
-{
-    machine.state.r[k]
-}
-
 /// What the host does behind a step that began at an address.
 fn answer<K: Sink>(machine: &Machine, bus: &Bus, sink: &mut K, event: Event, at: u32) -> Turn
     requires started { IsStarted (state_of base size state touched bus.now) }
@@ -92,21 +84,6 @@ fn answer<K: Sink>(machine: &Machine, bus: &Bus, sink: &mut K, event: Event, at:
     }
 }
 
-/// One step, and what the host does behind it.
-#[inline(always)]
-fn make_turn<K: Sink>(m: &mut Machine, bus: &mut Bus, sink: &mut K) -> Turn
-    requires valid { IsValid m.old.state }
-    requires ready { IsReady (state_of base size state touched bus.old) }
-    ensures turned { Turned result m.old.state (state_of base size state touched bus.old) m.new.state (state_of base size state touched bus.new) (K.bytes sink.old) (K.bytes sink.new) (Rose (K.faults sink.old) (K.faults sink.new)) }
-    ensures faults { K.faults sink.old ≤ K.faults sink.new }
-    ensures valid { IsValid m.new.state }
-    ensures ready { IsReady (state_of base size state touched bus.new) }
-{
-    let at = register(m, 15);
-    let event = m.step(bus);
-    answer(m, bus, sink, event, at)
-}
-
 /// Makes at most so many steps, up to the first stop, and appends to the sink what SWI 0x00 and SWI 0x02 print.
 pub fn run_for<K: Sink>(m: &mut Machine, bus: &mut Bus, sink: &mut K, steps: u64) -> RunEnd
     requires valid { IsValid m.old.state }
@@ -117,11 +94,20 @@ pub fn run_for<K: Sink>(m: &mut Machine, bus: &mut Bus, sink: &mut K, steps: u64
     ensures valid { IsValid m.new.state }
     ensures ready { IsReady (state_of base size state touched bus.new) }
 {
-    'steps: for made in 0..steps {
-        let turned = make_turn(m, bus, sink);
-        if let Some(end) = end_of(turned, made) {
+    let mut made: u64 = 0;
+    'turns: while made < steps {
+        let quiet = run_quietly(m, bus, made, steps);
+        let Some(asked) = quiet.asked else {
+            return RunEnd {
+                stop: Stop::Budget,
+                steps,
+            };
+        };
+        let turned = answer(m, bus, sink, asked.event, asked.at);
+        if let Some(end) = end_of(turned, quiet.made) {
             return end;
         }
+        made = quiet.made + 1;
     }
     RunEnd {
         stop: Stop::Budget,

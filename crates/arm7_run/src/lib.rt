@@ -2,6 +2,7 @@
 #![tactic(auto)]
 
 mod host;
+mod quiet;
 mod strings;
 
 pub use crate::host::{RunEnd, run_for};

@@ -37,6 +37,7 @@ fn is_no_address(rd: u8, v: u32) -> bool
 }
 
 /// Loads register `rd` from address `a`, after the base is written back.
+#[inline(always)]
 pub fn loaded(
     core: &mut ArmState,
     bus: &mut Bus,
@@ -66,6 +67,7 @@ pub fn loaded(
 }
 
 /// Stores register `rd` at address `a`, and then writes the base back.
+#[inline(always)]
 pub fn stored(core: &mut ArmState, bus: &mut Bus, width: Width, a: u32, rd: u8, by: Base) -> Outcome
     requires ready { IsReady (state_of base size state touched bus.old) }
     requires quiet { (state_of base size state touched bus.old).contents.stores ≡ [] }
@@ -113,7 +115,7 @@ pub fn swapped(core: &mut ArmState, bus: &mut Bus, width: Width, rn: u8, rd: u8,
 }
 
 /// Loads or stores register `rd` at an offset from a base.
-
+#[inline(always)]
 pub fn transferred(
     core: &mut ArmState,
     bus: &mut Bus,

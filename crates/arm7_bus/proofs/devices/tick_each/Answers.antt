@@ -1,8 +1,8 @@
 use Rattle.std.proofs.Common.{◌≡◌, ◌+◌, length, ◌∙◌, sym, arith}
 use Rattle.arm7_bus.specs.Seats.{seats_by, lines_up}
-use Rattle.arm7_bus.specs.contracts.devices.tick.{dyn-1-ghosts}
+use Rattle.arm7_bus.specs.contracts.devices.tick_each.{dyn-1-ghosts}
 use Rattle.arm7_bus.proofs.TickLemmas.{at_next, at_end, both_lines, seats_length}
-use Rattle.arm7_bus.proofs.devices.tick.Goals as goal
+use Rattle.arm7_bus.proofs.devices.tick_each.Goals as goal
 
 pub loop-i-preserved : goal.loop-i-preserved
 loop-i-preserved g c = (

@@ -1,8 +1,8 @@
 use Rattle.std.proofs.Common.{◌≡◌, length}
 use Rattle.arm7_bus.specs.Seats.{seats_by}
-use Rattle.arm7_bus.specs.contracts.devices.tick.{dyn-1-ghosts}
+use Rattle.arm7_bus.specs.contracts.devices.tick_each.{dyn-1-ghosts}
 use Rattle.arm7_bus.proofs.TickLemmas.{IsHalfway}
-use Rattle.arm7_bus.proofs.devices.tick.Given as goal
+use Rattle.arm7_bus.proofs.devices.tick_each.Given as goal
 
 abbrev pub invariant-loop-i : goal.invariant-loop-i
 invariant-loop-i g l =
