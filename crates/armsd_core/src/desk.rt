@@ -67,8 +67,8 @@ impl Notes {
     ) -> Result<(), SinkError>
         requires { self.old.steps + made < 2 ^ 128 }
         ensures notes { self.new ≡ record self.old { steps = self.old.steps + made; ended = lasting why } }
-        ensures prints { Prints (texts.stop_line (register m.now.state 15) (self.old.steps + made) why) (K.bytes sink.old) (K.bytes sink.new)
-            (Rose (K.faults sink.old) (K.faults sink.new)) result }
+        ensures prints { Prints (texts.stop_line (register m.now.state 15) (self.old.steps + made) why)
+            (K.bytes sink.old) (K.bytes sink.new) (Rose (K.faults sink.old) (K.faults sink.new)) result }
         ensures faults { K.faults sink.old ≤ K.faults sink.new }
     {
         self.steps += u128::from(made);
@@ -151,8 +151,8 @@ fn print_registers<K: Sink>(m: &Machine, sink: &mut K) -> Result<(), SinkError>
 fn print_memory<K: Sink>(bus: &Bus, a: u32, n: u32, sink: &mut K) -> Result<(), SinkError>
     requires ready { IsReady (state_of base size state touched bus.now) }
     requires few { n ≤ 256 }
-    ensures prints { Prints (texts.memory_text (state_of base size state touched bus.now).contents a n) (K.bytes sink.old) (K.bytes sink.new)
-        (Rose (K.faults sink.old) (K.faults sink.new)) result }
+    ensures prints { Prints (texts.memory_text (state_of base size state touched bus.now).contents a n)
+        (K.bytes sink.old) (K.bytes sink.new) (Rose (K.faults sink.old) (K.faults sink.new)) result }
     ensures faults { K.faults sink.old ≤ K.faults sink.new }
 {
     let line = memory_text(bus, a, n);

@@ -1,4 +1,6 @@
-//! The debugger by script: commands are read from a text, and carried out over a machine and its bus.
+//! The debugger by script: the commands of a script are read, and carried out over a machine, its bus and a sink. This
+//! project's, over the machine of `arm7_model`. `sdt_toolkit` calls `read_script` and `debug_for` for `debug`; the laws
+//! say what a session is of runs, and proofs of `sdt_toolkit` cite their lemmas.
 #![tactic(auto)]
 
 mod command;

@@ -141,7 +141,8 @@ pub record HasStarted (b : Booting) (banks : List Bank) (most : ℕ) (why : Stop
 -- so it does for each answer of `run` that tells of a run, in banks that the words tell
 abbrev pub Started : Booting → RunWords → Outside → List Seat → List Seat → Stop → Type 0
 Started b w o seats left why =
-    (banks : List Bank) × AreBanks w.memory w.rom banks × HasStarted b banks w.steps why o.printed o.prints (Rose o.faults o.faults_now) seats left
+    (banks : List Bank) × AreBanks w.memory w.rom banks
+    × HasStarted b banks w.steps why o.printed o.prints (Rose o.faults o.faults_now) seats left
 
 abbrev pub AnswerStarts : Booting → RunWords → Outside → List Seat → List Seat → Answer → Type 0
 AnswerStarts b w o seats left answer.Done = Started b w o seats left stop.Exit

@@ -1,4 +1,6 @@
-//! The top call: from the words of a command line, the files of a store and a sink for text, to an answer.
+//! The top call: from the words of a command line, the files of a store and a sink for text, to an answer. What it says
+//! is this project's, over the definitions of the crates below, which name their public sources. `armsdt` calls
+//! `run_tool` over real files, `conformance` over files in memory; some of its clauses follow from the laws in `laws`.
 #![tactic(auto)]
 
 ghost use Rattle.std.specs.Prelude.{◌≡◌, map, string_bytes, false};

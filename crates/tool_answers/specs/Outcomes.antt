@@ -67,13 +67,19 @@ pub record IsLeft (o : Outside) : Type 0 where
 
 -- what an answer says of what the input asks for, and what it leaves
 abbrev pub Says : Result Outcome Refusal → List (List ℕ) → Outside → Answer → Type 0
-Says asked inputs o answer.Done = (out : Outcome) × (asked ≡ Ok out) × AreWritten o.before o.after out.files × Got o.printed o.prints out.prints
+Says asked inputs o answer.Done =
+    (out : Outcome) × (asked ≡ Ok out) × AreWritten o.before o.after out.files × Got o.printed o.prints out.prints
 Says asked inputs o (answer.Refused r) = (asked ≡ Err r) × IsLeft o
 Says asked inputs o (answer.ReadFault name) = Rose o.reads o.reads_now × IsReached o.before inputs name × IsLeft o
-Says asked inputs o (answer.WriteFault name) = Rose o.writes o.writes_now × ((out : Outcome) × (asked ≡ Ok out) × FailsAt o.before o.after out.files name) × (o.prints ≡ o.printed)
-Says asked inputs o answer.SinkFault = Rose o.faults o.faults_now × ((out : Outcome) × (asked ≡ Ok out) × AreWritten o.before o.after out.files × GotPart o.printed o.prints out.prints)
+Says asked inputs o (answer.WriteFault name) =
+    Rose o.writes o.writes_now × ((out : Outcome) × (asked ≡ Ok out) × FailsAt o.before o.after out.files name)
+    × (o.prints ≡ o.printed)
+Says asked inputs o answer.SinkFault =
+    Rose o.faults o.faults_now
+    × ((out : Outcome) × (asked ≡ Ok out) × AreWritten o.before o.after out.files × GotPart o.printed o.prints out.prints)
 Says asked inputs o (answer.Stopped stop) = ⊥
-Says asked inputs o answer.NoMemory = ((out : Outcome) × (asked ≡ Ok out) × IsCutShort o.before o.after out.files × (o.prints ≡ o.printed)) ⊎ IsLeft o
+Says asked inputs o answer.NoMemory =
+    ((out : Outcome) × (asked ≡ Ok out) × IsCutShort o.before o.after out.files × (o.prints ≡ o.printed)) ⊎ IsLeft o
 
 -- what some contents of so many files ask for, and of one file
 abbrev pub OfAll : (List (List ℕ) → Result Outcome Refusal) → List (List ℕ) → Result Outcome Refusal → Type 0
@@ -88,7 +94,8 @@ IsLost inputs rose asked = (name : List ℕ) × (asked ≡ Err (Missing name)) �
 
 -- what the input asks for: what the files tell; and where they aren't told, what some contents of them ask for, or else
 -- one is missing, for which a read failed
-abbrev pub IsAsked : (Files → Result Outcome Refusal) → (Result Outcome Refusal → Type 0) → Option Files → List (List ℕ) → Type 0 → Result Outcome Refusal → Type 0
+abbrev pub IsAsked : (Files → Result Outcome Refusal) → (Result Outcome Refusal → Type 0) → Option Files → List (List ℕ) → Type 0
+    → Result Outcome Refusal → Type 0
 IsAsked judge some_ask None inputs rose asked = some_ask asked ⊎ IsLost inputs rose asked
 IsAsked judge some_ask (Some files) inputs rose asked = asked ≡ judge files
 
@@ -128,6 +135,8 @@ unprinted printed faults before after reads reads_now writes writes_now = record
 }
 
 -- the answer to a command that prints nothing, over the files and counts of a store and beside any sink
-abbrev pub AnswersOver : (Files → Result Outcome Refusal) → (Result Outcome Refusal → Type 0) → List (List ℕ) → Option Files → Option Files → ℕ → ℕ → ℕ → ℕ → Answer → Type 0
+abbrev pub AnswersOver : (Files → Result Outcome Refusal) → (Result Outcome Refusal → Type 0) → List (List ℕ) → Option Files → Option Files
+    → ℕ → ℕ → ℕ → ℕ → Answer → Type 0
 AnswersOver judge some_ask inputs before after reads reads_now writes writes_now a =
-    (printed : Option (List ℕ)) (faults : ℕ) → Answers judge some_ask inputs (unprinted printed faults before after reads reads_now writes writes_now) a
+    (printed : Option (List ℕ)) (faults : ℕ)
+    → Answers judge some_ask inputs (unprinted printed faults before after reads reads_now writes writes_now) a

@@ -1,6 +1,7 @@
-//! What a command answers: it reads its inputs in order, judges them, and then writes its files or prints
-//! its text. What each answer says of the input and leaves of store and sink is defined here, once for all
-//! commands.
+//! What a command answers: it reads its inputs in order, judges them, and then writes its files or prints its text.
+//! What each answer says of the input and leaves of store and sink is defined here, once for all commands. This
+//! project's. `tool_library`, `tool_run` and `sdt_toolkit` read by `read_input` and its like, end by `write` and
+//! `print`, and put a file's name into a refusal by `named`.
 #![tactic(auto)]
 
 pub mod inputs;

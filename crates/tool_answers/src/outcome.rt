@@ -12,7 +12,8 @@ use std::alloc::Global;
 /// Writes a file of fewer than 2^32 bytes.
 pub fn write<S: Store>(alloc: Global, store: &mut S, name: Text, bytes: &[u8]) -> Answer
     requires { length bytes.now < 2 ^ 32 }
-    ensures says { Writes name bytes.now (S.files store.old) (S.files store.new) (Rose (S.write_faults store.old) (S.write_faults store.new)) result }
+    ensures says { Writes name bytes.now (S.files store.old) (S.files store.new)
+        (Rose (S.write_faults store.old) (S.write_faults store.new)) result }
     ensures reads { S.read_faults store.new ≡ S.read_faults store.old }
     ensures writes { S.write_faults store.old ≤ S.write_faults store.new }
 {

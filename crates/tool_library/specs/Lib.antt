@@ -2,3 +2,4 @@
 pub mod Libraries
 pub mod Linkables
 pub mod Lists
+pub mod Shown

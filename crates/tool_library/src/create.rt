@@ -22,7 +22,8 @@ pub fn create_library<S: Store>(
     objects: &[Text],
 ) -> Answer
     ensures { AnswersOver (libraries.created library objects.now) (OfAll (libraries.creates library objects.now) objects.now) objects.now
-        (S.files store.old) (S.files store.new) (S.read_faults store.old) (S.read_faults store.new) (S.write_faults store.old) (S.write_faults store.new) result }
+        (S.files store.old) (S.files store.new) (S.read_faults store.old) (S.read_faults store.new)
+        (S.write_faults store.old) (S.write_faults store.new) result }
 {
     let contents = match read_inputs(alloc, store, objects) {
         Ok(contents) => contents,

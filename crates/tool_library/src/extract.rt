@@ -5,12 +5,13 @@ ghost use Rattle.tool_answers.specs.Outcomes.{Answers, AnswersOver, OfOne};
 ghost use Rattle.tool_library.specs.Libraries as libraries;
 
 use crate::ends::{end_answer, fault_answer};
-use crate::members::{extract, listing};
+use crate::members::extract;
+use crate::printing::{Shown, print_file};
 use sdt_fault::Text;
 use sdt_fault::answer::Answer;
 use sdt_outside::{Sink, Store};
 use std::alloc::Global;
-use tool_answers::{print, read_input, write};
+use tool_answers::{read_input, write};
 
 /// Prints the names of a library's members, a line each.
 pub fn list_members<S: Store, K: Sink>(
@@ -32,14 +33,7 @@ pub fn list_members<S: Store, K: Sink>(
       faults_now = K.faults sink.new;
     }) result }
 {
-    let bytes = match read_input(alloc, store, library) {
-        Ok(bytes) => bytes,
-        Err(end) => return end_answer(end),
-    };
-    match listing(alloc, library, bytes.as_slice()) {
-        Ok(text) => print(sink, text.as_slice()),
-        Err(fault) => fault_answer(fault),
-    }
+    print_file(alloc, store, sink, library, Shown::Members)
 }
 
 /// Writes a library's member as an object file.
@@ -50,8 +44,10 @@ pub fn extract_member<S: Store>(
     member: &Text,
     output: Text,
 ) -> Answer
-    ensures { AnswersOver (libraries.extracted library.now member.now output) (OfOne (libraries.extracts library.now member.now output)) (library.now ∷ [])
-        (S.files store.old) (S.files store.new) (S.read_faults store.old) (S.read_faults store.new) (S.write_faults store.old) (S.write_faults store.new) result }
+    ensures { AnswersOver (libraries.extracted library.now member.now output)
+        (OfOne (libraries.extracts library.now member.now output)) (library.now ∷ [])
+        (S.files store.old) (S.files store.new) (S.read_faults store.old) (S.read_faults store.new)
+        (S.write_faults store.old) (S.write_faults store.new) result }
 {
     let bytes = match read_input(alloc, store, library) {
         Ok(bytes) => bytes,

@@ -4,13 +4,11 @@ ghost use Rattle.std.specs.Prelude.{◌≡◌, ◌∷◌, [], ℕ, List as Items
 ghost use Rattle.tool_answers.specs.Outcomes.{Answers, OfOne};
 ghost use Rattle.tool_library.specs.Lists.{listing_of, lists};
 
-use crate::ends::{end_answer, fault_answer};
-use crate::listings::listing;
+use crate::printing::{Shown, print_file};
 use sdt_fault::Text;
 use sdt_fault::answer::Answer;
 use sdt_outside::{Sink, Store};
 use std::alloc::Global;
-use tool_answers::{print, read_input};
 
 /// Prints the listing of an object, of a library, of an ELF executable or of an ARM image file.
 pub fn list_file<S: Store, K: Sink>(
@@ -32,12 +30,5 @@ pub fn list_file<S: Store, K: Sink>(
       faults_now = K.faults sink.new;
     }) result }
 {
-    let bytes = match read_input(alloc, store, file) {
-        Ok(bytes) => bytes,
-        Err(end) => return end_answer(end),
-    };
-    match listing(alloc, file, bytes.as_slice()) {
-        Ok(text) => print(sink, text.as_slice()),
-        Err(fault) => fault_answer(fault),
-    }
+    print_file(alloc, store, sink, file, Shown::Listing)
 }

@@ -111,14 +111,14 @@ fn names_text(alloc: Global, members: &[Member]) -> Result<Vec<u8>, NoMemory>
 }
 
 /// The names of a library's members, a line each.
-pub fn listing(alloc: Global, name: &Text, bytes: &[u8]) -> Result<Bytes, Fault>
+pub fn listing(alloc: Global, name: &Text, bytes: &[u8]) -> Result<Text, Fault>
     requires { length bytes.now < 2 ^ 32 }
     ensures { Gives result (libraries.listing name.now bytes.now) }
 {
     match archive_named(alloc, name, bytes) {
         Ok(archive) => {
             let text = names_text(alloc, archive.members.as_slice())?;
-            Ok(Bytes::from_vec(text))
+            Ok(Text::from_vec(text))
         }
         Err(fault) => Err(fault),
     }

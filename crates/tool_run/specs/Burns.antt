@@ -71,4 +71,5 @@ pub record BurnAnswers (records : BurnForm) (file output : List ℕ) (o : Outsid
 -- the same over the files and counts of a store and beside any sink, of which it prints nothing
 abbrev pub BurnAnswersOver : BurnForm → List ℕ → List ℕ → Option Files → Option Files → ℕ → ℕ → ℕ → ℕ → Answer → Type 0
 BurnAnswersOver records file output before after reads reads_now writes writes_now a =
-    (printed : Option (List ℕ)) (faults : ℕ) → BurnAnswers records file output (unprinted printed faults before after reads reads_now writes writes_now) a
+    (printed : Option (List ℕ)) (faults : ℕ)
+    → BurnAnswers records file output (unprinted printed faults before after reads reads_now writes writes_now) a

@@ -1,5 +1,7 @@
-//! The command `run`: an image from files, the machine's run of it over banks and devices, and the answer. And the command
-//! `burn`, which writes as a text of records what `run` would load of a map.
+//! The command `run`: an image from files, the machine's run of it over banks and devices, and the answer; and the
+//! command `burn`, which writes as a text of records what `run` would load of a map. This project's, over the formats'
+//! own crates. `sdt_toolkit` calls `run` and `burn`; its `debug` opens an image as `run` does (`open_image`), and its
+//! proofs call the laws of what executables and texts of records load.
 #![tactic(auto)]
 
 mod aifs;

@@ -1,11 +1,14 @@
 -- What good words ask for. This project's.
-use Rattle.std.specs.Prelude.{◌≡◌, ℕ, ◌+◌, ◌%◌, ◌^◌, ◌<◌, ◌≤◌, List, [], map, filter, find, min, length, Option, Some, None, Result, Ok, Err, unwrap_or, option_map, slice_get, if◌then◌else◌}
+use Rattle.std.specs.Prelude.{◌≡◌, ℕ, ◌+◌, ◌%◌, ◌^◌, ◌<◌, ◌≤◌, min, if◌then◌else◌}
+use Rattle.std.specs.Prelude.{List, [], map, filter, find, length, slice_get, Option, Some, None, option_map, unwrap_or, Result, Ok, Err}
 use Rattle.std.specs.List.{AllByRecursion}
 use Rattle.std.specs.Option.{option_map_or}
 use Rattle.tool_words.specs.declared.items.Verb.{Verb}
-use Rattle.tool_words.specs.declared.items.Verb.TheVariants.{Assemble, Library, List as Listing, Run, Link, Build, InterruptKit, Burn, Report, MakeBig, Debug}
+use Rattle.tool_words.specs.declared.items.Verb.TheVariants.{Assemble, Library, List as Listing, Run, Link, Build}
+use Rattle.tool_words.specs.declared.items.Verb.TheVariants.{InterruptKit, Burn, Report, MakeBig, Debug}
 use Rattle.tool_words.specs.declared.items.Flag.{Flag}
-use Rattle.tool_words.specs.declared.items.Flag.TheVariants.{Create, Table, Extract, Output, Bin, At, Memory, Rom, Steps, Reloc, Base, Ram, Acknowledge, Script}
+use Rattle.tool_words.specs.declared.items.Flag.TheVariants.{Create, Table, Extract, Output, Bin, At, Memory}
+use Rattle.tool_words.specs.declared.items.Flag.TheVariants.{Rom, Steps, Reloc, Base, Ram, Acknowledge, Script}
 use Rattle.tool_words.specs.declared.items.Flag.TheVariants as flag
 use Rattle.tool_words.specs.declared.items.Item.{Item}
 use Rattle.tool_words.specs.declared.command.Bank.{Bank}

@@ -1,9 +1,13 @@
 -- The words behind a command, as items: names, and options with their values. This project's.
-use Rattle.std.specs.Prelude.{ℕ, zero, suc, ◌+◌, ◌-◌, ◌==◌, nat_lt, Bool, true, false, if◌then◌else◌, List, [], ◌∷◌, length, slice_get, unwrap_or, min, Option, Some, None, codes, bytes_eq}
+use Rattle.std.specs.Prelude.{ℕ, zero, suc, ◌+◌, ◌-◌, ◌==◌, nat_lt, min, Bool, true, false, if◌then◌else◌}
+use Rattle.std.specs.Prelude.{List, [], ◌∷◌, length, slice_get, codes, bytes_eq, Option, Some, None, unwrap_or}
 use Rattle.tool_words.specs.declared.items.Verb.{Verb}
-use Rattle.tool_words.specs.declared.items.Verb.TheVariants.{Assemble, Library, List as Listing, Run, Link, Build, InterruptKit, Burn, Report, MakeBig, Debug}
+use Rattle.tool_words.specs.declared.items.Verb.TheVariants.{Assemble, Library, List as Listing, Run, Link, Build}
+use Rattle.tool_words.specs.declared.items.Verb.TheVariants.{InterruptKit, Burn, Report, MakeBig, Debug}
 use Rattle.tool_words.specs.declared.items.Flag.{Flag}
-use Rattle.tool_words.specs.declared.items.Flag.TheVariants.{Create, Table, Extract, Output, Map, Bin, At, Memory, Rom, Steps, Scatter, Aif, Reloc, Base, Ram, Elf, Acknowledge, IntelHex, SRecords, Burned, Symbols, Script}
+use Rattle.tool_words.specs.declared.items.Flag.TheVariants.{Create, Table, Extract, Output, Map, Bin, At, Memory, Rom, Steps}
+use Rattle.tool_words.specs.declared.items.Flag.TheVariants.{Scatter, Aif, Reloc, Base, Ram, Elf, Acknowledge}
+use Rattle.tool_words.specs.declared.items.Flag.TheVariants.{IntelHex, SRecords, Burned, Symbols, Script}
 use Rattle.tool_words.specs.declared.items.Role.{Role}
 use Rattle.tool_words.specs.declared.items.Role.TheVariants.{Name, Known, Unknown}
 use Rattle.tool_words.specs.declared.items.Item.{Item}

@@ -10,7 +10,9 @@ use Rattle.tool_words.specs.declared.items.Item.{Item}
 use Rattle.tool_words.specs.declared.rules.Choice.{Choice}
 use Rattle.tool_words.specs.declared.command.Command.{Command}
 use Rattle.tool_words.specs.Items.{word_at, verb_named, value_count, items_of}
-use Rattle.tool_words.specs.Rules.{has, is_bank, bank_count, name_count, is_mode, mode_of, choice_of, is_plain, must_count, decimal_at, is_count, first_is_good, second_is_good, is_allowed, most_names, stands, must_differ, needs_mode, least_names, needs_output, needs_map, needs_script, needs_address}
+use Rattle.tool_words.specs.Rules.{has, is_bank, is_mode, mode_of, choice_of, is_plain, must_count, decimal_at, is_count}
+use Rattle.tool_words.specs.Rules.{bank_count, name_count, most_names, least_names, first_is_good, second_is_good, is_allowed, stands}
+use Rattle.tool_words.specs.Rules.{must_differ, needs_mode, needs_output, needs_map, needs_script, needs_address}
 use Rattle.tool_words.specs.Commands.{told, command_of}
 
 -- ---- words that break a rule

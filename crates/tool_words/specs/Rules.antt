@@ -1,11 +1,15 @@
 -- Which words of a command break a rule, and the first that does: the place is counted from 0, and where something
 -- is missing it is one past the last word. This project's.
-use Rattle.std.specs.Prelude.{ℕ, ◌+◌, ◌%◌, ◌^◌, ◌==◌, nat_lt, nat_le, Bool, true, false, not, ◌&&◌, ◌||◌, if◌then◌else◌, List, [], ◌∷◌, ◌++◌, length, min, Option, Some, None, is_some, bytes_eq, count_by}
+use Rattle.std.specs.Prelude.{ℕ, ◌+◌, ◌%◌, ◌^◌, ◌==◌, nat_lt, nat_le, min, Bool, true, false, not, ◌&&◌, ◌||◌, if◌then◌else◌}
+use Rattle.std.specs.Prelude.{List, [], ◌∷◌, ◌++◌, length, count_by, bytes_eq, Option, Some, None, is_some}
 use Rattle.std.specs.List.{list_any, list_all}
 use Rattle.tool_words.specs.declared.items.Verb.{Verb}
-use Rattle.tool_words.specs.declared.items.Verb.TheVariants.{Assemble, Library, List as Listing, Run, Link, Build, InterruptKit, Burn, Report, MakeBig, Debug}
+use Rattle.tool_words.specs.declared.items.Verb.TheVariants.{Assemble, Library, List as Listing, Run, Link, Build}
+use Rattle.tool_words.specs.declared.items.Verb.TheVariants.{InterruptKit, Burn, Report, MakeBig, Debug}
 use Rattle.tool_words.specs.declared.items.Flag.{Flag}
-use Rattle.tool_words.specs.declared.items.Flag.TheVariants.{Create, Table, Extract, Output, Map, Bin, At, Memory, Rom, Steps, Scatter, Aif, Reloc, Base, Ram, Elf, Acknowledge, IntelHex, SRecords, Burned, Symbols, Script}
+use Rattle.tool_words.specs.declared.items.Flag.TheVariants.{Create, Table, Extract, Output, Map, Bin, At, Memory, Rom, Steps}
+use Rattle.tool_words.specs.declared.items.Flag.TheVariants.{Scatter, Aif, Reloc, Base, Ram, Elf, Acknowledge}
+use Rattle.tool_words.specs.declared.items.Flag.TheVariants.{IntelHex, SRecords, Burned, Symbols, Script}
 use Rattle.tool_words.specs.declared.items.Role.{Role}
 use Rattle.tool_words.specs.declared.items.Role.TheVariants.{Name, Known, Unknown}
 use Rattle.tool_words.specs.declared.items.Item.{Item}

@@ -132,7 +132,7 @@ pub enum Command {
         member: Text,
         output: Text,
     },
-    /// Prints the listing of an object or a library.
+    /// Prints the listing of an object, a library, an ARM image file or an ELF executable.
     List {
         file: Text,
     },

@@ -1,5 +1,5 @@
-//! The words of a command line: which command they ask for, with its names and options, or the first
-//! word that breaks a rule.
+//! The words of a command line: which command they ask for, with its names and options, or the first word that breaks a
+//! rule. This project's. `sdt_toolkit` calls `read_words`, and carries out the `Command`.
 #![tactic(auto)]
 
 pub mod command;

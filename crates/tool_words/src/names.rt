@@ -1,6 +1,7 @@
 //! Names that differ.
 
-ghost use Rattle.std.specs.Prelude.{◌≡◌, ◌≢◌, ◌<◌, ◌||◌, ◌&&◌, ℕ, List, Option, IfOk, OnOk, MatchOption, All, length, map, string_bytes, bytes_eq, None, Some, []};
+ghost use Rattle.std.specs.Prelude.{◌≡◌, ◌≢◌, ◌<◌, ◌||◌, ◌&&◌, ℕ, List, [], length, map, All, string_bytes, bytes_eq};
+ghost use Rattle.std.specs.Prelude.{Option, None, Some, IfOk, OnOk, MatchOption};
 ghost use Rattle.tool_words.specs.Items as items;
 ghost use Rattle.tool_words.specs.Rules as rules;
 ghost use Rattle.tool_words.specs.Seen.{has_seen};
@@ -37,8 +38,10 @@ fn repeats(
     item: Item,
 ) -> Result<bool, NoMemory>
     requires { item.at < length words.now }
-    ensures answer { IfOk result (λ again. again ≡ (rules.is_name item.role && has_seen seen.old (items.word_at (map string_bytes words.now) item.at))) }
-    ensures after { OnOk result ((q : List ℕ) → has_seen seen.new q ≡ ((rules.is_name item.role && bytes_eq (items.word_at (map string_bytes words.now) item.at) q) || has_seen seen.old q)) }
+    ensures answer { IfOk result (λ again. again
+        ≡ (rules.is_name item.role && has_seen seen.old (items.word_at (map string_bytes words.now) item.at))) }
+    ensures after { OnOk result ((q : List ℕ) → has_seen seen.new q
+        ≡ ((rules.is_name item.role && bytes_eq (items.word_at (map string_bytes words.now) item.at) q) || has_seen seen.old q)) }
 {
     if !is_name(item.role) {
         return Ok(false);
