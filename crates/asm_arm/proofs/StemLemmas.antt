@@ -1,8 +1,8 @@
--- The rows of the one table of stems give what the tables of `Words` give.
-use Rattle.std.proofs.Common.{◌≡◌, ℕ, List, [], ◌∷◌, ◌++◌, length, take, drop, map, Bool, true, false, cond, not, refl, sym, ◌∙◌, ap, Option, Some, None, codes}
+-- The rows of the tables of stems give what the tables of `Words` give.
+use Rattle.std.proofs.Common.{◌≡◌, ℕ, List, [], ◌∷◌, ◌++◌, length, take, drop, map, Bool, true, false, cond, not, refl, sym, ◌∙◌, ap, subst, arith, Option, Some, None, codes}
 use Rattle.std.specs.Prelude.{◌==◌, ◌&&◌, ◌||◌}
 use Rattle.std.specs.Char.{to_ascii_lowercase}
-use Rattle.std.proofs.lemmas.Bool.{eqb-true, and_parts, false_from_ne_true}
+use Rattle.std.proofs.lemmas.Bool.{eqb-true, ne_eqb, and_parts, false_from_ne_true}
 use Rattle.sdt_word.specs.declared.codes.Condition.{Condition}
 use Rattle.sdt_word.specs.declared.codes.Condition.TheVariants as condition
 use Rattle.arm_isa.specs.declared.instr.Operation.{Operation}
@@ -15,7 +15,7 @@ use Rattle.asm_arm.specs.declared.mnemonics.Mnemonic.{Mnemonic}
 use Rattle.asm_arm.specs.declared.mnemonics.Mnemonic.TheVariants as mnemonic
 use Rattle.asm_arm.specs.declared.mnemonics.Stem.{Stem}
 use Rattle.asm_arm.specs.declared.mnemonics.Stem.TheVariants as stem
-use Rattle.asm_arm.specs.Stems.{begins_alike, begun, by_rows}
+use Rattle.asm_arm.specs.Stems.{begun, by_rows}
 use Rattle.asm_arm.specs.Stems as stems
 use Rattle.asm_arm.specs.Mnemonics.{ending, conditioned, stemmed, data_suffix, multiply_suffix, long_suffix, transfer_suffix, block_suffix, swap_suffix, bare_suffix, float_suffix, float_block_suffix, block_named, block_stem, branch_named, branch_stem, data_named, data_stem, float_arithmetic, float_block, float_compare, float_functions, float_named, float_stem, float_transfers, idle_named, idle_word, long_address_named, long_address_stem, long_named, long_stem, moving_named, multiply_named, multiply_stem, operation_named, other_named, plain_named, plain_stem, short_branch_stem, swap_named, swap_stem, transfer_named, transfer_stem}
 
@@ -96,12 +96,6 @@ no_other k n (row ∷ rows) name word e h p =
     or_both _ None _ None
     (begun_false word n (row.0, k row.1) (eqb-true _ _ parts.0) (one_name name row.0 (take n word) e differs.0))
     (no_other k n rows name word e differs.1 more.1)
-
--- a word with another first letter
-pub other_letter : (word name : List ℕ) (s : Stem) → begins_alike word name ≡ false → begun word (name, s) ≡ None
-other_letter [] name s e = absurd (cc)
-other_letter (c ∷ cs) [] s e = absurd (cc)
-other_letter (c ∷ cs) (d ∷ ds) s e = rw e refl
 
 -- a table of stems of n letters
 family : {A : Type 0} (k : A → Stem) (f : A → List ℕ → Option Mnemonic) (n : ℕ) (rows : List (List ℕ × A)) (word : List ℕ)
@@ -375,3 +369,69 @@ rows_are word =
     (joined word multiply_table (long_table ++ (moving_rows ++ (other_rows ++ fpa_rows))) _ _ (multiply_is word)
     (joined word long_table (moving_rows ++ (other_rows ++ fpa_rows)) _ _ (long_is word)
     (joined word moving_rows (other_rows ++ fpa_rows) _ _ (moving_is word) (joined word other_rows fpa_rows _ _ (other_is word) (fpa_is word)))))
+
+-- ---- the rows of a letter, in lower case
+
+abbrev begins_with : ℕ → List ℕ → Bool
+begins_with d [] = true
+begins_with d (x ∷ xs) = d == to_ascii_lowercase x
+
+abbrev kept : Bool → List ℕ × Stem → List (List ℕ × Stem) → List (List ℕ × Stem)
+kept true row rows = row ∷ rows
+kept false row rows = rows
+
+abbrev pub with_letter : ℕ → List (List ℕ × Stem) → List (List ℕ × Stem)
+with_letter d [] = []
+with_letter d (row ∷ rows) = kept (begins_with d row.0) row (with_letter d rows)
+
+-- a word with another first letter
+other_letter : (c : ℕ) (cs name : List ℕ) (s : Stem) → begins_with (to_ascii_lowercase c) name ≡ false → begun (c ∷ cs) (name, s) ≡ None
+other_letter c cs [] s e = absurd (cc)
+other_letter c cs (d ∷ ds) s e = rw e refl
+
+-- the rows of other letters say nothing of a word
+by_letter : (c : ℕ) (cs : List ℕ) (rows : List (List ℕ × Stem))
+    → by_rows (c ∷ cs) (with_letter (to_ascii_lowercase c) rows) ≡ by_rows (c ∷ cs) rows
+by_letter c cs [] = refl
+by_letter c cs (row ∷ rows) = chosen (begins_with (to_ascii_lowercase c) row.0) refl (by_letter c cs rows)
+  where
+    chosen : (b : Bool) → begins_with (to_ascii_lowercase c) row.0 ≡ b
+        → by_rows (c ∷ cs) (with_letter (to_ascii_lowercase c) rows) ≡ by_rows (c ∷ cs) rows
+        → by_rows (c ∷ cs) (kept b row (with_letter (to_ascii_lowercase c) rows)) ≡ or_else (begun (c ∷ cs) row) (by_rows (c ∷ cs) rows)
+    chosen true e h = ap (or_else (begun (c ∷ cs) row)) h
+    chosen false e h = sym (or_both _ None _ _ (other_letter c cs row.0 row.1 e) (sym h))
+
+pub no_word : (word : List ℕ) → length word ≡ 0 → None ≡ operation_named word
+no_word [] e = rows_are []
+no_word (c ∷ cs) e = absurd (omega arith)
+
+pub of_letter : (word : List ℕ) (c : ℕ) (cs : List ℕ) (d : ℕ) → word ≡ c ∷ cs → to_ascii_lowercase c ≡ d
+    → by_rows word (with_letter d all_rows) ≡ operation_named word
+of_letter word c cs d e h =
+    subst (λ (w : List ℕ). by_rows w (with_letter d all_rows) ≡ operation_named w) (sym e)
+    (subst (λ (x : ℕ). by_rows (c ∷ cs) (with_letter x all_rows) ≡ operation_named (c ∷ cs)) h
+    (by_letter c cs all_rows ∙ rows_are (c ∷ cs)))
+
+-- no row begins with another letter
+pub no_rows : (d : ℕ) → (d ≡ 97 → ⊥) → (d ≡ 98 → ⊥) → (d ≡ 99 → ⊥) → (d ≡ 100 → ⊥) → (d ≡ 101 → ⊥) → (d ≡ 102 → ⊥) → (d ≡ 108 → ⊥) → (d ≡ 109 → ⊥)
+    → (d ≡ 110 → ⊥) → (d ≡ 111 → ⊥) → (d ≡ 112 → ⊥) → (d ≡ 114 → ⊥) → (d ≡ 115 → ⊥) → (d ≡ 116 → ⊥) → (d ≡ 117 → ⊥) → (d ≡ 119 → ⊥)
+    → with_letter d all_rows ≡ []
+no_rows d n1 n2 n3 n4 n5 n6 n7 n8 n9 n10 n11 n12 n13 n14 n15 n16 =
+    rw (
+      ne_eqb d 97 n1,
+      ne_eqb d 98 n2,
+      ne_eqb d 99 n3,
+      ne_eqb d 100 n4,
+      ne_eqb d 101 n5,
+      ne_eqb d 102 n6,
+      ne_eqb d 108 n7,
+      ne_eqb d 109 n8,
+      ne_eqb d 110 n9,
+      ne_eqb d 111 n10,
+      ne_eqb d 112 n11,
+      ne_eqb d 114 n12,
+      ne_eqb d 115 n13,
+      ne_eqb d 116 n14,
+      ne_eqb d 117 n15,
+      ne_eqb d 119 n16,
+    ) refl

@@ -1,7 +1,6 @@
--- What the look-up of an operation word in one table of stems gives. This project's: what the code gives; that its rows
+-- What the look-up of an operation word in a table of stems gives. This project's: what the code gives; that its rows
 -- give what the tables of `Words` give is proved.
-use Rattle.std.specs.Prelude.{ℕ, List, [], ◌∷◌, take, drop, length, ◌==◌, Bool, true, if◌then◌else◌, Option, None}
-use Rattle.std.specs.Char.{to_ascii_lowercase}
+use Rattle.std.specs.Prelude.{ℕ, List, [], ◌∷◌, take, drop, length, if◌then◌else◌, Option, None}
 use Rattle.sdt_word.specs.declared.codes.Condition.{Condition}
 use Rattle.sdt_word.specs.declared.codes.Condition.TheVariants as condition
 use Rattle.asm_model.specs.Directives.{or_else}
@@ -28,12 +27,6 @@ stemmed stem.FloatBlock rest = conditioned (ending rest).0 (float_mode (ending r
 -- what a word says that begins with the name of a stem
 abbrev pub begun : List ℕ → List ℕ × Stem → Option (Mnemonic × Condition)
 begun word row = if is_called row.0 (take (length row.0) word) then stemmed row.1 (drop (length row.0) word) else None
-
--- whether a word and a name have the same first letter, in any case; true where one of them has none
-abbrev pub begins_alike : List ℕ → List ℕ → Bool
-begins_alike [] name = true
-begins_alike (c ∷ cs) [] = true
-begins_alike (c ∷ cs) (d ∷ ds) = to_ascii_lowercase c == to_ascii_lowercase d
 
 -- the first row that gives a word a meaning
 abbrev pub by_rows : List ℕ → List (List ℕ × Stem) → Option (Mnemonic × Condition)

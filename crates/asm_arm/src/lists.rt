@@ -123,6 +123,7 @@ fn items(
     ensures { IfOk result (λ all. all
         ≡ lists.items text.now (model.operands_at text.now 0 tokens.now)) }
 {
+    // a comma between each two operands
     let mut so_far = Ok(List::from_vec(Vec::with_capacity(alloc, tokens.len() / 2 + 1)?));
     let mut left = tokens;
     'operands: loop {

@@ -6,8 +6,9 @@ ghost use Rattle.asm_arm.specs.Stems as stems;
 ghost use Rattle.asm_arm.specs.Mnemonics as words;
 
 use crate::stems::{
-    BYTE, CONDITIONS, FLAGS, FLOAT_MODES, HALF_LOADS, HALF_STORES, LOAD_MODES, STEMS, STORE_MODES,
-    WORD,
+    A_STEMS, B_STEMS, BYTE, C_STEMS, CONDITIONS, D_STEMS, E_STEMS, F_STEMS, FLAGS, FLOAT_MODES,
+    HALF_LOADS, HALF_STORES, L_STEMS, LOAD_MODES, M_STEMS, N_STEMS, O_STEMS, P_STEMS, R_STEMS,
+    S_STEMS, STORE_MODES, T_STEMS, U_STEMS, W_STEMS, WORD,
 };
 use arm_isa::{HalfKind, Operation};
 use asm_expr::rows::row_of;
@@ -127,6 +128,10 @@ pub fn behind(word: &[u8], count: usize) -> &[u8]
 fn ending(rest: &[u8]) -> (Condition, &[u8])
     ensures { (result.0, result.1.now) ≡ words.ending rest.now }
 {
+    // Most words end with their stem.
+    if rest.is_empty() {
+        return (Condition::Al, rest);
+    }
     match row_of(begin(rest, 2), &CONDITIONS) {
         Some(condition) => (condition, behind(rest, 2)),
         None => (Condition::Al, rest),
@@ -367,26 +372,10 @@ fn stemmed(stem: Stem, rest: &[u8]) -> Option<(Mnemonic, Condition)>
     }
 }
 
-/// Whether a word and a name have the same first letter, in any case.
-fn begins_alike(word: &[u8], name: &[u8]) -> bool
-    ensures { result ≡ stems.begins_alike word.now name.now }
-{
-    let Some((letter, _)) = word.split_first() else {
-        return true;
-    };
-    let Some((first, _)) = name.split_first() else {
-        return true;
-    };
-    letter.to_ascii_lowercase() == first.to_ascii_lowercase()
-}
-
 /// What a word says that begins with the name of a stem; None where it doesn't.
 fn begun(word: &[u8], name: &[u8], stem: Stem) -> Option<(Mnemonic, Condition)>
     ensures { result ≡ stems.begun word.now (name.now, stem) }
 {
-    if !begins_alike(word, name) {
-        return None;
-    }
     if is_called(name, begin(word, name.len())) {
         return stemmed(stem, behind(word, name.len()));
     }
@@ -410,5 +399,26 @@ fn by_rows(word: &[u8], rows: &[(&[u8], Stem)]) -> Option<(Mnemonic, Condition)>
 pub fn operation_named(word: &[u8]) -> Option<(Mnemonic, Condition)>
     ensures { result ≡ words.operation_named word.now }
 {
-    by_rows(word, &STEMS)
+    let Some((letter, _)) = word.split_first() else {
+        return None;
+    };
+    match letter.to_ascii_lowercase() {
+        b'a' => by_rows(word, &A_STEMS),
+        b'b' => by_rows(word, &B_STEMS),
+        b'c' => by_rows(word, &C_STEMS),
+        b'd' => by_rows(word, &D_STEMS),
+        b'e' => by_rows(word, &E_STEMS),
+        b'f' => by_rows(word, &F_STEMS),
+        b'l' => by_rows(word, &L_STEMS),
+        b'm' => by_rows(word, &M_STEMS),
+        b'n' => by_rows(word, &N_STEMS),
+        b'o' => by_rows(word, &O_STEMS),
+        b'p' => by_rows(word, &P_STEMS),
+        b'r' => by_rows(word, &R_STEMS),
+        b's' => by_rows(word, &S_STEMS),
+        b't' => by_rows(word, &T_STEMS),
+        b'u' => by_rows(word, &U_STEMS),
+        b'w' => by_rows(word, &W_STEMS),
+        _ => None,
+    }
 }

@@ -1,4 +1,5 @@
 pub mod DigitLemmas
+pub mod DirectiveLemmas
 pub mod EvalLemmas
 mod KnownLemmas
 pub mod NameLemmas
@@ -6,6 +7,8 @@ pub mod OperandLemmas
 pub mod ParseLaws
 pub mod PlaceLemmas
 pub mod ReadingLemmas
+pub mod RegisterLemmas
+pub mod RowLemmas
 pub mod SayingLemmas
 pub mod Spelled
 pub mod StackLemmas

@@ -2,7 +2,7 @@
 use Rattle.std.proofs.Common.{◌≡◌, ℕ, suc, ◌<◌, ◌≤◌, ◌-◌, ◌+◌, List, [], ◌∷◌, ◌++◌, length, take, drop, get_or, Bool, true, false, refl, sym, ◌∙◌, ap, arith, cond, append_assoc, drop-cons, add-one, ◌==◌}
 use Rattle.std.specs.Prelude.{◌&&◌, codes}
 use Rattle.std.proofs.Math.Seq.{take-suc}
-use Rattle.std.proofs.lemmas.Bool.{cond-false}
+use Rattle.std.proofs.lemmas.Bool.{cond-false, and_right}
 use Rattle.asm_model.specs.declared.tokens.Token.{Token}
 use Rattle.asm_model.specs.Forms.{same}
 use Rattle.asm_model.specs.Parts.{piece}
@@ -48,3 +48,9 @@ one_deeper d w = by_tests (opens w) (closes w)
     by_tests true b = omega arith
     by_tests false true = omega arith
     by_tests false false = omega arith
+
+-- a word of two bytes or more is no sign
+pub long_sign : (word : List ℕ) (sign : ℕ) → 2 ≤ length word → same word (sign ∷ []) ≡ false
+long_sign [] sign h = absurd (omega arith)
+long_sign (c ∷ []) sign h = absurd (omega arith)
+long_sign (c ∷ d ∷ ds) sign h = and_right (c == sign) false refl

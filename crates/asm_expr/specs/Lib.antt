@@ -1,5 +1,6 @@
 -- What the clauses of the crate cite.
 pub mod AreaSteps
+pub mod Beginnings
 pub mod Evaluating
 pub mod Known
 pub mod Parsing

@@ -2,242 +2,145 @@
 
 ghost use Rattle.std.specs.Prelude.{◌≡◌};
 ghost use Rattle.asm_model.specs.Directives as directives;
+ghost use Rattle.asm_expr.specs.Beginnings.{BeginsWith};
 
-use asm_model::{DataItem, Directive, is_called};
+use crate::rows::row_of;
+use asm_model::{DataItem, Directive};
+
+/// Directives by the first letters of their names.
+static OF_A: [(&[u8], Directive); 3] = [
+    (b"ALIGN", Directive::Align),
+    (b"AREA", Directive::Area),
+    (b"ASSERT", Directive::Assert),
+];
+
+static OF_C: [(&[u8], Directive); 2] = [
+    (b"CODE16", Directive::Code16),
+    (b"CODE32", Directive::Code32),
+];
+
+static OF_D: [(&[u8], Directive); 7] = [
+    (b"DCD", Directive::Constants(DataItem::Word)),
+    (b"DCDU", Directive::Constants(DataItem::UnalignedWord)),
+    (b"DCW", Directive::Constants(DataItem::HalfWord)),
+    (b"DCB", Directive::Constants(DataItem::Byte)),
+    (b"DATA", Directive::Data),
+    (b"DCFS", Directive::FloatingPoint),
+    (b"DCFD", Directive::FloatingPoint),
+];
+
+static OF_E: [(&[u8], Directive); 7] = [
+    (b"ENTRY", Directive::Entry),
+    (b"END", Directive::End),
+    (b"EXPORT", Directive::Export),
+    (b"EXTERN", Directive::Extern),
+    (b"EQU", Directive::Equ),
+    (b"ELSE", Directive::Expansion),
+    (b"ENDIF", Directive::Expansion),
+];
+
+static OF_F: [(&[u8], Directive); 2] = [
+    (b"FIELD", Directive::Field),
+    (b"FN", Directive::FloatingPoint),
+];
+
+static OF_G: [(&[u8], Directive); 5] = [
+    (b"GLOBAL", Directive::Export),
+    (b"GBLA", Directive::Expansion),
+    (b"GBLL", Directive::Expansion),
+    (b"GBLS", Directive::Expansion),
+    (b"GET", Directive::Expansion),
+];
+
+static OF_I: [(&[u8], Directive); 3] = [
+    (b"IMPORT", Directive::Import),
+    (b"IF", Directive::Expansion),
+    (b"INCLUDE", Directive::Expansion),
+];
+
+static OF_K: [(&[u8], Directive); 1] = [(b"KEEP", Directive::Keep)];
+
+static OF_L: [(&[u8], Directive); 4] = [
+    (b"LTORG", Directive::Ltorg),
+    (b"LCLA", Directive::Expansion),
+    (b"LCLL", Directive::Expansion),
+    (b"LCLS", Directive::Expansion),
+];
+
+static OF_M: [(&[u8], Directive); 4] = [
+    (b"MAP", Directive::Map),
+    (b"MACRO", Directive::Expansion),
+    (b"MEND", Directive::Expansion),
+    (b"MEXIT", Directive::Expansion),
+];
+
+static OF_N: [(&[u8], Directive); 1] = [(b"NOFP", Directive::Nofp)];
+
+static OF_O: [(&[u8], Directive); 1] = [(b"OPT", Directive::Opt)];
+
+static OF_R: [(&[u8], Directive); 2] = [(b"RN", Directive::Rn), (b"ROUT", Directive::Rout)];
+
+static OF_S: [(&[u8], Directive); 5] = [
+    (b"SPACE", Directive::Space),
+    (b"SUBT", Directive::Subt),
+    (b"SETA", Directive::Expansion),
+    (b"SETL", Directive::Expansion),
+    (b"SETS", Directive::Expansion),
+];
+
+static OF_T: [(&[u8], Directive); 1] = [(b"TTL", Directive::Ttl)];
+
+static OF_W: [(&[u8], Directive); 2] = [
+    (b"WHILE", Directive::Expansion),
+    (b"WEND", Directive::Expansion),
+];
+
+/// Directives that are written as signs.
+static SIGNS: [(&[u8], Directive); 9] = [
+    (b"&", Directive::Constants(DataItem::Word)),
+    (b"=", Directive::Constants(DataItem::Byte)),
+    (b"%", Directive::Space),
+    (b"^", Directive::Map),
+    (b"#", Directive::Field),
+    (b"*", Directive::Equ),
+    (b"[", Directive::Expansion),
+    (b"|", Directive::Expansion),
+    (b"]", Directive::Expansion),
+];
 
 /// The directive that a word names, in any case; None where it names none.
-#[tactic(auto, unfolding(asm_model::specs::Directives::directive_named))]
+#[tactic(auto, using(crate::proofs::DirectiveLemmas::empty_named))]
 pub fn directive_named(word: &[u8]) -> Option<Directive>
     ensures { result ≡ directives.directive_named word.now }
 {
-    if let Some(directive) = named_data(word) {
-        return Some(directive);
-    }
-    if let Some(directive) = named_symbol(word) {
-        return Some(directive);
-    }
-    if let Some(directive) = named_report(word) {
-        return Some(directive);
-    }
-    if let Some(directive) = named_variable(word) {
-        return Some(directive);
-    }
-    named_structure(word)
+    let Some((first, _)) = word.split_first() else {
+        return None;
+    };
+    named_at(first.to_ascii_lowercase(), word)
 }
 
-/// Data and its place.
-#[tactic(auto, unfolding(asm_model::specs::Directives::named_data))]
-fn named_data(word: &[u8]) -> Option<Directive>
-    ensures { result ≡ directives.named_data word.now }
+/// The directive that a word names, by its first letter in lower case.
+fn named_at(letter: u8, word: &[u8]) -> Option<Directive>
+    requires { BeginsWith letter word.now }
+    ensures { result ≡ directives.directive_named word.now }
 {
-    if is_called(b"DCD", word) {
-        return Some(Directive::Constants(DataItem::Word));
+    match letter {
+        b'a' => row_of(word, &OF_A),
+        b'c' => row_of(word, &OF_C),
+        b'd' => row_of(word, &OF_D),
+        b'e' => row_of(word, &OF_E),
+        b'f' => row_of(word, &OF_F),
+        b'g' => row_of(word, &OF_G),
+        b'i' => row_of(word, &OF_I),
+        b'k' => row_of(word, &OF_K),
+        b'l' => row_of(word, &OF_L),
+        b'm' => row_of(word, &OF_M),
+        b'n' => row_of(word, &OF_N),
+        b'o' => row_of(word, &OF_O),
+        b'r' => row_of(word, &OF_R),
+        b's' => row_of(word, &OF_S),
+        b't' => row_of(word, &OF_T),
+        b'w' => row_of(word, &OF_W),
+        _ => row_of(word, &SIGNS),
     }
-    if is_called(b"&", word) {
-        return Some(Directive::Constants(DataItem::Word));
-    }
-    if is_called(b"DCDU", word) {
-        return Some(Directive::Constants(DataItem::UnalignedWord));
-    }
-    if is_called(b"DCW", word) {
-        return Some(Directive::Constants(DataItem::HalfWord));
-    }
-    if is_called(b"DCB", word) {
-        return Some(Directive::Constants(DataItem::Byte));
-    }
-    if is_called(b"=", word) {
-        return Some(Directive::Constants(DataItem::Byte));
-    }
-    if is_called(b"SPACE", word) {
-        return Some(Directive::Space);
-    }
-    if is_called(b"%", word) {
-        return Some(Directive::Space);
-    }
-    if is_called(b"ALIGN", word) {
-        return Some(Directive::Align);
-    }
-    if is_called(b"LTORG", word) {
-        return Some(Directive::Ltorg);
-    }
-    if is_called(b"DATA", word) {
-        return Some(Directive::Data);
-    }
-    if is_called(b"MAP", word) {
-        return Some(Directive::Map);
-    }
-    if is_called(b"^", word) {
-        return Some(Directive::Map);
-    }
-    if is_called(b"FIELD", word) {
-        return Some(Directive::Field);
-    }
-    if is_called(b"#", word) {
-        return Some(Directive::Field);
-    }
-    None
-}
-
-/// Areas, symbols and states.
-#[tactic(auto, unfolding(asm_model::specs::Directives::named_symbol))]
-fn named_symbol(word: &[u8]) -> Option<Directive>
-    ensures { result ≡ directives.named_symbol word.now }
-{
-    if is_called(b"AREA", word) {
-        return Some(Directive::Area);
-    }
-    if is_called(b"ENTRY", word) {
-        return Some(Directive::Entry);
-    }
-    if is_called(b"END", word) {
-        return Some(Directive::End);
-    }
-    if is_called(b"EXPORT", word) {
-        return Some(Directive::Export);
-    }
-    if is_called(b"GLOBAL", word) {
-        return Some(Directive::Export);
-    }
-    if is_called(b"IMPORT", word) {
-        return Some(Directive::Import);
-    }
-    if is_called(b"EXTERN", word) {
-        return Some(Directive::Extern);
-    }
-    if is_called(b"KEEP", word) {
-        return Some(Directive::Keep);
-    }
-    if is_called(b"EQU", word) {
-        return Some(Directive::Equ);
-    }
-    if is_called(b"*", word) {
-        return Some(Directive::Equ);
-    }
-    if is_called(b"RN", word) {
-        return Some(Directive::Rn);
-    }
-    if is_called(b"ROUT", word) {
-        return Some(Directive::Rout);
-    }
-    if is_called(b"CODE16", word) {
-        return Some(Directive::Code16);
-    }
-    if is_called(b"CODE32", word) {
-        return Some(Directive::Code32);
-    }
-    None
-}
-
-/// Reports, and floating-point data.
-#[tactic(auto, unfolding(asm_model::specs::Directives::named_report))]
-fn named_report(word: &[u8]) -> Option<Directive>
-    ensures { result ≡ directives.named_report word.now }
-{
-    if is_called(b"ASSERT", word) {
-        return Some(Directive::Assert);
-    }
-    if is_called(b"NOFP", word) {
-        return Some(Directive::Nofp);
-    }
-    if is_called(b"OPT", word) {
-        return Some(Directive::Opt);
-    }
-    if is_called(b"TTL", word) {
-        return Some(Directive::Ttl);
-    }
-    if is_called(b"SUBT", word) {
-        return Some(Directive::Subt);
-    }
-    if is_called(b"DCFS", word) {
-        return Some(Directive::FloatingPoint);
-    }
-    if is_called(b"DCFD", word) {
-        return Some(Directive::FloatingPoint);
-    }
-    if is_called(b"FN", word) {
-        return Some(Directive::FloatingPoint);
-    }
-    None
-}
-
-/// Variables.
-#[tactic(auto, unfolding(asm_model::specs::Directives::named_variable))]
-fn named_variable(word: &[u8]) -> Option<Directive>
-    ensures { result ≡ directives.named_variable word.now }
-{
-    if is_called(b"GBLA", word) {
-        return Some(Directive::Expansion);
-    }
-    if is_called(b"GBLL", word) {
-        return Some(Directive::Expansion);
-    }
-    if is_called(b"GBLS", word) {
-        return Some(Directive::Expansion);
-    }
-    if is_called(b"LCLA", word) {
-        return Some(Directive::Expansion);
-    }
-    if is_called(b"LCLL", word) {
-        return Some(Directive::Expansion);
-    }
-    if is_called(b"LCLS", word) {
-        return Some(Directive::Expansion);
-    }
-    if is_called(b"SETA", word) {
-        return Some(Directive::Expansion);
-    }
-    if is_called(b"SETL", word) {
-        return Some(Directive::Expansion);
-    }
-    if is_called(b"SETS", word) {
-        return Some(Directive::Expansion);
-    }
-    None
-}
-
-/// Conditions, loops, macros and files.
-#[tactic(auto, unfolding(asm_model::specs::Directives::named_structure))]
-fn named_structure(word: &[u8]) -> Option<Directive>
-    ensures { result ≡ directives.named_structure word.now }
-{
-    if is_called(b"IF", word) {
-        return Some(Directive::Expansion);
-    }
-    if is_called(b"[", word) {
-        return Some(Directive::Expansion);
-    }
-    if is_called(b"ELSE", word) {
-        return Some(Directive::Expansion);
-    }
-    if is_called(b"|", word) {
-        return Some(Directive::Expansion);
-    }
-    if is_called(b"ENDIF", word) {
-        return Some(Directive::Expansion);
-    }
-    if is_called(b"]", word) {
-        return Some(Directive::Expansion);
-    }
-    if is_called(b"WHILE", word) {
-        return Some(Directive::Expansion);
-    }
-    if is_called(b"WEND", word) {
-        return Some(Directive::Expansion);
-    }
-    if is_called(b"MACRO", word) {
-        return Some(Directive::Expansion);
-    }
-    if is_called(b"MEND", word) {
-        return Some(Directive::Expansion);
-    }
-    if is_called(b"MEXIT", word) {
-        return Some(Directive::Expansion);
-    }
-    if is_called(b"GET", word) {
-        return Some(Directive::Expansion);
-    }
-    if is_called(b"INCLUDE", word) {
-        return Some(Directive::Expansion);
-    }
-    None
 }

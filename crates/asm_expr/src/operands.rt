@@ -6,7 +6,7 @@ ghost use Rattle.asm_model.specs.Forms.{same};
 ghost use Rattle.asm_model.specs.Operands as operands;
 ghost use Rattle.asm_expr.specs.Steps.{IsComma, CutsOperands};
 
-use crate::parts::piece_of;
+use crate::parts::{is_sign, piece_of};
 use asm_model::{SharedText, Token};
 
 /// Whether a slice is a word.
@@ -19,25 +19,25 @@ pub fn is(piece: &[u8], word: &[u8]) -> bool
 fn opens(word: &[u8]) -> bool
     ensures { result ≡ operands.opens word.now }
 {
-    if is(word, b"(") {
+    if is_sign(word, b'(') {
         return true;
     }
-    if is(word, b"[") {
+    if is_sign(word, b'[') {
         return true;
     }
-    is(word, b"{")
+    is_sign(word, b'{')
 }
 
 fn closes(word: &[u8]) -> bool
     ensures { result ≡ operands.closes word.now }
 {
-    if is(word, b")") {
+    if is_sign(word, b')') {
         return true;
     }
-    if is(word, b"]") {
+    if is_sign(word, b']') {
         return true;
     }
-    is(word, b"}")
+    is_sign(word, b'}')
 }
 
 /// How many brackets are open behind a token.
@@ -60,7 +60,7 @@ fn cuts(depth: usize, word: &[u8]) -> bool
     ensures { result ≡ (depth == 0 && same word.now (codes ",")) }
 {
     if depth == 0 {
-        return is(word, b",");
+        return is_sign(word, b',');
     }
     false
 }

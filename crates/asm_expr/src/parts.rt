@@ -1,6 +1,6 @@
 //! What the tokens of a line are in an expression.
 
-ghost use Rattle.std.specs.Prelude.{◌≡◌, ◌^◌, ◌<◌, ◌-◌, ◌==◌, nat_lt, IfOk, length, take, drop, if◌then◌else◌, Some, None};
+ghost use Rattle.std.specs.Prelude.{◌≡◌, ◌∷◌, [], ◌^◌, ◌<◌, ◌-◌, ◌==◌, nat_lt, IfOk, length, take, drop, if◌then◌else◌, Some, None};
 ghost use Rattle.asm_model.specs.Forms.{same};
 ghost use Rattle.asm_model.specs.Parts as parts;
 
@@ -169,6 +169,17 @@ fn is(piece: &[u8], word: &[u8]) -> bool
     piece == word
 }
 
+/// Whether a slice is one byte, and this one.
+pub fn is_sign(piece: &[u8], sign: u8) -> bool
+    ensures { result ≡ same piece.now (sign ∷ []) }
+{
+    match piece {
+        [] => false,
+        [byte] => *byte == sign,
+        [_, _, ..] => false,
+    }
+}
+
 fn braced_part(alloc: Global, piece: &[u8]) -> Result<Part, NoMemory>
     ensures { IfOk result (λ part. part ≡ parts.braced_part piece.now) }
 {
@@ -294,31 +305,31 @@ fn worded_logic(piece: &[u8]) -> Part
 fn plain_part(piece: &[u8]) -> Part
     ensures { result ≡ parts.plain_part piece.now }
 {
-    if is(piece, b"(") {
+    if is_sign(piece, b'(') {
         return Part::Open;
     }
-    if is(piece, b")") {
+    if is_sign(piece, b')') {
         return Part::Close;
     }
-    if is(piece, b".") {
+    if is_sign(piece, b'.') {
         return Part::Operand(ExprItem::Here);
     }
-    if is(piece, b"@") {
+    if is_sign(piece, b'@') {
         return Part::Operand(ExprItem::Map);
     }
-    if is(piece, b"+") {
+    if is_sign(piece, b'+') {
         return Part::Sum(UnaryOp::Plus, BinaryOp::Add);
     }
-    if is(piece, b"-") {
+    if is_sign(piece, b'-') {
         return Part::Sum(UnaryOp::Minus, BinaryOp::Subtract);
     }
-    if is(piece, b"?") {
+    if is_sign(piece, b'?') {
         return Part::OfName(UnaryOp::Size);
     }
-    if is(piece, b"*") {
+    if is_sign(piece, b'*') {
         return Part::Infix(BinaryOp::Multiply);
     }
-    if is(piece, b"/") {
+    if is_sign(piece, b'/') {
         return Part::Infix(BinaryOp::Divide);
     }
     relation_part(piece)
@@ -328,7 +339,7 @@ fn plain_part(piece: &[u8]) -> Part
 fn relation_part(piece: &[u8]) -> Part
     ensures { result ≡ parts.relation_part piece.now }
 {
-    if is(piece, b"=") {
+    if is_sign(piece, b'=') {
         return Part::Infix(BinaryOp::Equal);
     }
     if is(piece, b"==") {
@@ -340,13 +351,13 @@ fn relation_part(piece: &[u8]) -> Part
     if is(piece, b"/=") {
         return Part::Infix(BinaryOp::NotEqual);
     }
-    if is(piece, b"<") {
+    if is_sign(piece, b'<') {
         return Part::Infix(BinaryOp::Less);
     }
     if is(piece, b"<=") {
         return Part::Infix(BinaryOp::LessEqual);
     }
-    if is(piece, b">") {
+    if is_sign(piece, b'>') {
         return Part::Infix(BinaryOp::Greater);
     }
     if is(piece, b">=") {

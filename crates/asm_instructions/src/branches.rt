@@ -28,7 +28,8 @@ use std::alloc::Global;
 /// An instruction of ARM state, or the kind of its fault, and the symbol that a branch leaves to the linker.
 pub type ArmUnit = (Result<ArmInstr, LineKind>, Option<SharedText>);
 
-/// What a branch holds, or the kind of its fault, and the symbol that it leaves to the linker.
+/// A branch's displacement in bytes modulo 2^32, or its field, or the kind of its fault; and the symbol that it leaves to the
+/// linker.
 pub type Lead = (Result<u32, LineKind>, Option<SharedText>);
 
 /// A displacement modulo 2^32 as the field of a branch.

@@ -80,7 +80,7 @@ pub fn may_have_symbol(entry: Option<&LaidName>, name: &SharedText) -> bool
     false
 }
 
-/// Whether a name that means this stands for a place, in an expression with nothing else too.
+/// Whether a name with this meaning stands for a place, also where it is all of an expression.
 fn is_symbolic(meaning: &Meaning) -> bool
     ensures { result ≡ lone.is_symbolic meaning.now }
 {

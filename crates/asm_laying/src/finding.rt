@@ -101,16 +101,18 @@ pub fn unsized_entry(
     ensures { IfOk result (λ entry. entry
         ≡ unsized_entry (labels.defined_by statement.now) location.now) }
 {
-    let defines = defined_by(statement);
-    own_entry(
-        alloc,
-        &defines,
-        location.area,
-        location.offset,
-        None,
-        location.thumb_label,
-        location.map,
-    )
+    match defined_by(statement) {
+        Defines::Unnamed => Ok(None),
+        defines => own_entry(
+            alloc,
+            &defines,
+            location.area,
+            location.offset,
+            None,
+            location.thumb_label,
+            location.map,
+        ),
+    }
 }
 
 /// What a statement at a location needs, behind the lines that define these names.

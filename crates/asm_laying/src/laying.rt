@@ -69,20 +69,17 @@ pub struct Ended {
     pub names: Option<KnownNames>,
 }
 
-/// The entry of a statement's own name, with its size: the statement's where it is a label.
-fn sized(statement: &Statement, own: Option<LaidName>, size: u32) -> Option<LaidName>
-    ensures { laying.Sizes (labels.defined_by statement.now) size own result }
+/// Gives the entry of a statement's own name its size: the statement's where it is a label.
+fn set_size(statement: &Statement, own: &mut Option<LaidName>, size: u32)
+    ensures { laying.Sizes (labels.defined_by statement.now) size own.old own.new }
 {
-    let Some(mut entry) = own else {
-        return None;
+    let Defines::Label(_) = defined_by(statement) else {
+        return;
     };
-    match defined_by(statement) {
-        Defines::Label(_) => {
-            entry.size = Some(size);
-            Some(entry)
-        }
-        _ => Some(entry),
-    }
+    let Some(entry) = own else {
+        return;
+    };
+    entry.size = Some(size);
 }
 
 /// Whether the value of each name for an expression is known, with one more.
@@ -101,18 +98,47 @@ fn names_if(all_known: bool, names: KnownNames) -> Option<KnownNames>
     None
 }
 
+/// The entry of a statement's own name, which is taken, where it has one.
+fn add_own(
+    alloc: Global,
+    names: &mut KnownNames,
+    own: &mut Option<LaidName>,
+) -> Result<(), NoMemory>
+    ensures { OnOk result (names.new ≡ names.old ++ one_entry own.old) }
+{
+    if own.is_none() {
+        return Ok(());
+    }
+    add_entry(alloc, names, own.take())
+}
+
+/// One entry more, where there is one. Most statements have none, and of an entry that isn't there nothing is moved.
+fn add_optional(
+    alloc: Global,
+    names: &mut KnownNames,
+    entry: Option<LaidName>,
+) -> Result<(), NoMemory>
+    ensures { OnOk result (names.new ≡ names.old ++ one_entry entry) }
+{
+    match entry {
+        None => Ok(()),
+        Some(entry) => add_entry(alloc, names, Some(entry)),
+    }
+}
+
 /// The names that a statement adds to those that are known.
 fn add_names(
     names: &mut KnownNames,
     alloc: Global,
     statement: &Statement,
-    own: Option<LaidName>,
+    own: &mut Option<LaidName>,
     equal: Option<LaidName>,
 ) -> Result<(), NoMemory>
-    ensures { OnOk result (names.new ≡ laying.with_entries names.old own equal statement.now) }
+    ensures { OnOk result
+        (names.new ≡ laying.with_entries names.old own.old equal statement.now) }
 {
-    add_entry(alloc, names, own)?;
-    add_entry(alloc, names, equal)?;
+    add_own(alloc, names, own)?;
+    add_optional(alloc, names, equal)?;
     add_imported(alloc, names, &statement.what)
 }
 
@@ -151,7 +177,7 @@ impl Laying {
         })
     }
 
-    /// Places a statement, and adds its names.
+    /// Places a statement, and adds its names, of which its own is taken out of `own`.
     fn put<'a>(
         &mut self,
         alloc: Global,
@@ -159,14 +185,14 @@ impl Laying {
         location: &StatementPlace,
         extent: Extent,
         map: u32,
-        own: Option<LaidName>,
+        own: &mut Option<LaidName>,
         equal: Equated,
         strings: Listed<bool>,
     ) -> Result<Result<LaidStatement<'a>, LineKind>, NoMemory>
         requires there { IsThere location.now.area self.old.areas.ends }
         requires extent { IsExtent (extent_of_code extent) }
         ensures { laying.Puts statement.now location.now (Ok extent)
-            (Ok map) own equal strings self.old self.new result }
+            (Ok map) own.old equal strings self.old self.new result }
     {
         let placed = self.areas.ends.place(location.area, extent)?;
         match placed {
@@ -175,7 +201,7 @@ impl Laying {
                 self.map = map;
                 let Equated { entry, known } = equal;
                 self.all_known = still_known(self.all_known, known);
-                let own = sized(statement, own, placed.size);
+                set_size(statement, own, placed.size);
                 add_names(&mut self.names, alloc, statement, own, entry)?;
                 Ok(Ok(LaidStatement {
                     line: PlacedLine {
@@ -198,14 +224,14 @@ impl Laying {
         location: &StatementPlace,
         extent: Extent,
         map: Result<u32, LineKind>,
-        own: Option<LaidName>,
+        own: &mut Option<LaidName>,
         equal: Equated,
         strings: Listed<bool>,
     ) -> Result<Result<LaidStatement<'a>, LineKind>, NoMemory>
         requires there { IsThere location.now.area self.old.areas.ends }
         requires extent { IsExtent (extent_of_code extent) }
         ensures { laying.Puts statement.now location.now
-            (Ok extent) map own equal strings self.old self.new result }
+            (Ok extent) map own.old equal strings self.old self.new result }
     {
         match map {
             Err(kind) => Ok(Err(kind)),
@@ -221,13 +247,13 @@ impl Laying {
         location: &StatementPlace,
         extent: Result<Extent, LineKind>,
         map: Result<u32, LineKind>,
-        own: Option<LaidName>,
+        own: &mut Option<LaidName>,
         equal: Equated,
         strings: Listed<bool>,
     ) -> Result<Result<LaidStatement<'a>, LineKind>, NoMemory>
         requires there { IsThere location.now.area self.old.areas.ends }
         requires extent { laying.OkExtent extent }
-        ensures { laying.Puts statement.now location.now extent map own equal strings
+        ensures { laying.Puts statement.now location.now extent map own.old equal strings
             self.old self.new result }
     {
         match extent {
@@ -269,7 +295,7 @@ impl Laying {
     {
         extents_are_placeable();
         let location = self.enter(alloc, statement)?;
-        let own = unsized_entry(alloc, statement, &location)?;
+        let mut own = unsized_entry(alloc, statement, &location)?;
         let found = find(
             alloc,
             &self.names,
@@ -286,7 +312,7 @@ impl Laying {
             strings,
         } = found;
         let placed = self.settle(
-            alloc, statement, &location, extent, map, own, equal, strings,
+            alloc, statement, &location, extent, map, &mut own, equal, strings,
         )?;
         Ok(LaidOutcome {
             area: location.area,

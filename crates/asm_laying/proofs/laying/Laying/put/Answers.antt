@@ -29,5 +29,5 @@ returns-in_ok-add_names-in-Ok c = λ d before reach found marked owned.
     (c.in_ok-add_names-in-Ok.ensures
     ∙ ap (λ (o : Option LaidName). c.args.self.now.names ++ one_entry o ++ one_entry c.args.equal.entry
     ++ imported_entries (imported_in c.args.statement.now.what))
-    (c.sized-own.ensures c.args.location.now.area c.args.location.now.offset c.args.location.now.map c.args.location.now.thumb_label owned))
+    (c.set_size.ensures c.args.location.now.area c.args.location.now.offset c.args.location.now.map c.args.location.now.thumb_label owned))
     c.still_known-self.ensures c.args.strings marked
