@@ -12,7 +12,7 @@ ghost use Rattle.asm_expand.specs.declared.steps.Next.TheVariants as next;
 ghost use Rattle.asm_expand.specs.Leading.{Caused, Closes, Gets, IsBadAt, IsDeeper, IsFault, IsGetOf, IsReadOf, IsRefusal, IsShallower, LedOn, OfFiles, Opens, OutermostEnd, RunsTo, RunsToGet, Smaller, Starts, weight};
 
 use crate::first_lines::read;
-use crate::kept::{NONE_KEPT, kept_with};
+use crate::kept::{NONE_KEPT, kept_behind};
 use crate::line_cursors::LineCursor;
 use crate::steps::{Depth, End, Frame, Next};
 use crate::turning::turn;
@@ -285,7 +285,7 @@ fn expand_lines<S: Store>(
             Err(fault) => return Err(fault),
             Ok(None) => return Ok(engine.state.flats),
             Ok(Some(after)) => {
-                kept = kept_with(kept, engine.state.flats.as_slice())?;
+                kept = kept_behind(kept, &after, engine.state.flats.as_slice())?;
                 next = after;
             }
         }

@@ -314,7 +314,8 @@ fn read_dollars(
     match substitute(alloc, &state.tables, text.as_slice())? {
         None => Ok(Next::Bad(at, LineKind::UnknownWord)),
         Some(bytes) => {
-            let flat = SharedText::from_vec(alloc, bytes)?;
+            // without the room that the bytes have to grow
+            let flat = SharedText::from_slice(alloc, bytes.as_slice())?;
             read_text(alloc, depth, state, at, &flat)
         }
     }

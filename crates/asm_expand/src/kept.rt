@@ -1,50 +1,57 @@
 //! How much expansion keeps.
 
-use asm_model::Flat;
+use crate::steps::{Frame, Next};
+use asm_model::{Flat, Line};
 use sdt_fault::NoMemory;
 
-/// How many bytes may be kept of flat lines, with the names of their files and of their labels.
+/// How many bytes may be kept of got files with their names, and of flat lines.
 const KEPT_BYTES: usize = 1 << 30;
 
-/// What was counted of flat lines.
+/// What was counted.
 #[derive(Clone, Copy, Debug)]
 pub struct Kept {
-    /// How many lines were counted.
+    /// How many flat lines.
     lines: usize,
-    /// How many bytes these have.
     bytes: usize,
 }
 
-/// No line was counted.
+/// Nothing was counted.
 pub const NONE_KEPT: Kept = Kept { lines: 0, bytes: 0 };
 
-/// How often a text is counted: twice more where it begins with a label, which labels and numbers keep too.
-fn copies_of(text: &[u8]) -> usize {
-    match text {
-        [b' ', ..] => 1,
-        [b'\t', ..] => 1,
-        _ => 3,
+/// How many bytes are counted of a file with these lines, which share one copy of its text: its name, and each line with
+/// the two bytes that may end it.
+fn file_bytes(lines: &[Line]) -> usize {
+    let Some(first) = lines.first() else {
+        return 0;
+    };
+    let mut bytes = first.source.as_text().as_slice().len();
+    'lines: for line in lines {
+        bytes = bytes
+            .saturating_add(line.text.as_slice().len())
+            .saturating_add(2);
+    }
+    bytes
+}
+
+/// How many bytes are counted of the file that a step got.
+fn got_bytes(next: &Next) -> usize {
+    match next {
+        Next::Under(Frame::File(_), first) => file_bytes(first.rest()),
+        _ => 0,
     }
 }
 
-/// How many bytes are counted of a flat line.
-fn bytes_of(flat: &Flat) -> usize {
-    let text = flat.text.as_slice();
-    let bytes = text.len().saturating_mul(copies_of(text));
-    bytes.saturating_add(flat.source.as_text().as_slice().len())
-}
-
-/// What is counted with the next of these lines, where there is one more. More than `KEPT_BYTES` count as want of memory.
-pub fn kept_with(kept: Kept, flats: &[Flat]) -> Result<Kept, NoMemory> {
-    let Some(flat) = flats.get(kept.lines) else {
-        return Ok(kept);
-    };
-    let bytes = kept.bytes.saturating_add(bytes_of(flat));
+/// What is counted behind a step: with the file that it got, and the next of these flat lines, where there is one more. More
+/// than `KEPT_BYTES` count as want of memory.
+pub fn kept_behind(kept: Kept, next: &Next, flats: &[Flat]) -> Result<Kept, NoMemory> {
+    let mut lines = kept.lines;
+    let mut bytes = kept.bytes.saturating_add(got_bytes(next));
+    if let Some(flat) = flats.get(lines) {
+        lines = lines.saturating_add(1);
+        bytes = bytes.saturating_add(flat.text.as_slice().len());
+    }
     if bytes > KEPT_BYTES {
         return Err(NoMemory);
     }
-    Ok(Kept {
-        lines: kept.lines.saturating_add(1),
-        bytes,
-    })
+    Ok(Kept { lines, bytes })
 }

@@ -1,4 +1,4 @@
-use Rattle.std.proofs.Common.{refl}
+use Rattle.std.proofs.Common.{refl, ◌∙◌}
 use Rattle.std.specs.Prelude.{Err}
 use Rattle.std.proofs.lemmas.Result.{IfOk-weaker}
 use Rattle.sdt_fault.specs.declared.kinds.LineKind.TheVariants.{UnknownWord}
@@ -19,5 +19,5 @@ returns-in_ok-flat-in-Some-clause-says c =
     let gives = rw (c.in-Some.is, c.as_slice.ensures) at c.in_ok-substitute.ensures in
     let given = gives s (record { globals = r.globals; locals = r.locals; arguments = r.arguments }) in
     let said = h sources s l ls a r in
-    rw given (rw c.in_ok-flat-in-Some.ensures at said))
+    rw given (rw (c.in_ok-flat-in-Some.ensures ∙ c.as_slice-in-Some.ensures.value) at said))
     c.read_text.ensures.says
