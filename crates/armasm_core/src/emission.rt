@@ -91,6 +91,50 @@ fn few_records(
     Ok(records)
 }
 
+/// The object of a layout whose lines share this, with these symbols; or the refusal of the first line whose values have a fault.
+fn object_with(
+    alloc: Global,
+    layout: &Layout<'_>,
+    whole: &SourceTables<'_>,
+    needed: &Symbols,
+) -> Result<Object, Fault>
+    requires said { AllLaidSaid layout.now.statements }
+    requires source { HasSymbols layout.now whole.now needed.now }
+    ensures emitted { (statements : Items Statement) → IsEmittable statements layout.now whole.now
+        → needed.now ≡ needs.symbols_of (final_names (laid statements)) (laid statements)
+        → IsEmitted statements result }
+    ensures few { IfOk result (λ o. length o.symbols < 2 ^ 24) }
+{
+    let symbols = few_records(alloc, layout, whole, needed)?;
+    let builds = grown(alloc, layout, whole, needed)?;
+    let areas = all_finished(alloc, builds)?;
+    Ok(Object {
+        areas,
+        symbols,
+        entry: entry_of(layout),
+    })
+}
+
+/// The same of a layout whose lines share this.
+fn object_over(
+    alloc: Global,
+    layout: &Layout<'_>,
+    whole: &SourceTables<'_>,
+) -> Result<Object, Fault>
+    requires said { AllLaidSaid layout.now.statements }
+    requires source { HasSource layout.now }
+    requires whole { (statements : Items Statement) → IsLayout statements layout.now
+        → AreSourceTables statements layout.now.areas whole.now }
+    ensures emitted { (statements : Items Statement) → IsEmittable statements layout.now whole.now
+        → IsEmitted statements result }
+    ensures few { IfOk result (λ o. length o.symbols < 2 ^ 24) }
+{
+    let needed = symbols_of(alloc, layout, whole)?;
+    let object = object_with(alloc, layout, whole, &needed);
+    drop(needed);
+    object
+}
+
 /// The object of a layout; or the refusal of the first line whose values have a fault.
 fn object_of(alloc: Global, layout: &Layout<'_>) -> Result<Object, Fault>
     requires said { AllLaidSaid layout.now.statements }
@@ -101,15 +145,9 @@ fn object_of(alloc: Global, layout: &Layout<'_>) -> Result<Object, Fault>
     ensures few { IfOk result (λ o. length o.symbols < 2 ^ 24) }
 {
     let whole = source_tables_of(alloc, layout)?;
-    let needed = symbols_of(alloc, layout, &whole)?;
-    let symbols = few_records(alloc, layout, &whole, &needed)?;
-    let builds = grown(alloc, layout, &whole, &needed)?;
-    let areas = all_finished(alloc, builds)?;
-    Ok(Object {
-        areas,
-        symbols,
-        entry: entry_of(layout),
-    })
+    let object = object_over(alloc, layout, &whole);
+    drop(whole);
+    object
 }
 
 /// The object of a layout. Refuses the first line whose operands, name, literal, EXPORT, KEEP or ASSERT have a fault.

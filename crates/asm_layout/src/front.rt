@@ -21,6 +21,13 @@ pub fn front_fault(alloc: Global, statements: &[Statement], count: usize) -> Res
     ensures { IsCleared (front_laid (reversed statements.now []) count) result }
 {
     let outline = outline_of(alloc, statements)?;
-    walked_front(alloc, &outline, statements, count)?;
-    Ok(())
+    let walked = walked_front(alloc, &outline, statements, count);
+    drop(outline);
+    match walked {
+        Ok(walk) => {
+            drop(walk);
+            Ok(())
+        }
+        Err(fault) => Err(fault),
+    }
 }

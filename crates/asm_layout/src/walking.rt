@@ -213,8 +213,13 @@ pub fn walked_front<'a>(
         match left {
             [] => return Ok(walk),
             [statement, rest @ ..] => {
-                walk.step(alloc, outline, statement)?;
-                left = rest;
+                match walk.step(alloc, outline, statement) {
+                    Ok(()) => left = rest,
+                    Err(fault) => {
+                        drop(walk);
+                        return Err(fault);
+                    }
+                }
             }
         }
     }

@@ -1,5 +1,4 @@
 use Rattle.std.proofs.Common.{◌-◌, ◌++◌, ◌∷◌, ◌∙◌, List, [], take, drop, length, sym, ap, subst}
-use Rattle.std.proofs.lemmas.Result.{err_from_is_err_and}
 use Rattle.base_lemmas.proofs.BaseLemmas.{rest_of}
 use Rattle.asm_model.specs.Laid.{reversed}
 use Rattle.asm_model.specs.Labels.{declared_names}
@@ -54,21 +53,18 @@ statements-preserved c =
     record {
       walked = c.statements.invariant.walked ++ x ∷ [];
       along = goes_along c.args.statements.now c.statements.invariant.walked x (more ++ behind) (left ++ behind) c.args.outline.now c.statements.walk
-          c.step.new.self c.step.result c.in_ok-step-in-len1-up.field-0 c.requires.outline
+          c.step.new.self c.step.result c.in-Ok.field-0 c.requires.outline
           (next_is c.args.statements.now c.args.count x more left (rest_of left x c.in-len1-up.len_at_least c.statement-item.is))
-          c.statements.invariant.along c.in_ok-step-in-len1-up.ensures;
+          c.statements.invariant.along c.in-Ok.ensures;
     }
 
-pub returns-in_err-step-in-len1-up : goal.returns-in_err-step-in-len1-up
-returns-in_err-step-in-len1-up c =
+pub returns-in-Err : goal.returns-in-Err
+returns-in-Err c =
     let left = c.statements.left.now in
     let x = c.statement-item.result in
     let more = take (length left - 1) (drop 1 left) in
-    let p = err_from_is_err_and c.from_residual-in_err-step-in-len1-up.result c.from_residual-in_err-step-in-len1-up.ensures.1 in
-    rw (p.1, p.2)
-    (told_front c.args.statements.now c.statements.invariant.walked x more left c.args.count c.args.outline.now c.statements.walk c.step.new.self
-    c.in_err-step-in-len1-up.field-0.0 c.requires.outline (rest_of left x c.in-len1-up.len_at_least c.statement-item.is) c.statements.invariant.along
-    c.in_err-step-in-len1-up.ensures)
+    told_front c.args.statements.now c.statements.invariant.walked x more left c.args.count c.args.outline.now c.statements.walk c.step.new.self
+    c.in-Err.fault c.requires.outline (rest_of left x c.in-len1-up.len_at_least c.statement-item.is) c.statements.invariant.along c.in-Err.ensures
 
 pub returns-in-empty : goal.returns-in-empty
 returns-in-empty c =
