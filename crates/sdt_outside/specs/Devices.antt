@@ -66,6 +66,12 @@ lines_of Quiet = record { irq = false; fiq = false }
 lines_of (TimerState period control count up) = record { irq = up; fiq = false }
 lines_of (UartState last number) = record { irq = false; fiq = false }
 
+-- a step of time changes nothing, and no line is up
+abbrev pub is_idle : DeviceState → Bool
+is_idle Quiet = true
+is_idle (TimerState period control count up) = not up && not (bit control 0 == 1 && not (period == 0))
+is_idle (UartState last number) = true
+
 -- where a device of this state stands: whole words, and as many as it has
 abbrev pub HasWords : DeviceState → ℕ → Type 0
 HasWords Quiet size = size ≡ size

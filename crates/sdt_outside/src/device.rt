@@ -47,7 +47,7 @@ pub struct Lines {
 pub trait Device: Drop {
     ghost use Rattle.std.specs.Prelude.{◌≡◌, ℕ};
     ghost use Rattle.sdt_outside.specs.declared.device.DeviceState.{DeviceState as State};
-    ghost use Rattle.sdt_outside.specs.Devices.{IsPlaced, IsWithin, answered, stored, ticked, lines_of};
+    ghost use Rattle.sdt_outside.specs.Devices.{IsPlaced, IsWithin, answered, stored, ticked, lines_of, is_idle};
 
     ghost base: { Self → ℕ };
 
@@ -83,6 +83,10 @@ pub trait Device: Drop {
         ensures state { state self.new ≡ ticked (state self.old) }
         ensures place { (base self.new ≡ base self.old) × (size self.new ≡ size self.old) }
         ensures touched { touched self.new ≡ touched self.old };
+
+    /// Whether a step of time changes nothing and raises no line.
+    fn is_idle(&self) -> bool
+        ensures { result ≡ is_idle (state self.now) };
 
     /// How many reads and writes there were.
     fn touches(&self) -> u64

@@ -55,6 +55,10 @@ impl Device for Silent {
         }
     }
 
+    fn is_idle(&self) -> bool {
+        true
+    }
+
     fn touches(&self) -> u64 {
         self.touches
     }

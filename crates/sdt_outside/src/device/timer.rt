@@ -109,6 +109,10 @@ impl Device for Timer {
         }
     }
 
+    fn is_idle(&self) -> bool {
+        !self.line_up && !(self.control % 2 == 1 && self.period != 0)
+    }
+
     fn touches(&self) -> u64 {
         self.touches
     }

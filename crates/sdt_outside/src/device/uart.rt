@@ -85,6 +85,10 @@ impl Device for Uart {
         }
     }
 
+    fn is_idle(&self) -> bool {
+        true
+    }
+
     fn touches(&self) -> u64 {
         self.touches
     }
