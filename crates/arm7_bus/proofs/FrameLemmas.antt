@@ -42,6 +42,12 @@ rest_made xs ys n at k le e =
     let size : length ys ≡ k = ap length e ∙ length-take-le k (drop at xs) (omega arith) in
     e ∙ sym (ap (λ (m : ℕ). take m (drop at (xs ++ replicate n 0))) size ∙ ap (take k) d ∙ take-append-le k (drop at xs) (replicate n 0) (omega arith))
 
+pub part_made : (xs : List ℕ) (n at k : ℕ) → at < length xs → length xs % 4096 ≡ 0 → at % 4096 + k ≤ 4096 → take k (drop at xs) ≡ take k (drop at (xs ++ replicate n 0))
+part_made xs n at k lt w le =
+    let d = drop-append-le at xs (replicate n 0) (omega arith) in
+    let l = length-drop at xs in
+    sym (ap (take k) d ∙ take-append-le k (drop at xs) (replicate n 0) (omega arith))
+
 zeros : (k m : ℕ) → number_of (take k (replicate m 0)) ≡ 0
 zeros zero m = refl
 zeros (suc k) zero = refl

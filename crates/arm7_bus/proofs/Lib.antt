@@ -3,13 +3,17 @@ pub mod BlockSteps
 pub mod ClaimLemmas
 pub mod EdgeLemmas
 pub mod FrameLemmas
+pub mod IdleLemmas
 pub mod LookupLemmas
 pub mod MeetLemmas
+pub mod NoteLemmas
 pub mod PagingLemmas
 pub mod PickLemmas
 pub mod PieceLemmas
 pub mod ProtectLemmas
 pub mod SeatLemmas
+pub mod StoreLemmas
 pub mod TestLemmas
 pub mod TickLemmas
+pub mod WindowLemmas
 pub mod WriteLemmas

@@ -119,13 +119,17 @@ meet_kept r (b ∷ bs) a = rw (range_kept r b, has_kept r bs a, meet_kept r bs a
 pub apart_kept : (r : Range32) (bs : List Bank) → AreApartBanks bs → AreApartBanks (map (protected_bank r) bs)
 apart_kept r bs p = record { none = λ a. meet_kept r bs a ∙ p.none a }
 
-pub apart_protected : (r : Range32) (bs new : List Bank) (n : ℕ) → AreApartBanks bs → new ≡ map (protected_bank r) bs → n ≡ length bs
-    → AreApartBanks (take n (new ++ drop (length new) bs))
-apart_protected r bs new n p e len =
+pub protected_items : (r : Range32) (bs new : List Bank) (n : ℕ) → new ≡ map (protected_bank r) bs → n ≡ length bs
+    → take n (new ++ drop (length new) bs) ≡ map (protected_bank r) bs
+protected_items r bs new n e len =
     let k : length new ≡ length bs = ap length e ∙ length-map bs (protected_bank r) in
     let none : drop (length new) bs ≡ [] = ap (λ (i : ℕ). drop i bs) k ∙ drop-length bs in
     let whole : take n (new ++ drop (length new) bs) ≡ new = ap (λ (xs : List Bank). take n (new ++ xs)) none ∙ ap (take n) (append-nil new) ∙ take_all n new (omega arith) in
-    subst (λ (xs : List Bank). AreApartBanks xs) (sym (whole ∙ e)) (apart_kept r bs p)
+    whole ∙ e
+
+pub apart_protected : (r : Range32) (bs new : List Bank) (n : ℕ) → AreApartBanks bs → new ≡ map (protected_bank r) bs → n ≡ length bs
+    → AreApartBanks (take n (new ++ drop (length new) bs))
+apart_protected r bs new n p e len = subst (λ (xs : List Bank). AreApartBanks xs) (sym (protected_items r bs new n e len)) (apart_kept r bs p)
 
 -- where the lesser of two is nowhere, the first is
 pub nowhere_first : (p : ℕ → Bool) (o u w : Option ℕ) → IsFound p o → w ≡ lesser_of o u → w ≡ None → IsNowhere p

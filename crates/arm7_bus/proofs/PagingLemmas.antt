@@ -79,7 +79,7 @@ load_none table bytes a n inside is =
     load_zeros (memory_in table bytes) a n (λ k lt. memory_at table bytes a k (omega arith) ∙ ap (byte_of bytes (a % 4096 + k)) is)
 
 -- ---- a page takes a frame
-same_or_not : (x a : ℕ) → (x ≡ a) ⊎ (x ≢ a)
+pub same_or_not : (x a : ℕ) → (x ≡ a) ⊎ (x ≢ a)
 same_or_not x a = go (x == a) refl
   where
     go : (b : Bool) → (x == a) ≡ b → (x ≡ a) ⊎ (x ≢ a)

@@ -4,7 +4,7 @@ use Rattle.std.specs.Prelude.{count_ones, min, slice_index}
 use Rattle.std.specs.Int.{trailing_zeros, w32}
 use Rattle.std.specs.Int.Bits.{bit_and, and_step, and_self}
 use Rattle.std.specs.Int.Count.{count_trailing_zeros, ones_step}
-use Rattle.std.proofs.lemmas.Nat.{and_le_l, mod-pow-add, ones_le_self}
+use Rattle.std.proofs.lemmas.Nat.{and_le_l, and_le_r, mod-pow-add, ones_le_self}
 use Rattle.std.proofs.Math.Nat.{div-div-eq-div-mul, pow-suc}
 use Rattle.std.proofs.Math.Seq.{drop-append-add, take-append_seam}
 use Rattle.std.proofs.lemmas.List.{drop-drop, length-append}
@@ -103,24 +103,28 @@ place_few v some fits = place_below 32 16 v (omega arith) some fits
 pub rest_few : (v : ℕ) → v < 65536 → bit_and v (v - 1) < 65536
 rest_few v fits = let le = and_le_l v (v - 1) in omega arith
 
-pub rest_count : (v n : ℕ) → 0 < v → v < 65536 → n ≡ length (registers 16 v) → n ≡ suc (length (registers 16 (bit_and v (v - 1))))
-rest_count v n some fits e = e ∙ ap length (first_picked v some fits)
-
 pub count_picked : (v : ℕ) → v < 65536 → length (registers 16 v) ≡ count_ones v
 count_picked v fits = ap length (whole v) ∙ counted 16 0 v fits
 
 pub low_picked : (v : ℕ) → registers 16 (v % 65536) ≡ registers 16 v
 low_picked v = whole (v % 65536) ∙ low 16 0 v ∙ sym (whole v)
 
-some_left : (v n : ℕ) → (n ≡ 0 → ⊥) → n ≡ length (registers 16 v) → 0 < v
-some_left zero n h e = absurd (h e)
-some_left (suc v) n h e = omega arith
+pub above : (v : ℕ) → (v ≡ 0 → ⊥) → 0 < v
+above zero h = absurd (h refl)
+above (suc v) h = omega arith
 
-pub place_in : (v n : ℕ) → (n ≡ 0 → ⊥) → v < 65536 → n ≡ length (registers 16 v) → trailing_zeros w32 v < 16
-place_in v n some fits e = place_few v (some_left v n some e) fits
+pub place_in : (v : ℕ) → (v ≡ 0 → ⊥) → v < 65536 → trailing_zeros w32 v < 16
+place_in v some fits = place_few v (above v some) fits
 
-pub rest_counted : (v n : ℕ) → (n ≡ 0 → ⊥) → v < 65536 → n ≡ length (registers 16 v) → n - 1 ≡ length (registers 16 (bit_and v (v - 1)))
-rest_counted v n some fits e = let x = rest_count v n (some_left v n some e) fits e in omega arith
+-- there are four bytes less for the others
+pub rest_room : (v at size : ℕ) → (v ≡ 0 → ⊥) → v < 65536 → at + 4 * length (registers 16 v) ≤ size → at + 4 + 4 * length (registers 16 (bit_and v (v - 1))) ≤ size
+rest_room v at size some fits room = let count = ap length (first_picked v (above v some) fits) in omega arith
+
+pub first_room : (v at size : ℕ) → (v ≡ 0 → ⊥) → v < 65536 → at + 4 * length (registers 16 v) ≤ size → at + 4 ≤ size
+first_room v at size some fits room = let more = rest_room v at size some fits room in omega arith
+
+pub rest_less : (v : ℕ) → (v ≡ 0 → ⊥) → bit_and v (v - 1) < v
+rest_less v some = let le = and_le_r v (v - 1) in let more = above v some in omega arith
 
 -- ---- bytes that are written one after the other
 
@@ -142,13 +146,13 @@ picked_length words [] = refl
 picked_length words (k ∷ ks) =
     omega (arith, length-append (bytes_of (slice_index words k) 4) (picked_bytes words ks), picked_length words ks, length-bytes_of (slice_index words k) 4)
 
-pub picked_first : (words old mid new : List ℕ) (v n at w : ℕ) → (n ≡ 0 → ⊥) → v < 65536 → n ≡ length (registers 16 v) → at ≤ length old → w ≡ slice_index words (trailing_zeros w32 v)
+pub picked_first : (words old mid new : List ℕ) (v at w : ℕ) → (v ≡ 0 → ⊥) → v < 65536 → at ≤ length old → w ≡ slice_index words (trailing_zeros w32 v)
     → mid ≡ written old at (bytes_of w 4) → new ≡ written mid (at + 4) (picked_bytes words (registers 16 (bit_and v (v - 1))))
     → new ≡ written old at (picked_bytes words (registers 16 v))
-picked_first words old mid new v n at w some fits count le e f g =
+picked_first words old mid new v at w some fits le e f g =
     g ∙ ap (λ (ys : List ℕ). written ys (at + 4) (picked_bytes words (registers 16 (bit_and v (v - 1))))) (f ∙ ap (λ (x : ℕ). written old at (bytes_of x 4)) e)
     ∙ written_more old (bytes_of (slice_index words (trailing_zeros w32 v)) 4) (picked_bytes words (registers 16 (bit_and v (v - 1)))) at le
-    ∙ ap (λ (ks : List ℕ). written old at (picked_bytes words ks)) (sym (first_picked v (some_left v n some count) fits))
+    ∙ ap (λ (ks : List ℕ). written old at (picked_bytes words ks)) (sym (first_picked v (above v some) fits))
 
 -- ---- words that are noted one after the other
 

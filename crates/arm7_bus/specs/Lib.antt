@@ -2,6 +2,7 @@ pub mod Blocks
 pub mod Buses
 pub mod Lookups
 pub mod Meets
+pub mod Notes
 pub mod Overlaps
 pub mod Paging
 pub mod Picked
@@ -13,3 +14,4 @@ pub mod Seats
 pub mod States
 pub mod Touches
 pub mod WholeWords
+pub mod Windows

@@ -4,6 +4,15 @@ use Rattle.std.specs.List.{list_any}
 use Rattle.arm7_bus.specs.declared.memory.Bank.{Bank}
 use Rattle.arm7_bus.specs.Seats.{has_access}
 
+-- one bank has the whole access of n bytes at a
+abbrev pub bank_has : List Bank → ℕ → ℕ → Bool
+bank_has banks a n = list_any (λ b. has_access b.range.base b.range.size a n) banks
+
+-- each of the stores lies in a bank
+abbrev pub lie_in_banks : List Bank → List (ℕ × ℕ) → Bool
+lie_in_banks banks [] = true
+lie_in_banks banks ((a, n) ∷ stores) = bank_has banks a n && lie_in_banks banks stores
+
 -- a bank and a later one have the address
 abbrev pub banks_meet : List Bank → ℕ → Bool
 banks_meet [] a = false

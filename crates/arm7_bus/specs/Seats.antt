@@ -1,10 +1,10 @@
 -- Devices as the bus sees them: each in its place, with its state. This project's.
-use Rattle.std.specs.Prelude.{ℕ, zero, suc, ◌+◌, ◌-◌, Bool, false, nat_le, ◌&&◌, ◌||◌, if◌then◌else◌, List, [], ◌∷◌, Option, Some, None, map, find, option_map}
+use Rattle.std.specs.Prelude.{ℕ, zero, suc, ◌+◌, ◌-◌, Bool, true, false, nat_le, ◌&&◌, ◌||◌, if◌then◌else◌, List, [], ◌∷◌, Option, Some, None, map, find, option_map}
 use Rattle.sdt_word.specs.declared.codes.Width.{Width}
 use Rattle.sdt_outside.specs.declared.device.DeviceState.{DeviceState}
 use Rattle.sdt_outside.specs.declared.device.Lines.{Lines}
 use Rattle.sdt_outside.specs.Counts.{counted}
-use Rattle.sdt_outside.specs.Devices.{answered, stored, ticked, lines_of}
+use Rattle.sdt_outside.specs.Devices.{answered, stored, ticked, lines_of, is_idle}
 
 -- a device in its place: the range of its addresses, its state, and the count of accesses that touched it
 pub record Seat : Type 0 where
@@ -55,6 +55,11 @@ seat_answer a width d = answered d.state (a - d.base) width
 abbrev pub lines_up : List Seat → Lines
 lines_up [] = record { irq = false; fiq = false }
 lines_up (d ∷ ds) = record { irq = (lines_of d.state).irq || (lines_up ds).irq; fiq = (lines_of d.state).fiq || (lines_up ds).fiq }
+
+-- a step of time changes none of them, and none raises a line
+abbrev pub are_idle : List Seat → Bool
+are_idle [] = true
+are_idle (d ∷ ds) = is_idle d.state && are_idle ds
 
 -- the device at a place takes a step, and the lines that it raises
 abbrev pub ticked_at : ℕ → List Seat → List Seat

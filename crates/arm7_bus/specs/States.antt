@@ -1,6 +1,6 @@
 -- What the bus is to those who call it: banks of memory with one map of bytes, pages of which some are used, the stores
 -- since the last tick, and devices in their seats. This project's.
-use Rattle.std.specs.Prelude.{◌≡◌, ℕ, zero, suc, ◌+◌, ◌-◌, ◌/◌, Bool, true, false, nat_lt, ◌&&◌, ◌||◌, if◌then◌else◌, List, [], ◌∷◌, ◌++◌, Option, Some, None, Result, Ok, Err, length, map, take, min, slice_set, slice_index_or}
+use Rattle.std.specs.Prelude.{◌≡◌, ℕ, zero, suc, ◌+◌, ◌-◌, ◌/◌, Bool, true, false, nat_lt, ◌&&◌, ◌||◌, if◌then◌else◌, List, [], ◌∷◌, ◌++◌, Option, Some, None, Result, Ok, Err, length, min, slice_set, slice_index_or}
 use Rattle.std.specs.List.{list_any}
 use Rattle.sdt_word.specs.declared.codes.Width.{Width}
 use Rattle.sdt_word.specs.Bytes.{bytes_of}
@@ -10,8 +10,9 @@ use Rattle.arm7_bus.specs.declared.memory.Bank.{Bank}
 use Rattle.arm7_bus.specs.declared.memory.Memory.{Memory}
 use Rattle.arm7_bus.specs.declared.memory.BusFault.{BusFault}
 use Rattle.arm7_bus.specs.declared.memory.BusFault.TheVariants.{NoFrame, ReadOnly}
+pub use Rattle.arm7_bus.specs.Lookups.{bank_has, lie_in_banks}
 use Rattle.arm7_bus.specs.Paging.{memory_in, used_in, page_used_in, used_count}
-use Rattle.arm7_bus.specs.Places.{place_of}
+use Rattle.arm7_bus.specs.Notes.{noted_in}
 use Rattle.arm7_bus.specs.Touches.{pages_touched}
 use Rattle.arm7_bus.specs.Seats.{Seat, has_access}
 
@@ -29,10 +30,6 @@ pub record State : Type 0 where
   pub devices : List Seat
 
 -- ---- banks
--- one bank has the whole access of n bytes at a
-abbrev pub bank_has : List Bank → ℕ → ℕ → Bool
-bank_has banks a n = list_any (λ b. has_access b.range.base b.range.size a n) banks
-
 -- the byte at a is protected
 abbrev pub protected_at : List Bank → ℕ → Bool
 protected_at banks a = list_any (λ b. b.read_only && has_access b.range.base b.range.size a 1) banks
@@ -77,7 +74,7 @@ contents_of m = record {
   memory = memory_in m.pages.table.items m.pages.frames;
   used = used_in m.pages.table.items;
   frames = m.pages.room;
-  stores = map place_of (take m.stores.count m.stores.list);
+  stores = noted_in m.stores;
 }
 
 -- the answer to a store, and what it leaves: the memory as it was where there is a fault

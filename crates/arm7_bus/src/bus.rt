@@ -7,14 +7,14 @@ ghost use Rattle.sdt_word.specs.Numbers.{registers};
 ghost use Rattle.arm7_bus.specs.Paging.{page_used_in, used_count};
 ghost use Rattle.arm7_bus.specs.Picked.{IsPicked};
 ghost use Rattle.arm7_bus.specs.Picks.{picked_bytes};
-ghost use Rattle.arm7_bus.specs.Pieces.{IsPiece};
+ghost use Rattle.arm7_bus.specs.Pieces.{IsPart, IsPiece};
 ghost use Rattle.arm7_bus.specs.Places.{place_of};
-ghost use Rattle.arm7_bus.specs.Seats.{lines_up, seats_by};
+ghost use Rattle.arm7_bus.specs.Seats.{are_idle, lines_up, seats_by};
 ghost use Rattle.std.specs.Prelude.{◌↔◌, IsOk, OnOk, OnErr};
 ghost use Rattle.std.specs.Prelude.{true, false};
-ghost use Rattle.arm7_bus.specs.States.{IsStart, bank_has, is_protected, peeked, store_answer};
+ghost use Rattle.arm7_bus.specs.States.{IsStart, bank_has, lie_in_banks, is_protected, peeked, store_answer};
 ghost use Rattle.arm7_bus.specs.Buses.{bus_state, IsStarted, has_whole, read_answer, after_read, write_fault, after_write, after_bank, after_claim, after_forget, after_protect, after_tick, after_detach};
-ghost use Rattle.std.specs.Prelude.{take, ℕ, ◌≤◌, IfOk, IfErr};
+ghost use Rattle.std.specs.Prelude.{take, ℕ, ◌≤◌, IfOk, IfErr, IfSome};
 ghost use Rattle.arm7_bus.specs.Buses.{IsNew, needs_page};
 ghost use Rattle.arm7_bus.specs.WholeWords.{IsWhole, AreWholeSeats};
 ghost use Rattle.arm7_bus.specs.Overlaps.{IsBankFault, range_shares};
@@ -22,7 +22,8 @@ ghost use Rattle.arm7_bus.specs.Meets.{IsLeast, IsNowhere, seats_share};
 
 use crate::devices;
 use crate::meets::lesser;
-use crate::memory::{BusFault, Memory, Stores};
+use crate::memory::{BusFault, Memory};
+use crate::notes::Stores;
 use sdt_fault::NoMemory;
 use sdt_fault::answer::Fault;
 use sdt_fault::refusal::Refusal;
@@ -109,6 +110,32 @@ impl Bus {
         }
     }
 
+    /// The same, mostly by the window of the last fetch.
+    #[inline(always)]
+    pub fn fetch(&mut self, a: u32, w: Width) -> Result<u32, Absent>
+        requires started { IsStarted (bus_state base size state touched self.old) }
+        requires aligned { a % bytes_in w ≡ 0 }
+        ensures answer { result_ok result ≡ read_answer (bus_state base size state touched self.old) a w }
+        ensures after { bus_state base size state touched self.new ≡ after_read (bus_state base size state touched self.old) a w }
+    {
+        if self.memory.in_window(a) {
+            return Ok(self.memory.read_window(a, w));
+        }
+        self.fetch_anew(a, w)
+    }
+
+    #[inline(never)]
+    fn fetch_anew(&mut self, a: u32, w: Width) -> Result<u32, Absent>
+        requires started { IsStarted (bus_state base size state touched self.old) }
+        requires aligned { a % bytes_in w ≡ 0 }
+        ensures answer { result_ok result ≡ read_answer (bus_state base size state touched self.old) a w }
+        ensures after { bus_state base size state touched self.new ≡ after_read (bus_state base size state touched self.old) a w }
+    {
+        let answer = self.read(a, w);
+        self.memory.move_window(a);
+        answer
+    }
+
     /// Writes the low bytes of a value to memory or to a device.
     #[inline(always)]
     pub fn write(&mut self, a: u32, w: Width, v: u32) -> Result<(), BusFault>
@@ -160,6 +187,17 @@ impl Bus {
         ensures { IsPiece (bus_state base size state touched self.now).contents a result.now }
     {
         self.memory.piece(a)
+    }
+
+    /// The `n` bytes from an address on, without a search; None where the bank that was used last or one page hasn't all of
+    /// them, or they aren't made yet. No device is touched.
+    #[inline(always)]
+    pub fn last_part(&self, a: u32, n: u32) -> Option<&[u8]>
+        requires started { IsStarted (bus_state base size state touched self.now) }
+        requires few { n ≤ 64 }
+        ensures { IfSome result (λ part. IsPart (bus_state base size state touched self.now).contents a n part.now) }
+    {
+        self.memory.last_part(a, n)
     }
 
     /// Whether a byte of the access is protected.
@@ -214,7 +252,7 @@ impl Bus {
     pub fn last_stores(&self) -> Stores
         ensures { map place_of (take result.count result.list) ≡ (bus_state base size state touched self.now).contents.stores }
     {
-        self.memory.stores
+        self.memory.last_stores()
     }
 
     /// No store since the last tick is noted any more.
@@ -275,6 +313,42 @@ impl Bus {
         self.memory.forget_stores();
         self.memory.pages.frames.are_bytes();
         devices::tick(&mut self.devices)
+    }
+
+    /// Whether no step of time changes a device or raises a line, as long as nothing is written to one.
+    #[inline(never)]
+    pub fn is_idle(&self) -> bool
+        ensures { result ≡ are_idle (bus_state base size state touched self.now).devices }
+    {
+        devices::are_idle(&self.devices)
+    }
+
+    /// The same step of time, told whether the devices are idle; then none of them is asked.
+    #[inline(always)]
+    #[tactic(auto, using(crate::proofs::PagingLemmas::memory_small, crate::proofs::IdleLemmas::seats_same, crate::proofs::IdleLemmas::no_lines))]
+    pub fn tick_knowing(&mut self, idle: bool) -> Lines
+        requires idle { idle ≡ true → are_idle (bus_state base size state touched self.old).devices ≡ true }
+        ensures lines { result ≡ lines_up (bus_state base size state touched self.new).devices }
+        ensures after { bus_state base size state touched self.new ≡ after_tick (bus_state base size state touched self.old) }
+        ensures bytes { (a : ℕ) → (bus_state base size state touched self.new).contents.memory a < 256 }
+    {
+        if !idle {
+            return self.tick();
+        }
+        self.memory.forget_stores();
+        self.memory.pages.frames.are_bytes();
+        Lines {
+            irq: false,
+            fiq: false,
+        }
+    }
+
+    /// Whether each store since the last tick was one to memory.
+    #[inline(always)]
+    pub fn kept_to_banks(&self) -> bool
+        ensures { result ≡ true → lie_in_banks (bus_state base size state touched self.now).contents.banks (bus_state base size state touched self.now).contents.stores ≡ true }
+    {
+        self.memory.kept_to_banks()
     }
 
     /// Takes a device out of the list; the later ones move up by one.

@@ -3,11 +3,11 @@
 ghost use Rattle.std.specs.Prelude.{is_some, IfSome, false, ◌≡◌, ◌<◌, ◌≤◌, ◌+◌, ◌-◌, ◌%◌, ◌^◌, ◌||◌, ℕ, length, map, true, position, IsTrue, vec_len, option_map, slice_get};
 ghost use Rattle.sdt_word.specs.Codes.{bytes_in};
 ghost use Rattle.sdt_outside.specs.Counts.{counted};
-ghost use Rattle.sdt_outside.specs.Devices.{answered, stored, ticked, lines_of};
+ghost use Rattle.sdt_outside.specs.Devices.{answered, stored, ticked, lines_of, is_idle};
 ghost use Rattle.std.specs.Prelude.{◌&&◌};
 ghost use Rattle.arm7_bus.specs.Meets.{IsFound, seats_have, seats_share};
 ghost use Rattle.arm7_bus.specs.WholeWords.{IsWhole, AreWholeSeats};
-ghost use Rattle.arm7_bus.specs.Seats.{first_place, has_access, seats_by, device_at, changed_at, seat_read, seat_written, seat_answer, seat_ticked, ticked_at, lines_at, lines_up};
+ghost use Rattle.arm7_bus.specs.Seats.{first_place, has_access, seats_by, device_at, changed_at, seat_read, seat_written, seat_answer, seat_ticked, ticked_at, lines_at, lines_up, are_idle};
 
 use crate::meets::{first_shared, lesser};
 use crate::memory::range_has;
@@ -100,6 +100,25 @@ fn tick_each(devices: &mut Vec<Box<dyn Device>>) -> Lines
         lines = joined(lines, tick_at(devices, i));
     }
     lines
+}
+
+fn device_idle(device: &Box<dyn Device>) -> bool
+    ensures { result ≡ is_idle (state device.now) }
+{
+    device.is_idle()
+}
+
+/// Whether no step of time changes a device, and none raises a line.
+pub fn are_idle(devices: &[Box<dyn Device>]) -> bool
+    ensures { result ≡ are_idle (seats_by base size state touched devices.now) }
+{
+    let [first, rest @ ..] = devices else {
+        return true;
+    };
+    if !device_idle(first) {
+        return false;
+    }
+    are_idle(rest)
 }
 
 fn joined(a: Lines, b: Lines) -> Lines

@@ -1,6 +1,6 @@
 //! The bytes of memory, frame after frame.
 
-ghost use Rattle.std.specs.Prelude.{◌≡◌, ℕ, ◌<◌, ◌≤◌, ◌+◌, ◌*◌, ◌%◌, List, [], ◌++◌, length, take, drop, replicate, slice_index, IfOk};
+ghost use Rattle.std.specs.Prelude.{◌≡◌, ℕ, ◌<◌, ◌≤◌, ◌+◌, ◌*◌, ◌%◌, List, [], ◌++◌, length, take, drop, replicate, slice_index, IfOk, IfSome};
 ghost use Rattle.sdt_word.specs.Bytes.{bytes_of, number_of, written};
 ghost use Rattle.sdt_word.specs.Codes.{bytes_in};
 ghost use Rattle.sdt_word.specs.Numbers.{registers};
@@ -80,6 +80,15 @@ impl Frames {
         rest_of(&self.block, self.left, at as usize)
     }
 
+    /// The `n` bytes from a place of a frame on; None where they aren't made yet.
+    #[inline(always)]
+    pub fn part(&self, at: u32, n: u32) -> Option<&[u8]>
+        requires { at % 4096 + n ≤ 4096 }
+        ensures { IfSome result (λ part. part.now ≡ take n (drop at self.now)) }
+    {
+        part_of(&self.block, self.left, at as usize, n as usize)
+    }
+
     /// The bytes of an access, as a number.
     #[inline(always)]
     pub fn read(&self, at: u32, width: Width) -> u32
@@ -103,18 +112,17 @@ impl Frames {
         put(&mut self.block, at, width, v);
     }
 
-    /// Sets the `n` words from a place of a frame on to those of a table at the places where `list` has a 1.
+    /// Sets the words from a place of a frame on to those of a table at the places where `list` has a 1.
     #[inline(always)]
-    pub fn write_picked(&mut self, at: u32, words: &[u32; 16], list: u32, n: u32)
+    pub fn write_picked(&mut self, at: u32, words: &[u32; 16], list: u32)
         requires few { list < 65536 }
-        requires counted { n ≡ length (registers 16 list) }
-        requires within { at % 4096 + 4 * n ≤ 4096 }
+        requires within { at % 4096 + 4 * length (registers 16 list) ≤ 4096 }
         requires inside { at < length self.old }
         ensures { self.new ≡ written self.old at (picked_bytes words.now (registers 16 list)) }
     {
         let at = at as usize;
         self.left = zeros_to(&mut self.block, self.left, at);
-        put_picked(&mut self.block, at, words, list, n);
+        put_picked(&mut self.block, at, words, list);
     }
 }
 
@@ -141,6 +149,20 @@ fn rest_of(block: &Block, _left: usize, at: usize) -> &[u8]
         return &[];
     }
     block.slice(at, 4096 - at % 4096)
+}
+
+/// The `n` bytes from a place of a frame on, where `_left` zeros follow the bytes; None where they are among those.
+#[inline(always)]
+#[tactic(auto, using(crate::proofs::FrameLemmas::part_made))]
+fn part_of(block: &Block, _left: usize, at: usize, n: usize) -> Option<&[u8]>
+    requires whole { length block.now.cells.bytes % 4096 ≡ 0 }
+    requires within { at % 4096 + n ≤ 4096 }
+    ensures { IfSome result (λ part. part.now ≡ take n (drop at (block.now.cells.bytes ++ replicate _left 0))) }
+{
+    if at >= block.len() {
+        return None;
+    }
+    Some(block.slice(at, n))
 }
 
 /// The bytes of an access, as a number, where `_left` zeros follow the bytes.
@@ -176,20 +198,19 @@ fn put(block: &mut Block, at: usize, width: Width, v: u32)
     }
 }
 
-/// Sets the `n` words from a place on to those of a table at the places where `list` has a 1.
-fn put_picked(block: &mut Block, at: usize, words: &[u32; 16], list: u32, n: u32)
+/// Sets the words from a place on to those of a table at the places where `list` has a 1.
+fn put_picked(block: &mut Block, at: usize, words: &[u32; 16], list: u32)
     requires few { list < 65536 }
-    requires counted { n ≡ length (registers 16 list) }
-    requires room { at + 4 * n ≤ length block.old.cells.bytes }
+    requires room { at + 4 * length (registers 16 list) ≤ length block.old.cells.bytes }
     ensures bytes { block.new.cells.bytes ≡ written block.old.cells.bytes at (picked_bytes words.now (registers 16 list)) }
     ensures count { length block.new.cells.bytes ≡ length block.old.cells.bytes }
     ensures room { block.new.cells.room ≡ block.old.cells.room }
 {
-    if n == 0 {
+    if list == 0 {
         return;
     }
     block.write_word(at, words[list.trailing_zeros() as usize]);
-    put_picked(block, at + 4, words, list & (list - 1), n - 1);
+    put_picked(block, at + 4, words, list & (list - 1));
 }
 
 /// Makes the zeros up to the end of the frame of a place, where they aren't made yet, of the `left` ones that follow the

@@ -7,8 +7,10 @@ mod devices;
 mod frames;
 pub mod meets;
 mod memory;
+mod notes;
 mod pages;
 
 pub use crate::bus::{Absent, Bus, NoBus, NoDevice, PagesFull};
 pub use crate::frames::Frames;
-pub use crate::memory::{BusFault, Stores};
+pub use crate::memory::BusFault;
+pub use crate::notes::Stores;

@@ -3,11 +3,13 @@
 ghost use Rattle.std.specs.Prelude.{◌≡◌, ◌<◌, ◌≤◌, ◌+◌, ◌-◌, ◌/◌, ◌%◌, ◌^◌, ◌∷◌, [], ◌++◌, ◌||◌, nat_lt, length, map, take, true, false, IsTrue, is_some, Some, None, Ok, Err, OnOk, OnErr, IfErr, MatchResult, slice_set};
 ghost use Rattle.sdt_word.specs.Bytes.{bytes_of, load, number_of};
 ghost use Rattle.sdt_word.specs.Codes.{bytes_in};
-ghost use Rattle.arm7_bus.specs.Lookups.{AreApartBanks, HasFrom, IsBankAt};
-ghost use Rattle.arm7_bus.specs.Picks.{word_places};
+ghost use Rattle.arm7_bus.specs.Lookups.{AreApartBanks, HasFrom, IsBankAt, lie_in_banks};
+ghost use Rattle.arm7_bus.specs.Notes.{noted_in};
 ghost use Rattle.arm7_bus.specs.Places.{place_of};
+ghost use Rattle.arm7_bus.specs.Windows.{IsWindow};
 
 use crate::meets::{first_shared, lesser};
+use crate::notes::{Notes, Stores};
 use crate::pages::{PAGE, PAGES, Pages};
 use sdt_fault::NoMemory;
 use sdt_word::{Range32, Width};
@@ -31,24 +33,35 @@ pub enum BusFault {
     ReadOnly,
 }
 
-/// The first `count` ranges of the list, in order.
+/// The page in which a read was last made, and what takes its addresses to their places among the bytes of all frames, where it
+/// is added to them and wraps.
 #[derive(Clone, Copy, Debug)]
-pub struct Stores {
-    pub list: [Range32; 16],
-    pub count: u32,
-    pub ghost few: { count ≤ 16 },
+pub struct Window {
+    pub page: u32,
+    pub shift: u32,
 }
 
+/// There is no such page: no address has its number.
+const CLOSED: Window = Window {
+    page: 0xFFFF_FFFF,
+    shift: 0,
+};
+
 /// The banks, their bytes, and the stores since the last tick. `last` is the place of the bank that was used last, with
-/// which a search begins: it is no part of what memory means, and decides no answer.
+/// which a search begins, and `window` spares a fetch the search: they are no part of what memory means, and decide no answer.
 #[derive(Debug, Drop)]
 pub struct Memory {
     pub alloc: Global,
     pub banks: Vec<Bank>,
     pub pages: Pages,
-    pub stores: Stores,
+    pub stores: Notes,
     pub last: usize,
+    pub window: Window,
+    /// Whether a store since the last tick went to a device.
+    pub strayed: bool,
     pub ghost apart: { AreApartBanks banks.items },
+    pub ghost seen: { IsWindow banks.items pages.table.items window.page window.shift },
+    pub ghost in_banks: { strayed ≡ false → lie_in_banks banks.items (noted_in stores) ≡ true },
 }
 
 /// Whether the range has the whole access of `n` bytes.
@@ -153,7 +166,7 @@ fn left_in(banks: &[Bank], a: u32) -> usize
 
 impl Memory {
     ghost use Rattle.std.specs.Prelude.{◌&&◌, nat_le};
-    ghost use Rattle.arm7_bus.specs.Pieces.{IsPiece};
+    ghost use Rattle.arm7_bus.specs.Pieces.{IsPart, IsPiece};
     ghost use Rattle.arm7_bus.specs.Picked.{IsPicked};
     ghost use Rattle.arm7_bus.specs.Picks.{picked_bytes};
     ghost use Rattle.sdt_word.specs.Numbers.{registers};
@@ -161,11 +174,11 @@ impl Memory {
     ghost use Rattle.arm7_bus.specs.Buses.{with_bank, with_protected};
     ghost use Rattle.arm7_bus.specs.Meets.{IsFound, IsNowhere};
     ghost use Rattle.arm7_bus.specs.Seats.{has_access};
-    ghost use Rattle.std.specs.Prelude.{◌≡◌, ◌≤◌, ◌<◌, ◌+◌, ◌%◌, ◌/◌, true, false, IsTrue, length, MatchOption, is_some, OnOk, OnErr, Ok, Err, ◌-◌, Some, None, ◌∷◌, [], ◌++◌, ℕ};
+    ghost use Rattle.std.specs.Prelude.{◌≡◌, ◌≤◌, ◌<◌, ◌+◌, ◌%◌, ◌/◌, true, false, IsTrue, length, MatchOption, is_some, IfSome, OnOk, OnErr, Ok, Err, ◌-◌, Some, None, ◌∷◌, [], ◌++◌, ℕ};
     ghost use Rattle.sdt_word.specs.Bytes.{load, number_of};
     ghost use Rattle.sdt_word.specs.Codes.{bytes_in};
     ghost use Rattle.arm7_bus.specs.Paging.{page_used_in, used_count};
-    ghost use Rattle.arm7_bus.specs.States.{contents_of, noted, IsStart, bank_has, is_protected, store_fault, after_store, store_answer, store_leaves, peeked};
+    ghost use Rattle.arm7_bus.specs.States.{contents_of, noted, IsStart, bank_has, lie_in_banks, is_protected, store_fault, after_store, store_answer, store_leaves, peeked};
 
     /// Whether the bank that was used last has the whole access.
     #[inline(always)]
@@ -267,6 +280,47 @@ impl Memory {
         self.pages.read(a, width)
     }
 
+    /// Whether an address lies in the page of the window.
+    #[inline(always)]
+    pub fn in_window(&self, a: u32) -> bool
+        ensures { result ≡ true → self.now.window.page ≡ a / 4096 }
+    {
+        self.window.page == a / PAGE
+    }
+
+    /// The bytes of an access in the page of the window, as a number.
+    #[inline(always)]
+    #[tactic(auto, using(crate::proofs::PagingLemmas::in_page, crate::proofs::WindowLemmas::window_has, crate::proofs::WindowLemmas::window_place))]
+    pub fn read_window(&self, a: u32, width: Width) -> u32
+        requires page { self.now.window.page ≡ a / 4096 }
+        requires aligned { a % bytes_in width ≡ 0 }
+        ensures has { bank_has (contents_of self.now).banks a (bytes_in width) ≡ true }
+        ensures value { result ≡ number_of (load (contents_of self.now).memory a (bytes_in width)) }
+    {
+        self.pages
+            .read_from(a.wrapping_add(self.window.shift), a, width)
+    }
+
+    /// Moves the window to the page of an address, where the bank that was used last has the whole page and it has a frame.
+    pub fn move_window(&mut self, a: u32)
+        requires { length (contents_of self.old).used ≡ 1048576 }
+        ensures { contents_of self.new ≡ contents_of self.old }
+    {
+        let first = a - a % PAGE;
+        if !self.is_last(first, PAGE) {
+            return;
+        }
+        match self.pages.table[(a / PAGE) as usize] {
+            Some(frame) => {
+                self.window = Window {
+                    page: a / PAGE,
+                    shift: (u32::from(frame) * PAGE).wrapping_sub(first),
+                };
+            }
+            None => {}
+        }
+    }
+
     /// The byte at an address, where a bank has it.
     pub fn peek(&self, a: u32) -> Option<u8>
         requires { length (contents_of self.now).used ≡ 1048576 }
@@ -289,6 +343,20 @@ impl Memory {
         &bytes[..bytes.len().min(count)]
     }
 
+    /// The `n` bytes from an address on; None where the bank that was used last or one page hasn't all of them, or they aren't
+    /// made yet.
+    #[inline(always)]
+    pub fn last_part(&self, a: u32, n: u32) -> Option<&[u8]>
+        requires started { length (contents_of self.now).used ≡ 1048576 }
+        requires few { n ≤ 64 }
+        ensures { IfSome result (λ part. IsPart (contents_of self.now) a n part.now) }
+    {
+        if !self.last_has(a, n) {
+            return None;
+        }
+        self.pages.part(a, n)
+    }
+
     pub fn page_used(&self, a: u32) -> bool
         requires { length (contents_of self.now).used ≡ 1048576 }
         ensures { result ≡ page_used_in (contents_of self.now).used a }
@@ -304,11 +372,12 @@ impl Memory {
 
     /// Makes a store that lies in the bank that was used last, and notes it.
     #[inline(always)]
+    #[tactic(auto, using(crate::proofs::WindowLemmas::window_stored))]
     pub fn store(&mut self, a: u32, width: Width, v: u32) -> Result<(), BusFault>
         requires found { IsBankAt self.old.banks.items self.old.last a (bytes_in width) }
         requires started { length (contents_of self.old).used ≡ 1048576 }
         requires aligned { a % bytes_in width ≡ 0 }
-        requires few { self.old.stores.count < 16 }
+        requires few { length (contents_of self.old).stores < 16 }
         ensures answer { result ≡ store_answer (store_fault (contents_of self.old) a (bytes_in width)) }
         ensures after { contents_of self.new ≡ store_leaves (store_fault (contents_of self.old) a (bytes_in width)) (contents_of self.old) (after_store (contents_of self.old) a width v) }
     {
@@ -325,13 +394,14 @@ impl Memory {
     /// Stores the `n` words from an address on, those of a table at the places where `list` has a 1, and notes each; false, and
     /// nothing changes, where the bank that was used last hasn't all of them or is protected, or no used page has them.
     #[inline(always)]
+    #[tactic(auto, using(crate::proofs::WindowLemmas::frames_same, crate::proofs::WindowLemmas::window_stored, crate::proofs::StoreLemmas::words_more))]
     pub fn store_picked(&mut self, a: u32, words: &[u32; 16], list: u32, n: u32) -> bool
         requires started { length (contents_of self.old).used ≡ 1048576 }
         requires aligned { a % 4 ≡ 0 }
         requires few { list < 65536 }
         requires counted { n ≡ length (registers 16 list) }
         requires some { 1 ≤ n }
-        requires left { self.old.stores.count + n ≤ 16 }
+        requires left { length (contents_of self.old).stores + n ≤ 16 }
         ensures stored { result ≡ true → IsPicked (contents_of self.old) a n (picked_bytes words.now (registers 16 list)) (contents_of self.new) }
         ensures same { result ≡ false → contents_of self.new ≡ contents_of self.old }
     {
@@ -346,7 +416,7 @@ impl Memory {
     }
 
     /// No banks.
-    #[tactic(auto, using(crate::proofs::PagingLemmas::memory_clear, crate::proofs::LookupLemmas::apart_none))]
+    #[tactic(auto, using(crate::proofs::PagingLemmas::memory_clear, crate::proofs::LookupLemmas::apart_none, crate::proofs::WindowLemmas::window_closed))]
     pub fn new(alloc: Global) -> Memory
         ensures banks { (contents_of result).banks ≡ [] }
         ensures memory { (a : ℕ) → (contents_of result).memory a ≡ 0 }
@@ -358,8 +428,10 @@ impl Memory {
             alloc,
             banks: Vec::new(alloc),
             pages: Pages::none(alloc),
-            stores: Stores::none(),
+            stores: Notes::none(),
             last: 0,
+            window: CLOSED,
+            strayed: false,
         }
     }
 
@@ -391,6 +463,7 @@ impl Memory {
     }
 
     /// Makes the pages, and frames for those that the banks touch.
+    #[tactic(auto, using(crate::proofs::WindowLemmas::window_closed))]
     pub fn start(&mut self) -> Result<(), NoMemory>
         requires { length (contents_of self.old).used ≡ 0 }
         ensures ok { OnOk result (IsStart (contents_of self.old) (contents_of self.new)) }
@@ -399,6 +472,7 @@ impl Memory {
         let room = frames_for(&self.banks);
         let pages = Pages::make(self.alloc, PAGES, room)?;
         self.pages = pages;
+        self.window = CLOSED;
         Ok(())
     }
 
@@ -415,12 +489,14 @@ impl Memory {
     }
 
     /// Uses the pages of the range; false, and nothing changes, where there are fewer frames than pages would be used.
+    #[tactic(auto, using(crate::proofs::WindowLemmas::window_closed))]
     pub fn claim_pages(&mut self, r: Range32) -> bool
         requires { length (contents_of self.old).used ≡ 1048576 }
         ensures answer { result ≡ nat_le (used_count (claimed (contents_of self.old).used (r.base / 4096) (pages_of r.base r.size))) (contents_of self.old).frames }
         ensures after { result ≡ true → contents_of self.new ≡ record (contents_of self.old) { used = claimed (contents_of self.old).used (r.base / 4096) (pages_of r.base r.size) } }
         ensures same { result ≡ false → contents_of self.new ≡ contents_of self.old }
     {
+        self.window = CLOSED;
         self.pages
             .claim_all((r.base / PAGE) as usize, Memory::page_count(r))
     }
@@ -428,90 +504,34 @@ impl Memory {
     /// Notes a store to a device.
     pub fn note(&mut self, a: u32, width: Width)
         requires aligned { a % bytes_in width ≡ 0 }
-        requires few { self.old.stores.count < 16 }
+        requires few { length (contents_of self.old).stores < 16 }
         ensures { contents_of self.new ≡ noted (contents_of self.old) a (bytes_in width) }
     {
+        self.strayed = true;
         self.stores.note(a, width);
+    }
+
+    /// The stores since the last tick, in order.
+    pub fn last_stores(&self) -> Stores
+        ensures { map place_of (take result.count result.list) ≡ (contents_of self.now).stores }
+    {
+        self.stores.ranges()
     }
 
     /// No store is noted any more.
     pub fn forget_stores(&mut self)
         ensures { contents_of self.new ≡ record (contents_of self.old) { stores = [] } }
     {
-        self.stores.count = 0;
-    }
-}
-
-impl Stores {
-    ghost use Rattle.std.specs.Prelude.{◌≡◌, ◌<◌, ◌≤◌, ◌+◌, ◌%◌, ◌∷◌, [], ◌++◌, map, take};
-    ghost use Rattle.sdt_word.specs.Codes.{bytes_in};
-    ghost use Rattle.arm7_bus.specs.Picks.{word_places};
-    ghost use Rattle.arm7_bus.specs.Places.{place_of};
-
-    pub fn none() -> Stores
-        ensures { result.count ≡ 0 }
-    {
-        Stores {
-            list: [Range32 { base: 0, size: 0 }; 16],
-            count: 0,
-        }
+        self.stores.forget();
+        self.strayed = false;
     }
 
-    /// Adds the range of an access.
+    /// Whether each store since the last tick was one to memory.
     #[inline(always)]
-    pub fn note(&mut self, a: u32, width: Width)
-        requires aligned { a % bytes_in width ≡ 0 }
-        requires few { self.old.count < 16 }
-        ensures { map place_of (take self.new.count self.new.list) ≡ map place_of (take self.old.count self.old.list) ++ (a, bytes_in width) ∷ [] }
+    pub fn kept_to_banks(&self) -> bool
+        ensures { result ≡ true → lie_in_banks (contents_of self.now).banks (contents_of self.now).stores ≡ true }
     {
-        self.list[self.count as usize] = access_range(a, width);
-        self.count += 1;
-    }
-
-    /// Adds the ranges of `n` words from an address on.
-    #[inline(always)]
-    pub fn note_words(&mut self, a: u32, n: u32)
-        requires aligned { a % 4 ≡ 0 }
-        requires left { self.old.count + n ≤ 16 }
-        ensures { map place_of (take self.new.count self.new.list) ≡ map place_of (take self.old.count self.old.list) ++ word_places a n }
-    {
-        put_ranges(&mut self.list, self.count, a, n);
-        self.count += n;
-    }
-}
-
-/// Puts the range of a word at a place of a list.
-#[inline(always)]
-fn put_range(list: &mut [Range32; 16], at: u32, a: u32)
-    requires aligned { a % 4 ≡ 0 }
-    requires few { at < 16 }
-    ensures { map place_of (take (at + 1) list.new) ≡ map place_of (take at list.old) ++ (a, 4) ∷ [] }
-{
-    list[at as usize] = access_range(a, Width::Word);
-}
-
-/// Puts the ranges of `n` words from an address on at a place of a list and behind it.
-fn put_ranges(list: &mut [Range32; 16], at: u32, a: u32, n: u32)
-    requires aligned { a % 4 ≡ 0 }
-    requires left { at + n ≤ 16 }
-    ensures { map place_of (take (at + n) list.new) ≡ map place_of (take at list.old) ++ word_places a n }
-{
-    if n == 0 {
-        return;
-    }
-    put_range(list, at, a);
-    put_ranges(list, at + 1, a.wrapping_add(4), n - 1);
-}
-
-#[inline(always)]
-fn access_range(a: u32, width: Width) -> Range32
-    requires { a % bytes_in width ≡ 0 }
-    ensures { (result.base ≡ a) × (result.size ≡ bytes_in width) }
-{
-    match width {
-        Width::Byte => Range32 { base: a, size: 1 },
-        Width::Half => Range32 { base: a, size: 2 },
-        Width::Word => Range32 { base: a, size: 4 },
+        !self.strayed
     }
 }
 

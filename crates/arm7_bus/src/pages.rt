@@ -1,12 +1,13 @@
 //! Memory in pages that take a frame when they are first written.
 
-ghost use Rattle.std.specs.Prelude.{◌≡◌, ℕ, ◌<◌, ◌≤◌, ◌+◌, ◌*◌, ◌/◌, ◌%◌, List, [], length, IsTrue, is_some, None, Some, IfOk, OnOk, map, replicate, false, slice_index, slice_index_or, slice_set, true, ◌-◌, ◌||◌, nat_lt};
+ghost use Rattle.std.specs.Prelude.{◌≡◌, ℕ, ◌<◌, ◌≤◌, ◌+◌, ◌*◌, ◌/◌, ◌%◌, List, [], length, IsTrue, is_some, None, Some, IfOk, IfSome, OnOk, map, replicate, false, slice_index, slice_index_or, slice_set, true, ◌-◌, ◌||◌, nat_lt};
 ghost use Rattle.sdt_word.specs.Bytes.{bytes_of, load, number_of};
 ghost use Rattle.sdt_word.specs.Codes.{bytes_in};
 ghost use Rattle.sdt_word.specs.Numbers.{registers};
 ghost use Rattle.arm7_model.specs.Memory.{store};
 ghost use Rattle.arm7_bus.specs.Paging.{frame_of, memory_in, used_in, page_used_in, used_count, IsPaging, IsUnused};
 ghost use Rattle.arm7_bus.specs.Picks.{picked_bytes};
+ghost use Rattle.arm7_bus.specs.Windows.{KeepsFrames};
 
 use crate::frames::Frames;
 use sdt_fault::NoMemory;
@@ -45,6 +46,17 @@ impl Pages {
             Some(frame) => self.frames.read(u32::from(frame) * PAGE + a % PAGE, width),
             None => 0,
         }
+    }
+
+    /// The bytes of an access, as a number, from its place among the bytes of all frames.
+    #[inline(always)]
+    pub fn read_from(&self, at: u32, _a: u32, width: Width) -> u32
+        requires aligned { _a % bytes_in width ≡ 0 }
+        requires frame { frame_of self.now.table.items (_a / 4096) ≡ Some (at / 4096) }
+        requires place { at % 4096 ≡ _a % 4096 }
+        ensures { result ≡ number_of (load (memory_in self.now.table.items self.now.frames) _a (bytes_in width)) }
+    {
+        self.frames.read(at, width)
     }
 
     /// Sets the bytes of an access in a page that has this frame.
@@ -96,6 +108,22 @@ impl Pages {
         }
     }
 
+    /// The `n` bytes from an address on; None where one page hasn't all of them, it has no frame, or they aren't made yet.
+    #[inline(always)]
+    pub fn part(&self, a: u32, n: u32) -> Option<&[u8]>
+        requires started { length self.now.table.items ≡ 1048576 }
+        requires few { n ≤ 64 }
+        ensures { IfSome result (λ part. (part.now ≡ load (memory_in self.now.table.items self.now.frames) a n) × (a % 4096 + n ≤ 4096)) }
+    {
+        if a % PAGE + n > PAGE {
+            return None;
+        }
+        match self.table[(a / PAGE) as usize] {
+            Some(frame) => self.frames.part(u32::from(frame) * PAGE + a % PAGE, n),
+            None => None,
+        }
+    }
+
     pub fn is_used(&self, page: usize) -> bool
         requires { page < length self.now.table.items }
         ensures { result ≡ slice_index_or (used_in self.now.table.items) page false }
@@ -119,6 +147,7 @@ impl Pages {
         ensures memory { result ≡ true → memory_in self.new.table.items self.new.frames ≡ store (memory_in self.old.table.items self.old.frames) a (bytes_of v (bytes_in width)) }
         ensures used { result ≡ true → used_in self.new.table.items ≡ slice_set (used_in self.old.table.items) (a / 4096) true }
         ensures room { self.new.room ≡ self.old.room }
+        ensures frames { KeepsFrames self.old.table.items self.new.table.items }
         ensures same { result ≡ false → self.new ≡ self.old }
     {
         if self.used >= self.room {
@@ -139,6 +168,7 @@ impl Pages {
         ensures memory { result ≡ true → memory_in self.new.table.items self.new.frames ≡ store (memory_in self.old.table.items self.old.frames) a (bytes_of v (bytes_in width)) }
         ensures used { result ≡ true → used_in self.new.table.items ≡ slice_set (used_in self.old.table.items) (a / 4096) true }
         ensures room { self.new.room ≡ self.old.room }
+        ensures frames { KeepsFrames self.old.table.items self.new.table.items }
         ensures same { result ≡ false → self.new ≡ self.old }
     {
         match self.table[(a / PAGE) as usize] {
@@ -152,17 +182,16 @@ impl Pages {
 
     /// Sets the words from an address on, in a page that has this frame.
     #[inline(always)]
-    fn put_picked(&mut self, frame: u16, a: u32, words: &[u32; 16], list: u32, n: u32)
+    fn put_picked(&mut self, frame: u16, a: u32, words: &[u32; 16], list: u32)
         requires few { list < 65536 }
-        requires counted { n ≡ length (registers 16 list) }
-        requires within { a % 4096 + 4 * n ≤ 4096 }
+        requires within { a % 4096 + 4 * length (registers 16 list) ≤ 4096 }
         requires frame { frame_of self.old.table.items (a / 4096) ≡ Some frame }
         ensures memory { memory_in self.new.table.items self.new.frames ≡ store (memory_in self.old.table.items self.old.frames) a (picked_bytes words.now (registers 16 list)) }
         ensures table { self.new.table ≡ self.old.table }
         ensures counts { (self.new.used ≡ self.old.used) × (self.new.room ≡ self.old.room) }
     {
         self.frames
-            .write_picked(u32::from(frame) * PAGE + a % PAGE, words, list, n);
+            .write_picked(u32::from(frame) * PAGE + a % PAGE, words, list);
     }
 
     /// Sets the `n` words from an address on to those of a table at the places where `list` has a 1; false, and nothing
@@ -185,7 +214,7 @@ impl Pages {
         }
         match self.table[(a / PAGE) as usize] {
             Some(frame) => {
-                self.put_picked(frame, a, words, list, n);
+                self.put_picked(frame, a, words, list);
                 true
             }
             None => false,

@@ -2,7 +2,7 @@ use Rattle.std.proofs.Common.{ℕ, map, take, refl}
 use Rattle.arm7_model.specs.Accesses.{next_word}
 use Rattle.arm7_bus.specs.Places.{place_of}
 use Rattle.arm7_bus.proofs.PickLemmas.{noted_first}
-use Rattle.arm7_bus.proofs.memory.+put_ranges.Goals as goal
+use Rattle.arm7_bus.proofs.notes.+put_ranges.Goals as goal
 
 pub returns : goal.returns
 returns t c =

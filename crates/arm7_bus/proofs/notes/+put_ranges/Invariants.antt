@@ -1,4 +1,4 @@
-use Rattle.arm7_bus.proofs.memory.+put_ranges.Given as goal
+use Rattle.arm7_bus.proofs.notes.+put_ranges.Given as goal
 
 abbrev pub decreases-put_ranges : goal.decreases-put_ranges
 decreases-put_ranges l = l.n

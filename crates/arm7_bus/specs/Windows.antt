@@ -1,0 +1,17 @@
+-- The page in which a read was last made, and where its bytes stand. This project's.
+use Rattle.std.specs.Prelude.{◌≡◌, ℕ, ◌+◌, ◌*◌, ◌/◌, ◌%◌, ◌^◌, ◌<◌, true, List, Option, Some}
+use Rattle.std.specs.List.{list_any}
+use Rattle.arm7_bus.specs.declared.memory.Bank.{Bank}
+use Rattle.arm7_bus.specs.Paging.{frame_of}
+use Rattle.arm7_bus.specs.Seats.{has_access}
+
+-- where there is such a page, one bank has all its bytes, and a shift, added to an address, gives its place among the bytes
+-- of all frames
+pub record IsWindow (banks : List Bank) (table : List (Option ℕ)) (page shift : ℕ) : Type 0 where
+  pub has : page < 1048576 → list_any (λ b. has_access b.range.base b.range.size (4096 * page) 4096) banks ≡ true
+  pub frame : page < 1048576 → frame_of table page ≡ Some ((4096 * page + shift) % 2 ^ 32 / 4096)
+  pub whole : shift % 4096 ≡ 0
+
+-- each page that had a frame has it still
+pub record KeepsFrames (old new : List (Option ℕ)) : Type 0 where
+  pub each : (page frame : ℕ) → frame_of old page ≡ Some frame → frame_of new page ≡ Some frame
