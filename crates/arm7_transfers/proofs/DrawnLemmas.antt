@@ -5,32 +5,53 @@ use Rattle.std.specs.Int.{trailing_zeros, w32}
 use Rattle.std.specs.Int.Bits.{bit_and}
 use Rattle.sdt_word.specs.Numbers.{registers}
 use Rattle.sdt_word.specs.declared.codes.Width.TheVariants.{Word}
+use Rattle.sdt_word.proofs.BytesLemmas.{length-load}
 use Rattle.arm7_model.specs.declared.state.ArmState.{ArmState}
 use Rattle.arm7_model.specs.Accesses.{next_word}
 use Rattle.arm7_model.specs.Blocks.{all_there, with_block_base, with_listed}
 use Rattle.arm7_bus.specs.Buses.{after_read}
-use Rattle.arm7_bus.specs.Pieces.{IsPiece}
-use Rattle.arm7_bus.specs.States.{State, bank_has}
-use Rattle.arm7_bus.proofs.PickLemmas.{first_picked, low_picked}
+use Rattle.arm7_bus.specs.Lookups.{HasFrom}
+use Rattle.arm7_bus.specs.Pieces.{IsPart, IsPiece}
+use Rattle.arm7_bus.specs.States.{Contents, State, bank_has}
+use Rattle.arm7_bus.proofs.PickLemmas.{above, first_picked, low_picked}
 use Rattle.arm7_transfers.specs.BlockAccesses.{drawn, loads_of, taken}
 use Rattle.arm7_transfers.specs.Boards.{board_of}
 use Rattle.arm7_transfers.specs.Ready.{IsReady}
 use Rattle.arm7_transfers.specs.Served.{served, value_at}
 use Rattle.arm7_transfers.proofs.BoardLemmas.{bank-whole}
-use Rattle.arm7_transfers.proofs.SpanLemmas.{there-each}
+use Rattle.arm7_transfers.proofs.SpanLemmas.{bank-part, there-each}
 
 -- ---- one register
 
-some_left : (v n : ℕ) → (n ≡ 0 → ⊥) → n ≡ length (registers 16 v) → 0 < v
-some_left zero n h e = absurd (h e)
-some_left (suc v) n h e = omega arith
-
-pub drawn_first : (user : Bool) (list n at v : ℕ) (core now end : ArmState) (bytes : List ℕ) → (n ≡ 0 → ⊥) → list < 65536 → n ≡ length (registers 16 list) → v ≡ word_in bytes at
+pub drawn_first : (user : Bool) (list at v : ℕ) (core now end : ArmState) (bytes : List ℕ) → (list ≡ 0 → ⊥) → list < 65536 → v ≡ word_in bytes at
     → now ≡ with_listed user core (trailing_zeros w32 list) v → end ≡ drawn user (registers 16 (bit_and list (list - 1))) (at + 4) now bytes
     → end ≡ drawn user (registers 16 list) at core bytes
-drawn_first user list n at v core now end bytes some few count e f g =
+drawn_first user list at v core now end bytes some few e f g =
     g ∙ ap (λ (x : ArmState). drawn user (registers 16 (bit_and list (list - 1))) (at + 4) x bytes) (f ∙ ap (with_listed user core (trailing_zeros w32 list)) e)
-    ∙ sym (ap (λ (ks : List ℕ). drawn user ks at core bytes) (first_picked list (some_left list n some count) few))
+    ∙ sym (ap (λ (ks : List ℕ). drawn user ks at core bytes) (first_picked list (above list some) few))
+
+-- ---- a run of memory: the bytes that banks have from an address on, as many as there are here
+
+pub record AreBytes (c : Contents) (a : ℕ) (bytes : List ℕ) : Type 0 where
+  pub are : bytes ≡ load c.memory a (length bytes)
+  pub held : HasFrom c.banks a (length bytes)
+  pub within : a + length bytes ≤ 2 ^ 32
+
+pub piece-bytes : (c : Contents) (a : ℕ) (bytes : List ℕ) → IsPiece c a bytes → AreBytes c a bytes
+piece-bytes c a bytes p = record { are = p.are; held = p.held; within = p.within }
+
+pub part-length : (c : Contents) (a n : ℕ) (bytes : List ℕ) → IsPart c a n bytes → length bytes ≡ n
+part-length c a n bytes p = ap length p.are ∙ length-load c.memory a n
+
+pub part-bytes : (c : Contents) (a n : ℕ) (bytes : List ℕ) → a < 2 ^ 32 → IsPart c a n bytes → AreBytes c a bytes
+part-bytes c a n bytes lt p =
+    let size = part-length c a n bytes p in
+    let within = p.within in
+    record {
+      are = p.are ∙ ap (load c.memory a) (sym size);
+      held = record { each = λ k less. bank-part c.banks a n (a + k) 1 p.held (omega arith) (omega arith) };
+      within = omega arith;
+    }
 
 -- ---- a word of a run
 
@@ -48,20 +69,20 @@ part-load m a zero (suc at) k le = short k (omega arith)
     short (suc j) e = absurd (omega arith)
 part-load m a (suc n) (suc at) k le = part-load m (suc a) n at k (omega arith) ∙ ap (λ (x : ℕ). load m x k) (omega arith)
 
-word-there : (s : State) (a at : ℕ) (bytes : List ℕ) → IsReady s → IsPiece s.contents a bytes → a % 4 ≡ 0 → at % 4 ≡ 0 → at + 4 ≤ length bytes
+word-there : (s : State) (a at : ℕ) (bytes : List ℕ) → IsReady s → AreBytes s.contents a bytes → a % 4 ≡ 0 → at % 4 ≡ 0 → at + 4 ≤ length bytes
     → bank_has s.contents.banks (a + at) 4 ≡ true
 word-there s a at bytes r p h g le =
     let here : bank_has s.contents.banks (a + at + 0) 1 ≡ true = subst (λ (x : ℕ). bank_has s.contents.banks x 1 ≡ true) (omega arith) (p.held.each at (omega arith)) in
     sym (bank-whole s.contents.banks (a + at) 0 Word r.laid_out.banks (omega arith) (omega arith)) ∙ here
 
-word-is : (s : State) (a at : ℕ) (bytes : List ℕ) → IsReady s → IsPiece s.contents a bytes → a % 4 ≡ 0 → at % 4 ≡ 0 → at + 4 ≤ length bytes
+word-is : (s : State) (a at : ℕ) (bytes : List ℕ) → IsReady s → AreBytes s.contents a bytes → a % 4 ≡ 0 → at % 4 ≡ 0 → at + 4 ≤ length bytes
     → value_at s (a + at) Word ≡ word_in bytes at
 word-is s a at bytes r p h g le =
     let same : word_in bytes at ≡ number_of (load s.contents.memory (a + at) 4) =
     ap (λ (l : List ℕ). number_of (take 4 (drop at l))) p.are ∙ ap number_of (part-load s.contents.memory a (length bytes) at 4 le) in
     rw (word-there s a at bytes r p h g le) (sym same)
 
-left-so : (s : State) (a at : ℕ) (bytes : List ℕ) → IsReady s → IsPiece s.contents a bytes → a % 4 ≡ 0 → at % 4 ≡ 0 → at + 4 ≤ length bytes
+left-so : (s : State) (a at : ℕ) (bytes : List ℕ) → IsReady s → AreBytes s.contents a bytes → a % 4 ≡ 0 → at % 4 ≡ 0 → at + 4 ≤ length bytes
     → after_read s (a + at) Word ≡ s
 left-so s a at bytes r p h g le = rw (word-there s a at bytes r p h g le) refl
 
@@ -73,7 +94,7 @@ further a at x n e le small = omega arith
 place : (a at x n : ℕ) → x ≡ (a + at) % 2 ^ 32 → at + 4 ≤ n → a + n ≤ 2 ^ 32 → x ≡ a + at
 place a at x n e le small = omega arith
 
-drawn-taken : (s : State) (a : ℕ) (bytes : List ℕ) → IsReady s → IsPiece s.contents a bytes → a % 4 ≡ 0
+drawn-taken : (s : State) (a : ℕ) (bytes : List ℕ) → IsReady s → AreBytes s.contents a bytes → a % 4 ≡ 0
     → (user : Bool) (ks : List ℕ) (at x : ℕ) (core : ArmState) → at % 4 ≡ 0 → at + 4 * length ks ≤ length bytes → x ≡ (a + at) % 2 ^ 32
     → drawn user ks at core bytes ≡ taken user ks x core s
 drawn-taken s a bytes r p h user [] at x core g le e = refl
@@ -87,7 +108,7 @@ drawn-taken s a bytes r p h user (k ∷ ks) at x core g le e =
     ∙ sym (ap (λ (t : State). taken user ks (next_word x) (with_listed user core k (value_at s x Word)) t) left
     ∙ ap (λ (v : ℕ). taken user ks (next_word x) (with_listed user core k v) s) value)
 
-served-so : (s : State) (a : ℕ) (bytes : List ℕ) → IsReady s → IsPiece s.contents a bytes → a % 4 ≡ 0
+served-so : (s : State) (a : ℕ) (bytes : List ℕ) → IsReady s → AreBytes s.contents a bytes → a % 4 ≡ 0
     → (ks : List ℕ) (at x : ℕ) → at % 4 ≡ 0 → at + 4 * length ks ≤ length bytes → x ≡ (a + at) % 2 ^ 32 → s ≡ served s (loads_of ks x)
 served-so s a bytes r p h [] at x g le e = refl
 served-so s a bytes r p h (k ∷ ks) at x g le e =
@@ -98,7 +119,7 @@ served-so s a bytes r p h (k ∷ ks) at x g le e =
     ∙ sym (ap (λ (t : State). served t (loads_of ks (next_word x))) left)
 
 -- the list as its low bits say it
-pub piece-taken : (s : State) (user write_back : Bool) (list n a rn top : ℕ) (core based end : ArmState) (bytes : List ℕ) → IsReady s → a % 4 ≡ 0 → a < 2 ^ 32 → IsPiece s.contents a bytes
+pub piece-taken : (s : State) (user write_back : Bool) (list n a rn top : ℕ) (core based end : ArmState) (bytes : List ℕ) → IsReady s → a % 4 ≡ 0 → a < 2 ^ 32 → AreBytes s.contents a bytes
     → n ≡ length (registers 16 list) → 4 * n ≤ length bytes → based ≡ with_block_base write_back rn top core
     → end ≡ drawn user (registers 16 (list % 65536)) 0 based bytes → end ≡ taken user (registers 16 list) a (with_block_base write_back rn top core) s
 piece-taken s user write_back list n a rn top core based end bytes r h lt p f le b e =
@@ -106,12 +127,12 @@ piece-taken s user write_back list n a rn top core based end bytes r h lt p f le
     ∙ drawn-taken s a bytes r p h user (registers 16 list) 0 a based (omega arith) (omega arith) (omega arith)
     ∙ ap (λ (c : ArmState). taken user (registers 16 list) a c s) b
 
-pub piece-served : (s : State) (list n a : ℕ) (bytes : List ℕ) → IsReady s → a % 4 ≡ 0 → a < 2 ^ 32 → IsPiece s.contents a bytes
+pub piece-served : (s : State) (list n a : ℕ) (bytes : List ℕ) → IsReady s → a % 4 ≡ 0 → a < 2 ^ 32 → AreBytes s.contents a bytes
     → n ≡ length (registers 16 list) → 4 * n ≤ length bytes → s ≡ served s (loads_of (registers 16 list) a)
 piece-served s list n a bytes r h lt p f le =
     served-so s a bytes r p h (registers 16 list) 0 a (omega arith) (omega arith) (omega arith)
 
-pub piece-there : (s : State) (list n a : ℕ) (bytes : List ℕ) → IsReady s → a % 4 ≡ 0 → a < 2 ^ 32 → IsPiece s.contents a bytes
+pub piece-there : (s : State) (list n a : ℕ) (bytes : List ℕ) → IsReady s → a % 4 ≡ 0 → a < 2 ^ 32 → AreBytes s.contents a bytes
     → n ≡ length (registers 16 list) → 4 * n ≤ length bytes → all_there (board_of s) (registers 16 list) a ≡ true
 piece-there s list n a bytes r h lt p f le =
     let small = p.within in
@@ -121,3 +142,7 @@ piece-there s list n a bytes r h lt p f le =
 
 pub low_count : (list n : ℕ) → n ≡ length (registers 16 list) → n ≡ length (registers 16 (list % 65536))
 low_count list n e = e ∙ ap length (sym (low_picked list))
+
+-- there is room for them behind the first place
+pub low_room : (list n size : ℕ) → n ≡ length (registers 16 list) → 4 * n ≤ size → 4 * length (registers 16 (list % 65536)) ≤ size
+low_room list n size e le = let same = low_count list n e in omega arith

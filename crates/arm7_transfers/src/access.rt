@@ -36,7 +36,7 @@ pub fn lacks_frame(bus: &Bus, a: u32, width: Width) -> bool
 
 /// Reads an access that one bank or one device has.
 #[inline(always)]
-pub fn fetch(bus: &mut Bus, a: u32, width: Width) -> Option<u32>
+pub fn load(bus: &mut Bus, a: u32, width: Width) -> Option<u32>
     requires ready { IsReady (state_of base size state touched bus.old) }
     requires aligned { a % bytes_in width ≡ 0 }
     ensures there { is_some result ≡ has_whole (state_of base size state touched bus.old) a (bytes_in width) }
@@ -46,6 +46,23 @@ pub fn fetch(bus: &mut Bus, a: u32, width: Width) -> Option<u32>
     ensures ready { IsReady (state_of base size state touched bus.new) }
 {
     match bus.read(a, width) {
+        Ok(v) => Some(v),
+        Err(_absent) => None,
+    }
+}
+
+/// The same for an instruction, mostly by the window of the last fetch.
+#[inline(always)]
+pub fn fetch(bus: &mut Bus, a: u32, width: Width) -> Option<u32>
+    requires ready { IsReady (state_of base size state touched bus.old) }
+    requires aligned { a % bytes_in width ≡ 0 }
+    ensures there { is_some result ≡ has_whole (state_of base size state touched bus.old) a (bytes_in width) }
+    ensures value { IfSome result (λ v. v ≡ value_at (state_of base size state touched bus.old) a width) }
+    ensures after { state_of base size state touched bus.new ≡ after_read (state_of base size state touched bus.old) a width }
+    ensures same { result ≡ None → state_of base size state touched bus.new ≡ state_of base size state touched bus.old }
+    ensures ready { IsReady (state_of base size state touched bus.new) }
+{
+    match bus.fetch(a, width) {
         Ok(v) => Some(v),
         Err(_absent) => None,
     }

@@ -136,25 +136,24 @@ fn take_all(core: &mut ArmState, bus: &mut Bus, user: bool, list: u32, k: u8, a:
     take_all(core, bus, user, list, k + 1, next_word(a));
 }
 
-/// Loads each of the `n` registers from the words of some bytes, from a place on.
-fn take_words(core: &mut ArmState, bytes: &[u8], list: u32, n: u32, at: usize)
+/// Loads each register from the words of some bytes, from a place on.
+fn take_words(core: &mut ArmState, bytes: &[u8], list: u32, at: usize)
     requires few { list < 65536 }
-    requires counted { n ≡ length (registers 16 list) }
-    requires room { at + 4 * n ≤ length bytes.now }
+    requires room { at + 4 * length (registers 16 list) ≤ length bytes.now }
     ensures { core.new ≡ drawn false (registers 16 list) at core.old bytes.now }
 {
-    if n == 0 {
+    if list == 0 {
         return;
     }
     let v = word_at(bytes, at);
     set_listed(core, false, list.trailing_zeros() as u8, v);
-    take_words(core, bytes, list & (list - 1), n - 1, at + 4);
+    take_words(core, bytes, list & (list - 1), at + 4);
 }
 
 /// Writes the base back and loads each register of a list from the bytes that one bank and one page have; false, and nothing
 /// changes, where they haven't all of them.
-#[inline(always)]
-fn taken_at_once(
+#[inline(never)]
+fn taken_of_piece(
     core: &mut ArmState,
     bus: &Bus,
     write_back: bool,
@@ -177,7 +176,35 @@ fn taken_at_once(
         return false;
     }
     set_block_base(core, write_back, rn, end);
-    take_words(core, bytes, list % 0x1_0000, n, 0);
+    take_words(core, bytes, list % 0x1_0000, 0);
+    true
+}
+
+/// The same, mostly without a search: the bank that was used last has the words.
+#[inline(always)]
+fn taken_at_once(
+    core: &mut ArmState,
+    bus: &Bus,
+    write_back: bool,
+    rn: u8,
+    list: u32,
+    a: u32,
+    end: u32,
+) -> bool
+    requires ready { IsReady (state_of base size state touched bus.now) }
+    requires from { rn < 16 }
+    requires aligned { a % 4 ≡ 0 }
+    ensures there { result ≡ true → all_there (board_of (state_of base size state touched bus.now)) (registers 16 list) a ≡ true }
+    ensures core { result ≡ true → core.new ≡ taken false (registers 16 list) a (with_block_base write_back rn end core.old) (state_of base size state touched bus.now) }
+    ensures served { result ≡ true → state_of base size state touched bus.now ≡ served (state_of base size state touched bus.now) (loads_of (registers 16 list) a) }
+    ensures same { result ≡ false → core.new ≡ core.old }
+{
+    let n = count(list);
+    let Some(part) = bus.last_part(a, 4 * n) else {
+        return taken_of_piece(core, bus, write_back, rn, list, a, end);
+    };
+    set_block_base(core, write_back, rn, end);
+    take_words(core, part, list % 0x1_0000, 0);
     true
 }
 
@@ -455,7 +482,7 @@ fn block_loaded(
 
 /// Loads or stores a list without `^` and without pc at once, where one bank and one used page have all words; false, and
 /// nothing changes, where they haven't.
-#[inline(never)]
+#[inline(always)]
 fn moved_at_once(
     core: &mut ArmState,
     bus: &mut Bus,
@@ -479,11 +506,13 @@ fn moved_at_once(
     }
     let n = count(list);
     let b = register(core, rn);
-    let a = aligned(block_start(pre, up, b, n), Width::Word);
-    let end = block_end(up, b, n);
     if load {
+        let a = aligned(block_start(pre, up, b, n), Width::Word);
+        let end = block_end(up, b, n);
         taken_at_once(core, bus, write_back, rn, list, a, end)
     } else {
+        let a = aligned(block_start(pre, up, b, n), Width::Word);
+        let end = block_end(up, b, n);
         stored_at_once(core, bus, write_back, rn, list, a, end)
     }
 }

@@ -6,7 +6,7 @@ ghost use Rattle.arm7_transfers.specs.Done.{IsDone};
 ghost use Rattle.arm7_transfers.specs.Ready.{IsReady};
 ghost use Rattle.arm7_transfers.specs.Views.{state_of};
 
-use crate::access::{fetch, lacks_frame, may_store, read, store, write};
+use crate::access::{lacks_frame, load, may_store, read, store, write};
 use crate::outcome::Outcome;
 use arm7_bus::{Bus, BusFault};
 use arm7_model::ArmState;
@@ -54,7 +54,7 @@ pub fn loaded(
     ensures ready { IsReady (state_of base size state touched bus.new) }
 {
     let at = aligned(a, width);
-    let Some(found) = fetch(bus, at, width) else {
+    let Some(found) = load(bus, at, width) else {
         return Outcome::Aborted;
     };
     let v = loaded_value(signed, width, a, found);

@@ -17,4 +17,4 @@ returns-then-load-clause-done g c = λ e.
 pub returns-else-load-clause-done : goal.returns-else-load-clause-done
 returns-else-load-clause-done g c = λ e.
     move_store c.args._thumb c.args.load c.args.pre c.args.up false c.args.write_back c.args.rn c.args.list c.args.core.now c.stored_at_once.new.core _ _ outcome.Ran
-    c.count-n.result c.register-b.result c.block_start.result c.aligned-a.result c.block_end-end.result c.if-load.false c.count-n.ensures.value c.register-b.ensures c.block_start.ensures c.aligned-a.ensures c.block_end-end.ensures (c.stored_at_once.ensures.done e)
+    c.count-n.result c.register-b.result c.block_start-else-load.result c.aligned-a-else-load.result c.block_end-end-else-load.result c.if-load.false c.count-n.ensures.value c.register-b.ensures c.block_start-else-load.ensures c.aligned-a-else-load.ensures c.block_end-end-else-load.ensures (c.stored_at_once.ensures.done e)

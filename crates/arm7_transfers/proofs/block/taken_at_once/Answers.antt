@@ -1,19 +1,25 @@
-use Rattle.std.proofs.Common.{arith, false}
-use Rattle.arm7_transfers.proofs.DrawnLemmas.{low_count, piece-served, piece-taken, piece-there}
+use Rattle.std.proofs.Common.{arith, false, length}
+use Rattle.arm7_transfers.proofs.DrawnLemmas.{low_room, part-bytes, part-length, piece-served, piece-taken, piece-there}
 use Rattle.arm7_transfers.proofs.block.taken_at_once.Goals as goal
 
-pub take_words-requires-clause-counted : goal.take_words-requires-clause-counted
-take_words-requires-clause-counted g c = low_count c.args.list c.count-n.result c.count-n.ensures.value
+pub take_words-requires-clause-room : goal.take_words-requires-clause-room
+take_words-requires-clause-room g c =
+    let size = part-length _ _ _ _ c.in-Some.ensures in
+    let room = low_room c.args.list c.count-n.result (length c.in-Some.part.now) c.count-n.ensures.value (omega arith) in
+    omega arith
 
 pub returns-clause-there : goal.returns-clause-there
 returns-clause-there g c =
-    λ _. piece-there _ c.args.list c.count-n.result c.args.a c.piece-bytes.result.now c.requires.ready c.requires.aligned c.ranges.a.fits c.piece-bytes.ensures c.count-n.ensures.value (omega arith)
+    let size = part-length _ _ _ _ c.in-Some.ensures in
+    λ _. piece-there _ c.args.list c.count-n.result c.args.a c.in-Some.part.now c.requires.ready c.requires.aligned c.ranges.a.fits (part-bytes _ _ _ _ c.ranges.a.fits c.in-Some.ensures) c.count-n.ensures.value (omega arith)
 
 pub returns-clause-core : goal.returns-clause-core
 returns-clause-core g c =
-    λ _. piece-taken _ false c.args.write_back c.args.list c.count-n.result c.args.a c.args.rn c.args.end c.args.core.now c.set_block_base.new.state c.take_words.new.core c.piece-bytes.result.now
-    c.requires.ready c.requires.aligned c.ranges.a.fits c.piece-bytes.ensures c.count-n.ensures.value (omega arith) c.set_block_base.ensures c.take_words.ensures
+    let size = part-length _ _ _ _ c.in-Some.ensures in
+    λ _. piece-taken _ false c.args.write_back c.args.list c.count-n.result c.args.a c.args.rn c.args.end c.args.core.now c.set_block_base.new.state c.take_words.new.core c.in-Some.part.now
+    c.requires.ready c.requires.aligned c.ranges.a.fits (part-bytes _ _ _ _ c.ranges.a.fits c.in-Some.ensures) c.count-n.ensures.value (omega arith) c.set_block_base.ensures c.take_words.ensures
 
 pub returns-clause-served : goal.returns-clause-served
 returns-clause-served g c =
-    λ _. piece-served _ c.args.list c.count-n.result c.args.a c.piece-bytes.result.now c.requires.ready c.requires.aligned c.ranges.a.fits c.piece-bytes.ensures c.count-n.ensures.value (omega arith)
+    let size = part-length _ _ _ _ c.in-Some.ensures in
+    λ _. piece-served _ c.args.list c.count-n.result c.args.a c.in-Some.part.now c.requires.ready c.requires.aligned c.ranges.a.fits (part-bytes _ _ _ _ c.ranges.a.fits c.in-Some.ensures) c.count-n.ensures.value (omega arith)
