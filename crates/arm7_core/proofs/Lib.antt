@@ -5,3 +5,4 @@ pub mod ResetLemmas
 pub mod ReadyBuses
 pub mod PartLemmas
 pub mod ThumbSteps
+pub mod ReadingLemmas

@@ -1,37 +1,49 @@
 //! A step in ARM state.
 
 ghost use Rattle.std.specs.Prelude.{◌≡◌, [], false};
-ghost use Rattle.arm7_model.specs.Registers.{is_thumb};
+ghost use Rattle.arm7_model.specs.Registers.{is_thumb, register};
+ghost use Rattle.arm7_model.specs.Step.{advanced};
 ghost use Rattle.arm7_transfers.specs.Steps.{Executes, IsStepped};
 ghost use Rattle.arm7_transfers.specs.Ready.{IsReady};
 ghost use Rattle.arm7_transfers.specs.Views.{state_of};
 
 use crate::effect::do_arm;
-use arm_isa::decode_arm;
+use crate::known::Known;
 use arm7_bus::Bus;
 use arm7_model::{ArmState, Event};
-use arm7_registers::{advance, register};
+use arm7_registers::{register, set_register};
 use arm7_transfers::{Outcome, fetch, finish, prefetch_abort};
 use sdt_outside::Device;
 use sdt_word::Width;
 
 /// Does what the instruction of a word does; a word that reads as none is unpredictable.
 #[inline(always)]
-fn execute(core: &mut ArmState, bus: &mut Bus, word: u32) -> Outcome
+fn execute(core: &mut ArmState, known: &mut Known, bus: &mut Bus, at: u32, word: u32) -> Outcome
     requires ready { IsReady (state_of base size state touched bus.old) }
     requires quiet { (state_of base size state touched bus.old).contents.stores ≡ [] }
     ensures executes { Executes false word core.old (state_of base size state touched bus.old) result core.new (state_of base size state touched bus.new) }
     ensures ready { IsReady (state_of base size state touched bus.new) }
 {
-    match decode_arm(word) {
-        Some(i) => do_arm(core, bus, &i),
+    match known.reading(at, word) {
+        Some(i) => do_arm(core, bus, i),
         None => Outcome::Unpredictable,
     }
 }
 
+/// pc goes from an address to the next instruction. In this state that needs no look at CPSR.
+#[inline(always)]
+#[tactic(auto, unfolding(arm7_model::specs::Step::advanced))]
+fn advance(core: &mut ArmState, at: u32)
+    requires arm { is_thumb core.old.cpsr ≡ false }
+    requires at { at ≡ register core.old 15 }
+    ensures { core.new ≡ advanced core.old }
+{
+    set_register(core, 15, at.wrapping_add(4));
+}
+
 /// A step in ARM state, after the devices' ticks and with no interrupt to come. It is the model's, with the answers of
 /// the bus's devices; where a page has no frame, only its fetch is made.
-pub fn step_arm(core: &mut ArmState, bus: &mut Bus) -> Event
+pub fn step_arm(core: &mut ArmState, known: &mut Known, bus: &mut Bus) -> Event
     requires arm { is_thumb core.old.cpsr ≡ false }
     requires ready { IsReady (state_of base size state touched bus.old) }
     requires quiet { (state_of base size state touched bus.old).contents.stores ≡ [] }
@@ -45,7 +57,7 @@ pub fn step_arm(core: &mut ArmState, bus: &mut Bus) -> Event
     let Some(word) = fetch(bus, at, Width::Word) else {
         return prefetch_abort(core, at);
     };
-    advance(core);
-    let outcome = execute(core, bus, word);
+    advance(core, at);
+    let outcome = execute(core, known, bus, at, word);
     finish(core, at, word, outcome)
 }

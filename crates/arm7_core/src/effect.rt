@@ -187,6 +187,18 @@ fn performed(core: &mut ArmState, bus: &mut Bus, i: &ArmInstr) -> Outcome
     effect(core, bus, i)
 }
 
+/// The same, for the rows that programs have least: a call keeps them out of the loop of a run.
+#[inline(never)]
+fn performed_seldom(core: &mut ArmState, bus: &mut Bus, i: &ArmInstr) -> Outcome
+    requires ready { IsReady (state_of base size state touched bus.old) }
+    requires quiet { (state_of base size state touched bus.old).contents.stores ≡ [] }
+    requires fits { FitsRow (arm_row i.now) (arm_fields i.now) }
+    ensures done { IsDone (λ u w. arm_done u i.now w) core.old (state_of base size state touched bus.old) result core.new (state_of base size state touched bus.new) }
+    ensures ready { IsReady (state_of base size state touched bus.new) }
+{
+    performed(core, bus, i)
+}
+
 /// Does what an instruction does. The rows that programs have most are told apart first: in each arm the compiler knows the
 /// row, and no later test asks for it again.
 #[inline(always)]
@@ -203,6 +215,6 @@ pub fn do_arm(core: &mut ArmState, bus: &mut Bus, i: &ArmInstr) -> Outcome
         ArmInstr::TransferImmediate { .. } => performed(core, bus, i),
         ArmInstr::TransferBlock { .. } => performed(core, bus, i),
         ArmInstr::Branch { .. } => performed(core, bus, i),
-        _ => performed(core, bus, i),
+        _ => performed_seldom(core, bus, i),
     }
 }

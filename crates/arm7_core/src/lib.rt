@@ -4,6 +4,8 @@
 mod acts;
 mod arm;
 mod effect;
+mod halves;
+mod known;
 mod machine;
 mod rows;
 mod step;

@@ -1,21 +1,24 @@
 //! The machine.
 
-ghost use Rattle.std.specs.Prelude.{◌≡◌, ◌%◌, IsTrue};
+ghost use Rattle.std.specs.Prelude.{◌≡◌, ◌%◌, IsTrue, true};
 ghost use Rattle.arm7_model.specs.Registers.{IsValid};
+ghost use Rattle.arm7_bus.specs.Seats.{are_idle};
 ghost use Rattle.arm7_transfers.specs.Ready.{IsReady};
 ghost use Rattle.arm7_transfers.specs.Views.{state_of};
 ghost use Rattle.arm7_core.specs.Machines.{IsStep};
 ghost use Rattle.arm7_core.specs.Resets.{reset_status};
 
+use crate::known::Known;
 use crate::step::step_state;
 use arm7_bus::Bus;
 use arm7_model::{ArmState, Banks, Event, step_is_valid};
 use sdt_outside::Device;
 
 /// An ARM7TDMI.
-#[derive(Clone, Copy, Debug, PartialEq, Eq)]
+#[derive(Clone, Copy, Debug)]
 pub struct Machine {
     pub state: ArmState,
+    known: Known,
 }
 
 fn reset_status(thumb: bool) -> u32
@@ -47,6 +50,7 @@ impl Machine {
                 cpsr: reset_status(thumb),
                 spsr: [0; 5],
             },
+            known: Known::new(),
         }
     }
 
@@ -60,7 +64,20 @@ impl Machine {
         ensures valid { IsValid self.new.state }
         ensures ready { IsReady (state_of base size state touched bus.new) }
     {
-        let event = step_state(&mut self.state, bus);
+        self.step_knowing(bus, false)
+    }
+
+    /// The same, told whether the bus's devices are idle; then none of them is asked.
+    #[inline(always)]
+    pub fn step_knowing(&mut self, bus: &mut Bus, idle: bool) -> Event
+        requires valid { IsValid self.old.state }
+        requires ready { IsReady (state_of base size state touched bus.old) }
+        requires idle { idle ≡ true → are_idle (state_of base size state touched bus.old).devices ≡ true }
+        ensures step { IsStep self.old.state (state_of base size state touched bus.old) result self.new.state (state_of base size state touched bus.new) }
+        ensures valid { IsValid self.new.state }
+        ensures ready { IsReady (state_of base size state touched bus.new) }
+    {
+        let event = step_state(&mut self.state, &mut self.known, bus, idle);
         step_is_valid();
         event
     }

@@ -15,6 +15,6 @@ returns-in_default-clause-step g c =
 
 pub returns-clause-step : goal.returns-clause-step
 returns-clause-step g c =
-    arm_finished c.args.core.now c.advance.new.state c.execute-outcome.new.core c.finish.new.state _ _ _ c.register-at.result c.in-Some.word (is_some c.fetch.result) c.execute-outcome.result c.finish.result
+    arm_finished c.args.core.now c.advance.new.core c.execute-outcome.new.core c.finish.new.state _ _ _ c.register-at.result c.in-Some.word (is_some c.fetch.result) c.execute-outcome.result c.finish.result
     c.requires.arm c.requires.ready c.register-at.ensures c.if-at-ne0.false c.fetch.ensures.there (ap is_some c.in-Some.is) c.in-Some.ensures.value c.fetch.ensures.after c.advance.ensures
     c.execute-outcome.ensures.executes c.finish.ensures.event c.finish.ensures.registers

@@ -1,5 +1,5 @@
 use Rattle.arm7_core.proofs.MachineSteps.{valid_step}
-use Rattle.arm7_core.proofs.machine.Machine.step.Goals as goal
+use Rattle.arm7_core.proofs.machine.Machine.step_knowing.Goals as goal
 
 pub returns-clause-valid : goal.returns-clause-valid
 returns-clause-valid g c =

@@ -1,7 +1,7 @@
 use Rattle.std.proofs.Common.{◌∙◌, ap, ◌%◌, ℕ, is_some}
 use Rattle.arm7_transfers.proofs.StepLemmas.{stepped-as}
 use Rattle.arm7_core.proofs.ThumbSteps.{absent_thumb, even_pc, finished_thumb}
-use Rattle.arm7_core.proofs.thumb_step.step_thumb.Goals as goal
+use Rattle.arm7_core.proofs.thumb_step.step_half.Goals as goal
 
 pub fetch-requires-clause-aligned : goal.fetch-requires-clause-aligned
 fetch-requires-clause-aligned g c =
@@ -15,7 +15,7 @@ returns-in_default-clause-step g c =
 
 pub returns-clause-step : goal.returns-clause-step
 returns-clause-step g c =
-    finished_thumb c.args.core.now c.advance.new.state c.execute-outcome.new.core _ _ _ _ c.register-at.result c.in-Some.word (is_some c.fetch.result) c.execute-outcome.result c.finish.result
+    finished_thumb c.args.core.now c.advance.new.core c.execute-outcome.new.core _ _ _ _ c.register-at.result c.in-Some.word (is_some c.fetch.result) c.execute-outcome.result c.finish.result
     c.requires.valid c.requires.thumb c.requires.ready
     c.register-at.ensures c.fetch.ensures.there (ap is_some c.in-Some.is) c.in-Some.ensures.value c.fetch.ensures.after
     c.advance.ensures c.execute-outcome.ensures.executes c.finish.ensures.event c.finish.ensures.registers
