@@ -1,4 +1,5 @@
 pub mod ChokeLemmas
+pub mod IdleLemmas
 pub mod QuietLemmas
 pub mod StringLemmas
 pub mod TurnLemmas

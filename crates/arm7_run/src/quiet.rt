@@ -55,12 +55,16 @@ pub fn run_quietly(m: &mut Machine, bus: &mut Bus, begun: u64, steps: u64) -> Qu
     ensures valid { IsValid m.new.state }
     ensures ready { IsReady (state_of base size state touched bus.new) }
 {
+    let mut idle = bus.is_idle();
     'steps: for made in begun..steps {
         let at = register(m, 15);
-        let event = m.step(bus);
+        let event = m.step_knowing(bus, idle);
         if asks(event) {
             let asked = Some(Asked { event, at });
             return Quiet { made, asked };
+        }
+        if !bus.kept_to_banks() {
+            idle = bus.is_idle();
         }
     }
     Quiet {
