@@ -92,14 +92,32 @@ fn push_report(
     ensures { OnOk result (out.new.items ≡ out.old.items ++ reports.report_text kind.now given linked.now placement.now) }
 {
     let bases = area_bases(alloc, placement)?;
+    let pushed = push_lines(alloc, out, kind, given, linked, placement, &bases);
+    drop(bases);
+    pushed
+}
+
+/// The same, by the bases of areas.
+fn push_lines(
+    alloc: Global,
+    out: &mut Vec<u8>,
+    kind: &Kind,
+    given: usize,
+    linked: &Linked,
+    placement: &Placement,
+    bases: &AreaBases,
+) -> Result<(), NoMemory>
+    requires { AreBases placement.now bases.now }
+    ensures { OnOk result (out.new.items ≡ out.old.items ++ reports.report_text kind.now given linked.now placement.now) }
+{
     push(out, b"armsdt report 1\n")?;
     push_loads(out, kind, placement.regions.as_slice())?;
-    push_regions(out, kind, linked.objects.as_slice(), placement, &bases)?;
-    push_symbols(alloc, out, linked, placement, &bases)?;
+    push_regions(out, kind, linked.objects.as_slice(), placement, bases)?;
+    push_symbols(alloc, out, linked, placement, bases)?;
     push_members(alloc, out, linked, given)?;
     push_selections(alloc, out, kind, linked.objects.as_slice())?;
-    push_first(out, kind, linked, placement, &bases)?;
-    push_entry(out, linked, placement, &bases)?;
+    push_first(out, kind, linked, placement, bases)?;
+    push_entry(out, linked, placement, bases)?;
     push(out, b"end\n")?;
     Ok(())
 }

@@ -77,12 +77,29 @@ fn refusal_of_each(
     ensures { IfOk result (λ refusal. refusal ≡ first_given
         (refused_by (link_of linked.now) name area.now) area.now.relocs) }
 {
-    let relocs = area.relocs.as_slice();
-    let marks = marks_of(alloc, relocs)?;
-    for reloc in relocs {
-        let refusal = refusal_of_branch(alloc, linked, index, &marks, name, area, *reloc)?;
-        if refusal.is_some() {
-            return Ok(refusal);
+    let marks = marks_of(alloc, area.relocs.as_slice())?;
+    let refusal = refusal_with(alloc, linked, index, &marks, name, area);
+    drop(marks);
+    refusal
+}
+
+/// The same, by these notes.
+fn refusal_with(
+    alloc: Global,
+    linked: &Linked,
+    index: &IndexMap<&[u8], Defined>,
+    marks: &IndexMap<u32, bool>,
+    name: AreaName,
+    area: &Area,
+) -> Result<Option<Refusal>, NoMemory>
+    requires index { IsIndexOf linked.now.definitions index.now }
+    requires marks { AreMarks area.now.relocs marks.now }
+    ensures { IfOk result (λ refusal. refusal ≡ first_given
+        (refused_by (link_of linked.now) name area.now) area.now.relocs) }
+{
+    for reloc in area.relocs.as_slice() {
+        if let Some(refusal) = refusal_of_branch(alloc, linked, index, marks, name, area, *reloc)? {
+            return Ok(Some(refusal));
         }
     }
     Ok(None)
@@ -126,9 +143,8 @@ fn refusal_in_object(
             object,
             area: to_u32(k)?,
         };
-        let refusal = refusal_in_area(alloc, linked, index, name, area)?;
-        if refusal.is_some() {
-            return Ok(refusal);
+        if let Some(refusal) = refusal_in_area(alloc, linked, index, name, area)? {
+            return Ok(Some(refusal));
         }
     }
     Ok(None)
@@ -145,9 +161,8 @@ pub fn first_refusal(
 {
     for (i, object) in linked.objects.as_slice().iter().enumerate() {
         let areas = object.value.areas.as_slice();
-        let refusal = refusal_in_object(alloc, linked, index, to_u32(i)?, areas)?;
-        if refusal.is_some() {
-            return Ok(refusal);
+        if let Some(refusal) = refusal_in_object(alloc, linked, index, to_u32(i)?, areas)? {
+            return Ok(Some(refusal));
         }
     }
     Ok(None)

@@ -10,7 +10,7 @@ use Rattle.link_report.specs.Reports.{entry_line, first_line}
 use Rattle.link_report.specs.Selections.{selections_text}
 use Rattle.link_report.specs.Symbols.{symbols_text}
 use Rattle.link_report.proofs.TextLemmas.{same_text, then, then_in_turn}
-use Rattle.link_report.proofs.report.push_report.Goals as goal
+use Rattle.link_report.proofs.report.push_lines.Goals as goal
 
 pub returns : goal.returns
 returns c =
