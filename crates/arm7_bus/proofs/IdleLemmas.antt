@@ -1,11 +1,11 @@
 -- Devices that a step of time doesn't change.
-use Rattle.std.proofs.Common.{◌≡◌, Bool, true, false, List, [], ◌∷◌, map, refl, arith}
-use Rattle.std.specs.Prelude.{◌&&◌}
+use Rattle.std.proofs.Common.{◌≡◌, true, false, List, [], ◌∷◌, map, refl, arith}
 use Rattle.sdt_outside.specs.declared.device.DeviceState.{DeviceState}
 use Rattle.sdt_outside.specs.declared.device.DeviceState.TheVariants.{Quiet, TimerState, UartState}
 use Rattle.sdt_outside.specs.declared.device.Lines.{Lines}
 use Rattle.sdt_outside.specs.Devices.{is_idle, lines_of, ticked}
 use Rattle.arm7_bus.specs.Seats.{Seat, are_idle, lines_up, seat_ticked}
+use Rattle.arm7_bus.proofs.TestLemmas.{first, second}
 
 -- no line is up
 abbrev down : Lines
@@ -20,14 +20,6 @@ state_down : (s : DeviceState) → is_idle s ≡ true → lines_of s ≡ down
 state_down Quiet e = refl
 state_down (TimerState period control count up) e = grind arith
 state_down (UartState last number) e = refl
-
-first : (x y : Bool) → (x && y) ≡ true → x ≡ true
-first true y e = refl
-first false y e = e
-
-second : (x y : Bool) → (x && y) ≡ true → y ≡ true
-second true y e = e
-second false y e = absurd (cc)
 
 pub seats_same : (ds : List Seat) → are_idle ds ≡ true → map seat_ticked ds ≡ ds
 seats_same [] e = refl

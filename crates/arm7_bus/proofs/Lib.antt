@@ -8,6 +8,7 @@ pub mod LookupLemmas
 pub mod MeetLemmas
 pub mod NoteLemmas
 pub mod PagingLemmas
+pub mod PartLemmas
 pub mod PickLemmas
 pub mod PieceLemmas
 pub mod ProtectLemmas

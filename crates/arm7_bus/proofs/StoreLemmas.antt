@@ -9,19 +9,12 @@ use Rattle.arm7_bus.specs.Picks.{word_places}
 use Rattle.arm7_bus.specs.Protection.{protected_bank}
 use Rattle.arm7_bus.specs.Seats.{has_access}
 use Rattle.arm7_bus.proofs.LookupLemmas.{has_at, protected_items}
+use Rattle.arm7_bus.proofs.TestLemmas.{first, second}
 
 -- ---- more stores
 
 both : (x y : Bool) → x ≡ true → y ≡ true → (x && y) ≡ true
 both x y e f = rw (e, f) refl
-
-first : (x y : Bool) → (x && y) ≡ true → x ≡ true
-first true y e = refl
-first false y e = e
-
-second : (x y : Bool) → (x && y) ≡ true → y ≡ true
-second true y e = e
-second false y e = absurd (cc)
 
 more : (bs : List Bank) (old new : List (ℕ × ℕ)) → lie_in_banks bs old ≡ true → lie_in_banks bs new ≡ true → lie_in_banks bs (old ++ new) ≡ true
 more bs [] new e f = f

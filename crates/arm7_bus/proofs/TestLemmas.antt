@@ -1,8 +1,21 @@
--- Tests over the bytes of an access, one step at a time.
+-- Tests that both pass, and tests over the bytes of an access, one step at a time.
 use Rattle.std.proofs.Common.{◌≡◌, ℕ, suc, ◌+◌, ◌-◌, ◌<◌, Bool, true, false, refl, ap, arith, List}
+use Rattle.std.specs.Prelude.{◌&&◌}
 use Rattle.arm7_bus.specs.declared.memory.Bank.{Bank}
 use Rattle.arm7_bus.specs.Touches.{pages_touched}
 use Rattle.arm7_model.specs.Memory.{any_from}
+
+-- ---- two tests
+
+pub first : (x y : Bool) → (x && y) ≡ true → x ≡ true
+first true y e = refl
+first false y e = e
+
+pub second : (x y : Bool) → (x && y) ≡ true → y ≡ true
+second true y e = e
+second false y e = absurd (cc)
+
+-- ---- tests over bytes
 
 -- a byte passes, so one of those from it on does
 pub any_here : (p : ℕ → Bool) (x end : ℕ) → x < end → p x ≡ true → any_from p x (end - x) ≡ true

@@ -4,7 +4,7 @@ use Rattle.std.proofs.Math.Seq.{set-append_seam, drop-cons}
 use Rattle.std.proofs.lemmas.List.{replicate-append-replicate}
 use Rattle.sdt_word.specs.Bytes.{bytes_of, written}
 
-none_written : (xs : List ℕ) (at : ℕ) → written xs at [] ≡ xs
+pub none_written : (xs : List ℕ) (at : ℕ) → written xs at [] ≡ xs
 none_written xs at =
     let same : at + 0 ≡ at = omega arith in
     ap (λ (k : ℕ). take at xs ++ drop k xs) same ∙ take-append-drop at xs

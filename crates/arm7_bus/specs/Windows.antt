@@ -1,4 +1,4 @@
--- The page in which a read was last made, and where its bytes stand. This project's.
+-- The page from which an instruction was last fetched, and where its bytes stand. This project's.
 use Rattle.std.specs.Prelude.{◌≡◌, ℕ, ◌+◌, ◌*◌, ◌/◌, ◌%◌, ◌^◌, ◌<◌, true, List, Option, Some}
 use Rattle.std.specs.List.{list_any}
 use Rattle.arm7_bus.specs.declared.memory.Bank.{Bank}

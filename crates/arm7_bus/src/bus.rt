@@ -161,7 +161,6 @@ impl Bus {
     pub fn write_picked(&mut self, a: u32, words: &[u32; 16], list: u32, n: u32) -> bool
         requires started { IsStarted (bus_state base size state touched self.old) }
         requires aligned { a % 4 ≡ 0 }
-        requires few { list < 65536 }
         requires counted { n ≡ length (registers 16 list) }
         requires some { 1 ≤ n }
         requires left { length (bus_state base size state touched self.old).contents.stores + n ≤ 16 }

@@ -3,13 +3,13 @@
 ghost use Rattle.std.specs.Prelude.{◌≡◌, ℕ, ◌<◌, ◌≤◌, ◌+◌, ◌*◌, ◌%◌, List, [], ◌++◌, length, take, drop, replicate, slice_index, IfOk, IfSome};
 ghost use Rattle.sdt_word.specs.Bytes.{bytes_of, number_of, written};
 ghost use Rattle.sdt_word.specs.Codes.{bytes_in};
-ghost use Rattle.sdt_word.specs.Numbers.{registers};
+ghost use Rattle.sdt_word.specs.Numbers.{places_from, registers};
 ghost use Rattle.arm7_bus.specs.Paging.{AreFrames};
-ghost use Rattle.arm7_bus.specs.Picks.{picked_bytes};
+ghost use Rattle.arm7_bus.specs.Picks.{four_from, picked_bytes};
 
 use crate::block::Block;
 use sdt_fault::NoMemory;
-use sdt_word::Width;
+use sdt_word::{Width, field, is_set};
 use std::alloc::Global;
 use std::marker::Model;
 
@@ -115,7 +115,6 @@ impl Frames {
     /// Sets the words from a place of a frame on to those of a table at the places where `list` has a 1.
     #[inline(always)]
     pub fn write_picked(&mut self, at: u32, words: &[u32; 16], list: u32)
-        requires few { list < 65536 }
         requires within { at % 4096 + 4 * length (registers 16 list) ≤ 4096 }
         requires inside { at < length self.old }
         ensures { self.new ≡ written self.old at (picked_bytes words.now (registers 16 list)) }
@@ -198,19 +197,93 @@ fn put(block: &mut Block, at: usize, width: Width, v: u32)
     }
 }
 
-/// Sets the words from a place on to those of a table at the places where `list` has a 1.
+// These set the words from a place on to those of a table at the places from `k` on where `list` has a 1, and give the place
+// behind them.
+
+/// One place.
+#[inline(always)]
+fn put_one(block: &mut Block, at: usize, words: &[u32; 16], list: u32, k: u32) -> usize
+    requires place { k < 16 }
+    requires room { at + 4 * length (places_from k 1 list) ≤ length block.old.cells.bytes }
+    ensures behind { result ≡ at + 4 * length (places_from k 1 list) }
+    ensures bytes { block.new.cells.bytes ≡ written block.old.cells.bytes at (picked_bytes words.now (places_from k 1 list)) }
+    ensures count { length block.new.cells.bytes ≡ length block.old.cells.bytes }
+    ensures room { block.new.cells.room ≡ block.old.cells.room }
+{
+    if !is_set(list, k) {
+        return at;
+    }
+    block.write_word(at, words[k as usize]);
+    at + 4
+}
+
+/// Four places, one by one.
+#[inline(always)]
+fn put_each(block: &mut Block, at: usize, words: &[u32; 16], list: u32, k: u32) -> usize
+    requires places { k + 4 ≤ 16 }
+    requires room { at + 4 * length (places_from k 4 list) ≤ length block.old.cells.bytes }
+    ensures behind { result ≡ at + 4 * length (places_from k 4 list) }
+    ensures bytes { block.new.cells.bytes ≡ written block.old.cells.bytes at (picked_bytes words.now (places_from k 4 list)) }
+    ensures count { length block.new.cells.bytes ≡ length block.old.cells.bytes }
+    ensures room { block.new.cells.room ≡ block.old.cells.room }
+{
+    let second = put_one(block, at, words, list, k);
+    let third = put_one(block, second, words, list, k + 1);
+    let fourth = put_one(block, third, words, list, k + 2);
+    put_one(block, fourth, words, list, k + 3)
+}
+
+/// Four places of which `list` has each.
+#[inline(always)]
+fn put_run(block: &mut Block, at: usize, words: &[u32; 16], k: u32) -> usize
+    requires places { k + 4 ≤ 16 }
+    requires room { at + 16 ≤ length block.old.cells.bytes }
+    ensures behind { result ≡ at + 16 }
+    ensures bytes { block.new.cells.bytes ≡ written block.old.cells.bytes at (picked_bytes words.now (four_from k)) }
+    ensures count { length block.new.cells.bytes ≡ length block.old.cells.bytes }
+    ensures room { block.new.cells.room ≡ block.old.cells.room }
+{
+    let k = k as usize;
+    let (a, b, c, d) = (words[k], words[k + 1], words[k + 2], words[k + 3]);
+    block.write_word(at, a);
+    block.write_word(at + 4, b);
+    block.write_word(at + 8, c);
+    block.write_word(at + 12, d);
+    at + 16
+}
+
+/// Four places.
+#[inline(always)]
+fn put_four(block: &mut Block, at: usize, words: &[u32; 16], list: u32, k: u32) -> usize
+    requires places { k + 4 ≤ 16 }
+    requires room { at + 4 * length (places_from k 4 list) ≤ length block.old.cells.bytes }
+    ensures behind { result ≡ at + 4 * length (places_from k 4 list) }
+    ensures bytes { block.new.cells.bytes ≡ written block.old.cells.bytes at (picked_bytes words.now (places_from k 4 list)) }
+    ensures count { length block.new.cells.bytes ≡ length block.old.cells.bytes }
+    ensures room { block.new.cells.room ≡ block.old.cells.room }
+{
+    let some = field(list, k, 4);
+    if some == 0 {
+        return at;
+    }
+    if some == 15 {
+        return put_run(block, at, words, k);
+    }
+    put_each(block, at, words, list, k)
+}
+
+/// All sixteen.
+#[inline(never)]
 fn put_picked(block: &mut Block, at: usize, words: &[u32; 16], list: u32)
-    requires few { list < 65536 }
     requires room { at + 4 * length (registers 16 list) ≤ length block.old.cells.bytes }
     ensures bytes { block.new.cells.bytes ≡ written block.old.cells.bytes at (picked_bytes words.now (registers 16 list)) }
     ensures count { length block.new.cells.bytes ≡ length block.old.cells.bytes }
     ensures room { block.new.cells.room ≡ block.old.cells.room }
 {
-    if list == 0 {
-        return;
-    }
-    block.write_word(at, words[list.trailing_zeros() as usize]);
-    put_picked(block, at + 4, words, list & (list - 1));
+    let second = put_four(block, at, words, list, 0);
+    let third = put_four(block, second, words, list, 4);
+    let fourth = put_four(block, third, words, list, 8);
+    put_four(block, fourth, words, list, 12);
 }
 
 /// Makes the zeros up to the end of the frame of a place, where they aren't made yet, of the `left` ones that follow the

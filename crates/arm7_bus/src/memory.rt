@@ -33,8 +33,8 @@ pub enum BusFault {
     ReadOnly,
 }
 
-/// The page in which a read was last made, and what takes its addresses to their places among the bytes of all frames, where it
-/// is added to them and wraps.
+/// The page from which an instruction was last fetched, and what takes its addresses to their places among the bytes of all
+/// frames, where it is added to them and wraps.
 #[derive(Clone, Copy, Debug)]
 pub struct Window {
     pub page: u32,
@@ -398,7 +398,6 @@ impl Memory {
     pub fn store_picked(&mut self, a: u32, words: &[u32; 16], list: u32, n: u32) -> bool
         requires started { length (contents_of self.old).used ≡ 1048576 }
         requires aligned { a % 4 ≡ 0 }
-        requires few { list < 65536 }
         requires counted { n ≡ length (registers 16 list) }
         requires some { 1 ≤ n }
         requires left { length (contents_of self.old).stores + n ≤ 16 }

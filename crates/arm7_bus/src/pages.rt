@@ -183,7 +183,6 @@ impl Pages {
     /// Sets the words from an address on, in a page that has this frame.
     #[inline(always)]
     fn put_picked(&mut self, frame: u16, a: u32, words: &[u32; 16], list: u32)
-        requires few { list < 65536 }
         requires within { a % 4096 + 4 * length (registers 16 list) ≤ 4096 }
         requires frame { frame_of self.old.table.items (a / 4096) ≡ Some frame }
         ensures memory { memory_in self.new.table.items self.new.frames ≡ store (memory_in self.old.table.items self.old.frames) a (picked_bytes words.now (registers 16 list)) }
@@ -199,7 +198,6 @@ impl Pages {
     #[inline(always)]
     pub fn write_picked(&mut self, a: u32, words: &[u32; 16], list: u32, n: u32) -> bool
         requires started { length self.old.table.items ≡ 1048576 }
-        requires few { list < 65536 }
         requires counted { n ≡ length (registers 16 list) }
         requires most { n ≤ 16 }
         ensures within { result ≡ true → a % 4096 + 4 * n ≤ 4096 }

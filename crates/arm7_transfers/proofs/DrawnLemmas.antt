@@ -1,9 +1,7 @@
 -- Registers that are loaded from the bytes of a run of memory: the same as word by word over the bus.
-use Rattle.std.proofs.Common.{◌≡◌, ℕ, zero, suc, ◌+◌, ◌-◌, ◌*◌, ◌%◌, ◌^◌, ◌<◌, ◌≤◌, Bool, true, List, [], ◌∷◌, length, take, drop, refl, sym, ap, ◌∙◌, subst, arith}
+use Rattle.std.proofs.Common.{◌≡◌, ℕ, zero, suc, ◌+◌, ◌-◌, ◌*◌, ◌%◌, ◌^◌, ◌<◌, ◌≤◌, Bool, true, false, List, [], ◌∷◌, ◌++◌, length, take, drop, refl, sym, ap, ◌∙◌, subst, arith}
 use Rattle.sdt_word.specs.Bytes.{load, number_of, word_in}
-use Rattle.std.specs.Int.{trailing_zeros, w32}
-use Rattle.std.specs.Int.Bits.{bit_and}
-use Rattle.sdt_word.specs.Numbers.{registers}
+use Rattle.sdt_word.specs.Numbers.{places_from, registers}
 use Rattle.sdt_word.specs.declared.codes.Width.TheVariants.{Word}
 use Rattle.sdt_word.proofs.BytesLemmas.{length-load}
 use Rattle.arm7_model.specs.declared.state.ArmState.{ArmState}
@@ -13,7 +11,7 @@ use Rattle.arm7_bus.specs.Buses.{after_read}
 use Rattle.arm7_bus.specs.Lookups.{HasFrom}
 use Rattle.arm7_bus.specs.Pieces.{IsPart, IsPiece}
 use Rattle.arm7_bus.specs.States.{Contents, State, bank_has}
-use Rattle.arm7_bus.proofs.PickLemmas.{above, first_picked, low_picked}
+use Rattle.arm7_bus.proofs.PartLemmas.{four_parts}
 use Rattle.arm7_transfers.specs.BlockAccesses.{drawn, loads_of, taken}
 use Rattle.arm7_transfers.specs.Boards.{board_of}
 use Rattle.arm7_transfers.specs.Ready.{IsReady}
@@ -21,14 +19,34 @@ use Rattle.arm7_transfers.specs.Served.{served, value_at}
 use Rattle.arm7_transfers.proofs.BoardLemmas.{bank-whole}
 use Rattle.arm7_transfers.proofs.SpanLemmas.{bank-part, there-each}
 
--- ---- one register
+-- ---- four parts of a list
 
-pub drawn_first : (user : Bool) (list at v : ℕ) (core now end : ArmState) (bytes : List ℕ) → (list ≡ 0 → ⊥) → list < 65536 → v ≡ word_in bytes at
-    → now ≡ with_listed user core (trailing_zeros w32 list) v → end ≡ drawn user (registers 16 (bit_and list (list - 1))) (at + 4) now bytes
-    → end ≡ drawn user (registers 16 list) at core bytes
-drawn_first user list at v core now end bytes some few e f g =
-    g ∙ ap (λ (x : ArmState). drawn user (registers 16 (bit_and list (list - 1))) (at + 4) x bytes) (f ∙ ap (with_listed user core (trailing_zeros w32 list)) e)
-    ∙ sym (ap (λ (ks : List ℕ). drawn user ks at core bytes) (first_picked list (above list some) few))
+drawn-append : (user : Bool) (ks ls : List ℕ) (at : ℕ) (core : ArmState) (bytes : List ℕ)
+    → drawn user (ks ++ ls) at core bytes ≡ drawn user ls (at + 4 * length ks) (drawn user ks at core bytes) bytes
+drawn-append user [] ls at core bytes = let same : at ≡ at + 4 * 0 = omega arith in ap (λ (n : ℕ). drawn user ls n core bytes) same
+drawn-append user (k ∷ ks) ls at core bytes =
+    let same : at + 4 + 4 * length ks ≡ at + 4 * suc (length ks) = omega arith in
+    drawn-append user ks ls (at + 4) (with_listed user core k (word_in bytes at)) bytes
+    ∙ ap (λ (n : ℕ). drawn user ls n (drawn user (k ∷ ks) at core bytes) bytes) same
+
+both-drawn : (ks ls : List ℕ) (at next : ℕ) (old mid new : ArmState) (bytes : List ℕ) → next ≡ at + 4 * length ks
+    → mid ≡ drawn false ks at old bytes → new ≡ drawn false ls next mid bytes → new ≡ drawn false (ks ++ ls) at old bytes
+both-drawn ks ls at next old mid new bytes e f g =
+    g ∙ ap (λ (c : ArmState). drawn false ls next c bytes) f ∙ ap (λ (n : ℕ). drawn false ls n (drawn false ks at old bytes) bytes) e
+    ∙ sym (drawn-append false ks ls at old bytes)
+
+pub four_drawn : (k k1 k2 k3 m list at at1 at2 at3 : ℕ) (old one two three new : ArmState) (bytes : List ℕ) → k1 ≡ k + m → k2 ≡ k1 + m → k3 ≡ k2 + m
+    → at1 ≡ at + 4 * length (places_from k m list) → at2 ≡ at1 + 4 * length (places_from k1 m list) → at3 ≡ at2 + 4 * length (places_from k2 m list)
+    → one ≡ drawn false (places_from k m list) at old bytes → two ≡ drawn false (places_from k1 m list) at1 one bytes
+    → three ≡ drawn false (places_from k2 m list) at2 two bytes → new ≡ drawn false (places_from k3 m list) at3 three bytes
+    → new ≡ drawn false (places_from k (m + (m + (m + m))) list) at old bytes
+four_drawn k k1 k2 k3 m list at at1 at2 at3 old one two three new bytes i j l p q r e f g h =
+    let b = places_from k1 m list in
+    let c = places_from k2 m list in
+    let d = places_from k3 m list in
+    both-drawn (places_from k m list) (b ++ (c ++ d)) at at1 old one new bytes p e
+    (both-drawn b (c ++ d) at1 at2 one two new bytes q f (both-drawn c d at2 at3 two three new bytes r g h))
+    ∙ ap (λ (ks : List ℕ). drawn false ks at old bytes) (sym (four_parts k k1 k2 k3 m list i j l))
 
 -- ---- a run of memory: the bytes that banks have from an address on, as many as there are here
 
@@ -118,13 +136,11 @@ served-so s a bytes r p h (k ∷ ks) at x g le e =
     served-so s a bytes r p h ks (at + 4) (next_word x) (omega arith) (omega arith) (further a at x (length bytes) e (omega arith) small)
     ∙ sym (ap (λ (t : State). served t (loads_of ks (next_word x))) left)
 
--- the list as its low bits say it
 pub piece-taken : (s : State) (user write_back : Bool) (list n a rn top : ℕ) (core based end : ArmState) (bytes : List ℕ) → IsReady s → a % 4 ≡ 0 → a < 2 ^ 32 → AreBytes s.contents a bytes
     → n ≡ length (registers 16 list) → 4 * n ≤ length bytes → based ≡ with_block_base write_back rn top core
-    → end ≡ drawn user (registers 16 (list % 65536)) 0 based bytes → end ≡ taken user (registers 16 list) a (with_block_base write_back rn top core) s
+    → end ≡ drawn user (registers 16 list) 0 based bytes → end ≡ taken user (registers 16 list) a (with_block_base write_back rn top core) s
 piece-taken s user write_back list n a rn top core based end bytes r h lt p f le b e =
-    e ∙ ap (λ (ks : List ℕ). drawn user ks 0 based bytes) (low_picked list)
-    ∙ drawn-taken s a bytes r p h user (registers 16 list) 0 a based (omega arith) (omega arith) (omega arith)
+    e ∙ drawn-taken s a bytes r p h user (registers 16 list) 0 a based (omega arith) (omega arith) (omega arith)
     ∙ ap (λ (c : ArmState). taken user (registers 16 list) a c s) b
 
 pub piece-served : (s : State) (list n a : ℕ) (bytes : List ℕ) → IsReady s → a % 4 ≡ 0 → a < 2 ^ 32 → AreBytes s.contents a bytes
@@ -139,10 +155,3 @@ piece-there s list n a bytes r h lt p f le =
     there-each s (registers 16 list) a r h lt
     (λ j l. let at : (a + 4 * j) % 2 ^ 32 ≡ a + 4 * j = omega arith in subst (λ (x : ℕ). bank_has s.contents.banks x 4 ≡ true) (sym at)
     (word-there s a (4 * j) bytes r p h (omega arith) (omega arith)))
-
-pub low_count : (list n : ℕ) → n ≡ length (registers 16 list) → n ≡ length (registers 16 (list % 65536))
-low_count list n e = e ∙ ap length (sym (low_picked list))
-
--- there is room for them behind the first place
-pub low_room : (list n size : ℕ) → n ≡ length (registers 16 list) → 4 * n ≤ size → 4 * length (registers 16 (list % 65536)) ≤ size
-low_room list n size e le = let same = low_count list n e in omega arith

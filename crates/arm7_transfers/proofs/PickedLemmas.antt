@@ -171,12 +171,11 @@ module _ (s : State) (core : ArmState) (list n a : ℕ) (r : IsReady s) (count :
       ∙ ap (λ (ds : List Seat). record { contents = record s.contents { memory = store s.contents.memory a bytes; stores = s.contents.stores ++ word_places a n }; devices = ds }) same in
       subst IsReady (sym is) (ready-same s left (record { banks = refl; have = λ x. refl; share = λ x. refl; whole = λ w. w }) refl r.room r)
 
-  pub picked_served : (s' : State) → s'.contents ≡ new → lists list 15 ≡ false → bytes ≡ picked_bytes core.r (registers 16 (list % 65536)) → s'.devices ≡ s.devices
+  pub picked_served : (s' : State) → s'.contents ≡ new → lists list 15 ≡ false → bytes ≡ picked_bytes core.r (registers 16 list) → s'.devices ≡ s.devices
       → s' ≡ served s (stores_of false core (registers 16 list) a)
   picked_served s' to none is same =
-      let all = is ∙ ap (picked_bytes core.r) (low_picked list) in
       ap (λ (c : Contents). record s' { contents = c }) (to ∙ p.after)
       ∙ ap (λ (ds : List Seat). record { contents = record s.contents { memory = store s.contents.memory a bytes; stores = s.contents.stores ++ word_places a n }; devices = ds }) same
-      ∙ ap (λ (bs : List ℕ). record s { contents = record s.contents { memory = store s.contents.memory a bs; stores = s.contents.stores ++ word_places a n } }) all
+      ∙ ap (λ (bs : List ℕ). record s { contents = record s.contents { memory = store s.contents.memory a bs; stores = s.contents.stores ++ word_places a n } }) is
       ∙ ap (λ (m : ℕ). record s { contents = record s.contents { memory = store s.contents.memory a (picked_bytes core.r (registers 16 list)); stores = s.contents.stores ++ word_places a m } }) count
       ∙ gave-served s.contents.banks s.contents.used a (4 * n) p.has p.free p.used p.within small core (registers 16 list) a s (no-pc list none) refl refl lies

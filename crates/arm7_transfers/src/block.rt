@@ -6,6 +6,7 @@ ghost use Rattle.arm7_model.specs.Blocks.{all_may_store, all_there, block_loaded
 ghost use Rattle.arm7_bus.specs.Buses.{needs_page};
 ghost use Rattle.arm7_bus.specs.Meets.{lesser_of};
 ghost use Rattle.arm7_bus.specs.Paging.{used_count};
+ghost use Rattle.arm7_bus.specs.Picks.{four_from};
 ghost use Rattle.arm7_transfers.specs.BlockAccesses.{drawn, is_page_of, loads_of, pages_needed, stores_of, taken, words_in};
 ghost use Rattle.arm7_transfers.specs.Boards.{board_of};
 ghost use Rattle.arm7_transfers.specs.declared.outcome.Outcome.TheVariants as outcome;
@@ -24,7 +25,7 @@ use arm7_registers::{
     set_listed, set_loaded_pc,
 };
 use sdt_outside::Device;
-use sdt_word::{Width, word_at};
+use sdt_word::{Width, field, is_set, word_at};
 
 /// A block: whether the base moves before each word, whether it moves up, whether the list names user mode's
 /// registers or returns, whether the moved base is written back, the base's register, and the list, a bit for
@@ -136,18 +137,90 @@ fn take_all(core: &mut ArmState, bus: &mut Bus, user: bool, list: u32, k: u8, a:
     take_all(core, bus, user, list, k + 1, next_word(a));
 }
 
-/// Loads each register from the words of some bytes, from a place on.
-fn take_words(core: &mut ArmState, bytes: &[u8], list: u32, at: usize)
-    requires few { list < 65536 }
-    requires room { at + 4 * length (registers 16 list) ≤ length bytes.now }
-    ensures { core.new ≡ drawn false (registers 16 list) at core.old bytes.now }
+// These load the registers from `k` on that a list has from the words of some bytes, from a place on, and give the place behind
+// them.
+
+/// One register.
+#[inline(always)]
+fn take_one(core: &mut ArmState, bytes: &[u8], at: usize, list: u32, k: u32) -> usize
+    requires place { k < 16 }
+    requires room { at + 4 * length (places_from k 1 list) ≤ length bytes.now }
+    ensures behind { result ≡ at + 4 * length (places_from k 1 list) }
+    ensures core { core.new ≡ drawn false (places_from k 1 list) at core.old bytes.now }
 {
-    if list == 0 {
-        return;
+    if !is_set(list, k) {
+        return at;
     }
     let v = word_at(bytes, at);
-    set_listed(core, false, list.trailing_zeros() as u8, v);
-    take_words(core, bytes, list & (list - 1), at + 4);
+    set_listed(core, false, k as u8, v);
+    at + 4
+}
+
+/// Four registers, one by one.
+#[inline(always)]
+fn take_each(core: &mut ArmState, bytes: &[u8], at: usize, list: u32, k: u32) -> usize
+    requires places { k + 4 ≤ 16 }
+    requires room { at + 4 * length (places_from k 4 list) ≤ length bytes.now }
+    ensures behind { result ≡ at + 4 * length (places_from k 4 list) }
+    ensures core { core.new ≡ drawn false (places_from k 4 list) at core.old bytes.now }
+{
+    let second = take_one(core, bytes, at, list, k);
+    let third = take_one(core, bytes, second, list, k + 1);
+    let fourth = take_one(core, bytes, third, list, k + 2);
+    take_one(core, bytes, fourth, list, k + 3)
+}
+
+/// Four registers of which the list has each.
+#[inline(always)]
+fn take_run(core: &mut ArmState, bytes: &[u8], at: usize, k: u32) -> usize
+    requires places { k + 4 ≤ 16 }
+    requires room { at + 16 ≤ length bytes.now }
+    ensures behind { result ≡ at + 16 }
+    ensures core { core.new ≡ drawn false (four_from k) at core.old bytes.now }
+{
+    let second = at + 4;
+    let third = second + 4;
+    let fourth = third + 4;
+    let a = word_at(bytes, at);
+    let b = word_at(bytes, second);
+    let c = word_at(bytes, third);
+    let d = word_at(bytes, fourth);
+    let k = k as u8;
+    set_listed(core, false, k, a);
+    set_listed(core, false, k + 1, b);
+    set_listed(core, false, k + 2, c);
+    set_listed(core, false, k + 3, d);
+    fourth + 4
+}
+
+/// Four registers.
+#[inline(always)]
+fn take_four(core: &mut ArmState, bytes: &[u8], at: usize, list: u32, k: u32) -> usize
+    requires places { k + 4 ≤ 16 }
+    requires room { at + 4 * length (places_from k 4 list) ≤ length bytes.now }
+    ensures behind { result ≡ at + 4 * length (places_from k 4 list) }
+    ensures core { core.new ≡ drawn false (places_from k 4 list) at core.old bytes.now }
+{
+    let some = field(list, k, 4);
+    if some == 0 {
+        return at;
+    }
+    if some == 15 {
+        return take_run(core, bytes, at, k);
+    }
+    take_each(core, bytes, at, list, k)
+}
+
+/// All sixteen, from the first word on.
+#[inline(never)]
+fn take_words(core: &mut ArmState, bytes: &[u8], list: u32)
+    requires room { 4 * length (registers 16 list) ≤ length bytes.now }
+    ensures { core.new ≡ drawn false (registers 16 list) 0 core.old bytes.now }
+{
+    let second = take_four(core, bytes, 0, list, 0);
+    let third = take_four(core, bytes, second, list, 4);
+    let fourth = take_four(core, bytes, third, list, 8);
+    take_four(core, bytes, fourth, list, 12);
 }
 
 /// Writes the base back and loads each register of a list from the bytes that one bank and one page have; false, and nothing
@@ -176,7 +249,7 @@ fn taken_of_piece(
         return false;
     }
     set_block_base(core, write_back, rn, end);
-    take_words(core, bytes, list % 0x1_0000, 0);
+    take_words(core, bytes, list);
     true
 }
 
@@ -204,7 +277,7 @@ fn taken_at_once(
         return taken_of_piece(core, bus, write_back, rn, list, a, end);
     };
     set_block_base(core, write_back, rn, end);
-    take_words(core, part, list % 0x1_0000, 0);
+    take_words(core, part, list);
     true
 }
 
@@ -288,7 +361,7 @@ fn gave_at_once(core: &ArmState, bus: &mut Bus, list: u32, a: u32) -> bool
     if n == 0 {
         return false;
     }
-    bus.write_picked(a, &core.r, list % 0x1_0000, n)
+    bus.write_picked(a, &core.r, list, n)
 }
 
 /// Whether an address, where there is one, has the page of another.
@@ -517,19 +590,39 @@ fn moved_at_once(
     }
 }
 
-/// Loads or stores the registers of a list, one by one where they aren't loaded at once.
+/// Loads or stores the registers of a list, one by one where they aren't loaded at once. Its block comes in parts, so that the
+/// call that needs none of them makes none.
 #[inline(never)]
-fn each_moved(core: &mut ArmState, bus: &mut Bus, thumb: bool, load: bool, by: Block) -> Outcome
+fn each_moved(
+    core: &mut ArmState,
+    bus: &mut Bus,
+    thumb: bool,
+    load: bool,
+    pre: bool,
+    up: bool,
+    user: bool,
+    write_back: bool,
+    rn: u8,
+    list: u32,
+) -> Outcome
     requires ready { IsReady (state_of base size state touched bus.old) }
     requires quiet { (state_of base size state touched bus.old).contents.stores ≡ [] }
-    requires from { by.register < 16 }
-    ensures done { IsDone (λ u w. block_moved u thumb load by.pre by.up by.user by.write_back by.register by.list w) core.old (state_of base size state touched bus.old) result core.new (state_of base size state touched bus.new) }
+    requires from { rn < 16 }
+    ensures done { IsDone (λ u w. block_moved u thumb load pre up user write_back rn list w) core.old (state_of base size state touched bus.old) result core.new (state_of base size state touched bus.new) }
     ensures ready { IsReady (state_of base size state touched bus.new) }
 {
-    let n = count(by.list);
-    let b = register(core, by.register);
-    let a = aligned(block_start(by.pre, by.up, b, n), Width::Word);
-    let end = block_end(by.up, b, n);
+    let n = count(list);
+    let b = register(core, rn);
+    let a = aligned(block_start(pre, up, b, n), Width::Word);
+    let end = block_end(up, b, n);
+    let by = Block {
+        pre,
+        up,
+        user,
+        write_back,
+        register: rn,
+        list,
+    };
     if load {
         block_loaded(core, bus, thumb, by, a, end)
     } else {
@@ -552,21 +645,19 @@ pub fn block_moved(
     ensures done { IsDone (λ u w. block_moved u thumb load by.pre by.up by.user by.write_back by.register by.list w) core.old (state_of base size state touched bus.old) result core.new (state_of base size state touched bus.new) }
     ensures ready { IsReady (state_of base size state touched bus.new) }
 {
-    if by.user {
-        return each_moved(core, bus, thumb, load, by);
+    let Block {
+        pre,
+        up,
+        user,
+        write_back,
+        register: rn,
+        list,
+    } = by;
+    if user {
+        return each_moved(core, bus, thumb, load, pre, up, user, write_back, rn, list);
     }
-    if !moved_at_once(
-        core,
-        bus,
-        thumb,
-        load,
-        by.pre,
-        by.up,
-        by.write_back,
-        by.register,
-        by.list,
-    ) {
-        return each_moved(core, bus, thumb, load, by);
+    if !moved_at_once(core, bus, thumb, load, pre, up, write_back, rn, list) {
+        return each_moved(core, bus, thumb, load, pre, up, user, write_back, rn, list);
     }
     Outcome::Ran
 }

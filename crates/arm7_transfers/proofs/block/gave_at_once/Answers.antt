@@ -1,10 +1,6 @@
 use Rattle.std.proofs.Common.{refl, sym, ◌∙◌}
-use Rattle.arm7_transfers.proofs.DrawnLemmas.{low_count}
 use Rattle.arm7_transfers.proofs.PickedLemmas.{picked_fits, picked_may, picked_ready, picked_served}
 use Rattle.arm7_transfers.proofs.block.gave_at_once.Goals as goal
-
-pub write_picked-requires-clause-counted : goal.write_picked-requires-clause-counted
-write_picked-requires-clause-counted g c = low_count c.args.list c.count-n.result c.count-n.ensures.value
 
 pub returns-clause-may : goal.returns-clause-may
 returns-clause-may g c =

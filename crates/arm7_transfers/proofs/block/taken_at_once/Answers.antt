@@ -1,11 +1,11 @@
 use Rattle.std.proofs.Common.{arith, false, length}
-use Rattle.arm7_transfers.proofs.DrawnLemmas.{low_room, part-bytes, part-length, piece-served, piece-taken, piece-there}
+use Rattle.arm7_transfers.proofs.DrawnLemmas.{part-bytes, part-length, piece-served, piece-taken, piece-there}
 use Rattle.arm7_transfers.proofs.block.taken_at_once.Goals as goal
 
-pub take_words-requires-clause-room : goal.take_words-requires-clause-room
-take_words-requires-clause-room g c =
+pub take_words-requires : goal.take_words-requires
+take_words-requires g c =
     let size = part-length _ _ _ _ c.in-Some.ensures in
-    let room = low_room c.args.list c.count-n.result (length c.in-Some.part.now) c.count-n.ensures.value (omega arith) in
+    let count = c.count-n.ensures.value in
     omega arith
 
 pub returns-clause-there : goal.returns-clause-there

@@ -1,10 +1,10 @@
 use Rattle.std.proofs.Common.{arith, false, length}
-use Rattle.arm7_transfers.proofs.DrawnLemmas.{low_room, piece-bytes, piece-served, piece-taken, piece-there}
+use Rattle.arm7_transfers.proofs.DrawnLemmas.{piece-bytes, piece-served, piece-taken, piece-there}
 use Rattle.arm7_transfers.proofs.block.taken_of_piece.Goals as goal
 
-pub take_words-requires-clause-room : goal.take_words-requires-clause-room
-take_words-requires-clause-room g c =
-    let room = low_room c.args.list c.count-n.result (length c.piece-bytes.result.now) c.count-n.ensures.value (omega arith) in
+pub take_words-requires : goal.take_words-requires
+take_words-requires g c =
+    let count = c.count-n.ensures.value in
     omega arith
 
 pub returns-clause-there : goal.returns-clause-there
