@@ -345,7 +345,7 @@ impl Bus {
     /// Whether each store since the last tick was one to memory.
     #[inline(always)]
     pub fn kept_to_banks(&self) -> bool
-        ensures { result ≡ true → lie_in_banks (bus_state base size state touched self.now).contents.banks (bus_state base size state touched self.now).contents.stores ≡ true }
+        ensures { let c = (bus_state base size state touched self.now).contents in result ≡ true → lie_in_banks c.banks c.stores ≡ true }
     {
         self.memory.kept_to_banks()
     }

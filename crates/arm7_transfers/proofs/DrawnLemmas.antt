@@ -1,5 +1,5 @@
 -- Registers that are loaded from the bytes of a run of memory: the same as word by word over the bus.
-use Rattle.std.proofs.Common.{◌≡◌, ℕ, zero, suc, ◌+◌, ◌-◌, ◌*◌, ◌%◌, ◌^◌, ◌<◌, ◌≤◌, Bool, true, false, List, [], ◌∷◌, ◌++◌, length, take, drop, refl, sym, ap, ◌∙◌, subst, arith}
+use Rattle.std.proofs.Common.{◌≡◌, ℕ, zero, suc, ◌+◌, ◌*◌, ◌%◌, ◌^◌, ◌<◌, ◌≤◌, Bool, true, false, List, [], ◌∷◌, ◌++◌, length, take, drop, refl, sym, ap, ◌∙◌, subst, arith}
 use Rattle.sdt_word.specs.Bytes.{load, number_of, word_in}
 use Rattle.sdt_word.specs.Numbers.{places_from, registers}
 use Rattle.sdt_word.specs.declared.codes.Width.TheVariants.{Word}

@@ -1,4 +1,4 @@
-use Rattle.std.proofs.Common.{arith, false, length}
+use Rattle.std.proofs.Common.{arith, false}
 use Rattle.arm7_transfers.proofs.DrawnLemmas.{part-bytes, part-length, piece-served, piece-taken, piece-there}
 use Rattle.arm7_transfers.proofs.block.taken_at_once.Goals as goal
 

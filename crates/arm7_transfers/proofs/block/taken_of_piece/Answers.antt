@@ -1,4 +1,4 @@
-use Rattle.std.proofs.Common.{arith, false, length}
+use Rattle.std.proofs.Common.{arith, false}
 use Rattle.arm7_transfers.proofs.DrawnLemmas.{piece-bytes, piece-served, piece-taken, piece-there}
 use Rattle.arm7_transfers.proofs.block.taken_of_piece.Goals as goal
 
