@@ -1,10 +1,11 @@
 -- Rows of ARM state: parts that do the same, and rows that touch registers alone.
 use Rattle.std.proofs.Common.{◌≡◌, ℕ, Bool, true, false, List, ap, ◌∙◌, sym, subst, refl}
-use Rattle.std.specs.Prelude.{if◌then◌else◌}
+use Rattle.std.specs.Prelude.{if◌then◌else◌, Option, Some, None, unwrap_or}
 use Rattle.sdt_word.specs.declared.codes.Condition.{Condition}
 use Rattle.sdt_word.specs.declared.codes.ShiftKind.{ShiftKind}
 use Rattle.sdt_word.specs.declared.codes.Width.{Width}
 use Rattle.arm_isa.specs.declared.instr.HalfKind.{HalfKind}
+use Rattle.arm_isa.specs.declared.instr.Operation.{Operation}
 use Rattle.arm7_registers.specs.declared.shifter.Operand.{Operand}
 use Rattle.arm7_registers.specs.Values.{shifted_of}
 use Rattle.arm7_model.specs.Blocks.{block_moved}
@@ -15,9 +16,10 @@ use Rattle.arm7_model.specs.declared.state.ArmState.{ArmState}
 use Rattle.arm7_model.specs.declared.event.Exception.{Exception}
 use Rattle.arm7_model.specs.declared.event.Exception.TheVariants as exception
 use Rattle.arm7_model.specs.Accesses.{Access, Working}
-use Rattle.arm7_model.specs.Arithmetic.{Shifted, passes}
+use Rattle.arm7_model.specs.Arithmetic.{Shifted, carry_in, immediate_operand, passes}
 use Rattle.arm7_model.specs.ArmStep.{arm_condition, arm_done, arm_effect, arm_unpredictable, byte_width, half_offset, half_signed, half_width, shifted_operand}
-use Rattle.arm7_model.specs.Branches.{interrupted, is_host}
+use Rattle.arm7_model.specs.Branches.{branched, interrupted, is_host}
+use Rattle.arm7_model.specs.Data.{calculated}
 use Rattle.arm7_model.specs.Outcomes.{Under, ran, raised, hosted}
 use Rattle.arm7_bus.specs.States.{State}
 use Rattle.arm7_transfers.specs.declared.outcome.Outcome.{Outcome}
@@ -26,7 +28,7 @@ use Rattle.arm7_transfers.specs.Boards.{working}
 use Rattle.arm7_transfers.specs.Done.{Part, Makes, IsDone}
 use Rattle.arm7_transfers.specs.Ready.{IsReady}
 use Rattle.arm7_transfers.proofs.DoneLemmas.{Same, done-as, makes-nothing}
-use Rattle.arm7_core.specs.Acts.{acted, is_on_registers}
+use Rattle.arm7_core.specs.Acts.{acted, held_back, is_on_registers}
 
 abbrev pub effect_part : ArmInstr → Part
 effect_part i u w = arm_effect u i w
@@ -55,11 +57,12 @@ acts-same (arm.TransferBlock c p up s wb l n r) h u w = absurd (cc)
 acts-same (arm.SoftwareInterrupt c n) h u w = absurd (cc)
 acts-same (arm.Undefined c bits) h u w = absurd (cc)
 
-pub row_acts : (i : ArmInstr) (core core' : ArmState) (s : State) (b : Bool) → IsReady s → b ≡ is_on_registers i → b ≡ true → core' ≡ acted i core
+pub row_acts : (i j : ArmInstr) (core core' : ArmState) (s : State) → IsReady s → i ≡ j → is_on_registers j ≡ true → core' ≡ acted j core
     → Makes (effect_part i) core s Ran core' s
-row_acts i core core' s b r e t result =
-    makes-nothing (effect_part i) core core' s Ran r
-    (λ u later before _. acts-same i (sym e ∙ t) u (working core s later before) ∙ ap (λ (c : ArmState). ran (working c s later before)) (sym result)) tt
+row_acts i j core core' s r e t result =
+    subst (λ (i : ArmInstr). Makes (effect_part i) core s Ran core' s) (sym e)
+    (makes-nothing (effect_part j) core core' s Ran r
+    (λ u later before _. acts-same j t u (working core s later before) ∙ ap (λ (c : ArmState). ran (working c s later before)) (sym result)) tt)
 
 -- a row that is another part
 pub row_like : (i j : ArmInstr) (p : Part) (core : ArmState) (s : State) (o : Outcome) (core' : ArmState) (s' : State) → i ≡ j
@@ -93,25 +96,33 @@ interrupts n core s o r e = go (is_host n) refl e
     go false h e = subst (λ (o : Outcome). IsDone (λ u w. interrupted n w) core s o core s) (sym e) (raises exception.SoftwareInterrupt (λ u w. interrupted n w) core s r (λ u later before. rw h refl))
 
 -- the whole instruction
-pub done_failed : (i : ArmInstr) (core : ArmState) (s : State) (b : Bool) → IsReady s → b ≡ passes (arm_condition i) core.cpsr → b ≡ false
-    → Makes (done_part i) core s Ran core s
+pub done_held : (i : ArmInstr) (core : ArmState) (s : State) (o : Outcome) → IsReady s → Some o ≡ held_back i core → IsDone (done_part i) core s o core s
 unfolding arm_done
-done_failed i core s b r e t =
-    makes-nothing (done_part i) core core s Ran r (λ u later before _. rw (sym e ∙ t) refl) tt
+done_held i core s o r e = go (passes (arm_condition i) core.cpsr) refl (arm_unpredictable i core) refl e
+  where
+    held : Option Outcome → Outcome
+    held x = unwrap_or x Ran
 
-pub done_bad : (i : ArmInstr) (core : ArmState) (s : State) (b bad : Bool) → IsReady s → b ≡ passes (arm_condition i) core.cpsr → b ≡ true
-    → bad ≡ arm_unpredictable i core → bad ≡ true
-    → Makes (done_part i) core s Unpredictable core s
-unfolding arm_done
-done_bad i core s b bad r e t f p =
-    makes-nothing (done_part i) core core s Unpredictable r (λ u later before _. rw (sym e ∙ t, sym f ∙ p) refl) (refl, refl)
+    go : (b : Bool) → passes (arm_condition i) core.cpsr ≡ b → (bad : Bool) → arm_unpredictable i core ≡ bad
+        → Some o ≡ (if b then (if bad then Some Unpredictable else None) else Some Ran) → IsDone (done_part i) core s o core s
+    go false h bad k e =
+        subst (λ (o : Outcome). IsDone (done_part i) core s o core s) (ap held (sym e))
+        (makes-nothing (done_part i) core core s Ran r (λ u later before _. rw h refl) tt)
+    go true h true k e =
+        subst (λ (o : Outcome). IsDone (done_part i) core s o core s) (ap held (sym e))
+        (makes-nothing (done_part i) core core s Unpredictable r (λ u later before _. rw (h, k) refl) (refl, refl))
+    go true h false k e = absurd (cc)
 
-pub done_well : (i : ArmInstr) (core : ArmState) (s : State) (o : Outcome) (core' : ArmState) (s' : State) (b bad : Bool) → b ≡ passes (arm_condition i) core.cpsr → b ≡ true
-    → bad ≡ arm_unpredictable i core → bad ≡ false
+pub done_well : (i : ArmInstr) (core : ArmState) (s : State) (o : Outcome) (core' : ArmState) (s' : State) → None ≡ held_back i core
     → IsDone (effect_part i) core s o core' s' → IsDone (done_part i) core s o core' s'
 unfolding arm_done
-done_well i core s o core' s' b bad e t f p d =
-    done-as (effect_part i) (done_part i) core s o core' s' (λ u later before. rw (sym e ∙ t, sym f ∙ p) refl) d
+done_well i core s o core' s' e d = go (passes (arm_condition i) core.cpsr) refl (arm_unpredictable i core) refl e
+  where
+    go : (b : Bool) → passes (arm_condition i) core.cpsr ≡ b → (bad : Bool) → arm_unpredictable i core ≡ bad
+        → None ≡ (if b then (if bad then Some Unpredictable else None) else Some Ran) → IsDone (done_part i) core s o core' s'
+    go false h bad k e = absurd (cc)
+    go true h true k e = absurd (cc)
+    go true h false k e = done-as (effect_part i) (done_part i) core s o core' s' (λ u later before. rw (h, k) refl) d
 
 -- ---- rows that touch more, by what the code's calls did
 
@@ -165,3 +176,22 @@ pub row_raises : (i : ArmInstr) (core : ArmState) (s : State) (c : Condition) (b
     → Makes (effect_part i) core s (Raised exception.Undefined) core s
 unfolding arm_effect
 row_raises i core s c bits r e = row_undefined i (arm.Undefined c bits) core s r e (λ u later before. refl)
+
+-- ---- rows of registers alone, by what the code's calls did
+
+pub data_immediate : (i : ArmInstr) (core core' : ArmState) (s : State) (c : Condition) (o : Operation) (set : Bool) (n d rotation byte : ℕ) (operand : Operand) (carry : ℕ) → IsReady s
+    → i ≡ arm.DataImmediate c o set n d rotation byte → carry ≡ carry_in core.cpsr → shifted_of operand ≡ immediate_operand rotation byte carry
+    → core' ≡ calculated o set n d (shifted_of operand) core → Makes (effect_part i) core s Ran core' s
+data_immediate i core core' s c o set n d rotation byte operand carry r e f g h =
+    row_acts i (arm.DataImmediate c o set n d rotation byte) core core' s r e refl
+    (h ∙ ap (λ (x : Shifted). calculated o set n d x core) (g ∙ ap (λ (x : ℕ). immediate_operand rotation byte x) f))
+
+pub data_shifted : (i : ArmInstr) (core core' : ArmState) (s : State) (c : Condition) (o : Operation) (set : Bool) (n d amount : ℕ) (t : ShiftKind) (m : ℕ) (operand : Operand) → IsReady s
+    → i ≡ arm.DataShifted c o set n d amount t m → shifted_of operand ≡ shifted_operand t amount m core
+    → core' ≡ calculated o set n d (shifted_of operand) core → Makes (effect_part i) core s Ran core' s
+data_shifted i core core' s c o set n d amount t m operand r e g h =
+    row_acts i (arm.DataShifted c o set n d amount t m) core core' s r e refl (h ∙ ap (λ (x : Shifted). calculated o set n d x core) g)
+
+pub branched_row : (i : ArmInstr) (core core' : ArmState) (s : State) (c : Condition) (link : Bool) (d : ℕ) → IsReady s
+    → i ≡ arm.Branch c link d → core' ≡ branched link d core → Makes (effect_part i) core s Ran core' s
+branched_row i core core' s c link d r e h = row_acts i (arm.Branch c link d) core core' s r e refl h

@@ -1,14 +1,16 @@
 -- The instructions of ARM state that touch registers alone (ARM Architecture Reference Manual, ARM instructions).
-use Rattle.std.specs.Prelude.{Bool, true, false}
+use Rattle.std.specs.Prelude.{Bool, true, false, if◌then◌else◌, Option, None, Some}
 use Rattle.sdt_word.specs.Numbers.{operand}
 use Rattle.arm_isa.specs.declared.instr.ArmInstr.{ArmInstr}
 use Rattle.arm_isa.specs.declared.instr.ArmInstr.TheVariants.{DataImmediate, DataShifted, DataRegisterShifted, Multiply, MultiplyLong, BranchExchange, ReadStatus, WriteStatus, WriteStatusImmediate, Branch}
 use Rattle.arm7_model.specs.declared.state.ArmState.{ArmState}
-use Rattle.arm7_model.specs.Arithmetic.{carry_in, immediate_operand}
-use Rattle.arm7_model.specs.ArmStep.{register_shifted_operand, shifted_operand}
+use Rattle.arm7_model.specs.Arithmetic.{carry_in, immediate_operand, passes}
+use Rattle.arm7_model.specs.ArmStep.{arm_condition, arm_unpredictable, register_shifted_operand, shifted_operand}
 use Rattle.arm7_model.specs.Branches.{branched, exchanged}
 use Rattle.arm7_model.specs.Data.{calculated, multiplied, multiplied_long, read_status, written_status}
 use Rattle.arm7_model.specs.Registers.{operand_at, register}
+use Rattle.arm7_transfers.specs.declared.outcome.Outcome.{Outcome}
+use Rattle.arm7_transfers.specs.declared.outcome.Outcome.TheVariants.{Ran, Unpredictable}
 
 -- an instruction touches registers alone
 abbrev pub is_on_registers : ArmInstr → Bool
@@ -37,3 +39,7 @@ acted (WriteStatus c p f m) core = written_status p f (register core m) core
 acted (WriteStatusImmediate c p f r i) core = written_status p f (operand r i) core
 acted (Branch c l d) core = branched l d core
 acted _ core = core
+
+-- what an instruction ends with before it has an effect: where its condition fails, and where it is unpredictable
+abbrev pub held_back : ArmInstr → ArmState → Option Outcome
+held_back i core = if passes (arm_condition i) core.cpsr then (if arm_unpredictable i core then Some Unpredictable else None) else Some Ran

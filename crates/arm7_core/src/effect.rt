@@ -10,15 +10,15 @@ ghost use Rattle.arm7_transfers.specs.declared.outcome.Outcome.TheVariants as ou
 ghost use Rattle.arm7_transfers.specs.Done.{IsDone};
 ghost use Rattle.arm7_transfers.specs.Ready.{IsReady};
 ghost use Rattle.arm7_transfers.specs.Views.{state_of};
-ghost use Rattle.arm7_core.specs.Acts.{is_on_registers};
+ghost use Rattle.arm7_core.specs.Acts.{held_back, is_on_registers};
 
 use crate::acts::{act, is_on_registers};
 use arm_isa::ArmInstr;
 use arm7_bus::Bus;
 use arm7_model::{ArmState, Exception};
 use arm7_registers::{
-    arm_condition, arm_unpredictable, byte_width, half_offset, half_signed, half_width, is_host,
-    passes, shifted_operand,
+    arm_condition, arm_unpredictable, branch, byte_width, calculate, carry_in, half_offset,
+    half_signed, half_width, immediate_operand, is_host, passes, shifted_operand,
 };
 use arm7_transfers::{Base, Block, Outcome, block_moved, swapped, transferred};
 use sdt_outside::Device;
@@ -35,7 +35,6 @@ fn interrupt_outcome(number: u32) -> Outcome
 }
 
 /// Does what an instruction does that touches more than registers.
-#[inline(always)]
 fn effect_outside(core: &mut ArmState, bus: &mut Bus, i: &ArmInstr) -> Outcome
     requires ready { IsReady (state_of base size state touched bus.old) }
     requires quiet { (state_of base size state touched bus.old).contents.stores ≡ [] }
@@ -154,7 +153,6 @@ fn effect_outside(core: &mut ArmState, bus: &mut Bus, i: &ArmInstr) -> Outcome
 }
 
 /// Does what a predictable instruction does whose condition holds.
-#[inline(always)]
 fn effect(core: &mut ArmState, bus: &mut Bus, i: &ArmInstr) -> Outcome
     requires ready { IsReady (state_of base size state touched bus.old) }
     requires quiet { (state_of base size state touched bus.old).contents.stores ≡ [] }
@@ -169,38 +167,38 @@ fn effect(core: &mut ArmState, bus: &mut Bus, i: &ArmInstr) -> Outcome
     effect_outside(core, bus, i)
 }
 
-/// Does what an instruction does.
+/// What an instruction ends with before it has an effect: its condition fails, or it is unpredictable.
 #[inline(always)]
-fn performed(core: &mut ArmState, bus: &mut Bus, i: &ArmInstr) -> Outcome
+fn held_back(core: &ArmState, i: &ArmInstr) -> Option<Outcome>
+    requires { FitsRow (arm_row i.now) (arm_fields i.now) }
+    ensures { result ≡ held_back i.now core.now }
+{
+    if !passes(arm_condition(i), core.cpsr) {
+        return Some(Outcome::Ran);
+    }
+    if arm_unpredictable(i, core) {
+        return Some(Outcome::Unpredictable);
+    }
+    None
+}
+
+/// Does what an instruction does, of whichever row.
+#[inline(never)]
+fn do_any(core: &mut ArmState, bus: &mut Bus, i: &ArmInstr) -> Outcome
     requires ready { IsReady (state_of base size state touched bus.old) }
     requires quiet { (state_of base size state touched bus.old).contents.stores ≡ [] }
     requires fits { FitsRow (arm_row i.now) (arm_fields i.now) }
     ensures done { IsDone (λ u w. arm_done u i.now w) core.old (state_of base size state touched bus.old) result core.new (state_of base size state touched bus.new) }
     ensures ready { IsReady (state_of base size state touched bus.new) }
 {
-    if !passes(arm_condition(i), core.cpsr) {
-        return Outcome::Ran;
-    }
-    if arm_unpredictable(i, core) {
-        return Outcome::Unpredictable;
+    if let Some(held) = held_back(core, i) {
+        return held;
     }
     effect(core, bus, i)
 }
 
-/// The same, for the rows that programs have least: a call keeps them out of the loop of a run.
-#[inline(never)]
-fn performed_seldom(core: &mut ArmState, bus: &mut Bus, i: &ArmInstr) -> Outcome
-    requires ready { IsReady (state_of base size state touched bus.old) }
-    requires quiet { (state_of base size state touched bus.old).contents.stores ≡ [] }
-    requires fits { FitsRow (arm_row i.now) (arm_fields i.now) }
-    ensures done { IsDone (λ u w. arm_done u i.now w) core.old (state_of base size state touched bus.old) result core.new (state_of base size state touched bus.new) }
-    ensures ready { IsReady (state_of base size state touched bus.new) }
-{
-    performed(core, bus, i)
-}
-
-/// Does what an instruction does. The rows that programs have most are told apart first: in each arm the compiler knows the
-/// row, and no later test asks for it again.
+/// Does what an instruction does. The rows that programs have most have arms of their own, in which the compiler knows the
+/// row and no later test asks for it; a call keeps the others out of the loop of a run.
 #[inline(always)]
 pub fn do_arm(core: &mut ArmState, bus: &mut Bus, i: &ArmInstr) -> Outcome
     requires ready { IsReady (state_of base size state touched bus.old) }
@@ -210,11 +208,96 @@ pub fn do_arm(core: &mut ArmState, bus: &mut Bus, i: &ArmInstr) -> Outcome
     ensures ready { IsReady (state_of base size state touched bus.new) }
 {
     match *i {
-        ArmInstr::DataImmediate { .. } => performed(core, bus, i),
-        ArmInstr::DataShifted { .. } => performed(core, bus, i),
-        ArmInstr::TransferImmediate { .. } => performed(core, bus, i),
-        ArmInstr::TransferBlock { .. } => performed(core, bus, i),
-        ArmInstr::Branch { .. } => performed(core, bus, i),
-        _ => performed_seldom(core, bus, i),
+        ArmInstr::DataImmediate {
+            operation,
+            set_flags,
+            rn,
+            rd,
+            rotation,
+            byte,
+            ..
+        } => {
+            if let Some(held) = held_back(core, i) {
+                return held;
+            }
+            let operand = immediate_operand(rotation, byte, carry_in(core.cpsr));
+            calculate(core, operation, set_flags, rn, rd, operand);
+            Outcome::Ran
+        }
+        ArmInstr::DataShifted {
+            operation,
+            set_flags,
+            rn,
+            rd,
+            amount,
+            shift,
+            rm,
+            ..
+        } => {
+            if let Some(held) = held_back(core, i) {
+                return held;
+            }
+            let operand = shifted_operand(core, shift, amount, rm);
+            calculate(core, operation, set_flags, rn, rd, operand);
+            Outcome::Ran
+        }
+        ArmInstr::TransferImmediate {
+            pre,
+            up,
+            byte,
+            write_back,
+            load,
+            rn,
+            rd,
+            offset,
+            ..
+        } => {
+            if let Some(held) = held_back(core, i) {
+                return held;
+            }
+            let by = Base {
+                pre,
+                up,
+                write_back,
+                register: rn,
+                offset: u32::from(offset),
+            };
+            transferred(core, bus, load, false, byte_width(byte), rd, by)
+        }
+        ArmInstr::TransferBlock {
+            pre,
+            up,
+            user,
+            write_back,
+            load,
+            rn,
+            list,
+            ..
+        } => {
+            if let Some(held) = held_back(core, i) {
+                return held;
+            }
+            let by = Block {
+                pre,
+                up,
+                user,
+                write_back,
+                register: rn,
+                list: u32::from(list),
+            };
+            block_moved(core, bus, false, load, by)
+        }
+        ArmInstr::Branch {
+            link,
+            displacement,
+            ..
+        } => {
+            if let Some(held) = held_back(core, i) {
+                return held;
+            }
+            branch(core, link, displacement);
+            Outcome::Ran
+        }
+        _ => do_any(core, bus, i),
     }
 }

@@ -72,7 +72,7 @@ impl Entry {
 
 /// The half-words that were read last, each at a place that its address tells. It decides nothing: it only saves reading
 /// a half-word again.
-#[derive(Clone, Copy, Debug)]
+#[derive(Drop, Debug)]
 pub struct Halves {
     entries: [Entry; 256],
 }

@@ -74,7 +74,7 @@ impl Entry {
 
 /// The words that were read last, each at a place that its address tells, and the half-words. It decides nothing: it only
 /// saves reading a word again.
-#[derive(Clone, Copy, Debug)]
+#[derive(Drop, Debug)]
 pub struct Known {
     entries: [Entry; 256],
     pub halves: Halves,
