@@ -3,7 +3,7 @@ use Rattle.std.specs.Prelude.{◌≡◌, List, ◌∷◌, Bool, true, false, Opt
 use Rattle.asm_model.specs.declared.lines.Line.{Line}
 use Rattle.expand_model.specs.declared.operations.Operation.{Operation}
 use Rattle.expand_model.specs.declared.operations.Operation.TheVariants.{While}
-use Rattle.expand_model.specs.States.{State}
+use Rattle.expand_model.specs.States.{State, with_scope}
 use Rattle.expand_model.specs.States as states
 use Rattle.expand_model.specs.Steps.{Sources, Context}
 use Rattle.expand_model.specs.Steps as model
@@ -53,6 +53,11 @@ abbrev pub TurnsLoop : LineCursor → End → Expansion → Next → Type 0
 TurnsLoop at end c n =
     (sources : Sources) (l : Line) (ls : List Line) (e : model.End) → cursor_lines at ≡ l ∷ ls → IsEnd c end e
     → Shows sources c n (model.behind_turn l ls e)
+
+-- the call that was open around is open again
+abbrev pub Leaves : Scope → Expansion → Expansion → Type 0
+Leaves c old new =
+    (scope : Option states.Scope) (s : State) → HasScope c scope → Represents old s → Represents new (with_scope scope s)
 
 -- what follows the body of a macro
 abbrev pub Returns : Scope → LineCursor → End → Expansion → Expansion → Next → Type 0

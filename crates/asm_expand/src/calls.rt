@@ -121,7 +121,10 @@ fn put_argument(
         (argument_text parameter.now (option_copied text.entry)) map.old map.new) }
 {
     let value = argument_for(alloc, parameter, text)?;
-    let name = parameter.name.share()?;
+    let Ok(name) = parameter.name.share() else {
+        drop(value);
+        return Err(NoMemory);
+    };
     put(map, name, value)
 }
 
@@ -135,7 +138,10 @@ fn rows_of(
 {
     let mut map = IndexMap::new(alloc);
     for i in (0..parameters.len()).rev() {
-        put_argument(alloc, &mut map, &parameters[i], texts.get(i))?;
+        let Ok(()) = put_argument(alloc, &mut map, &parameters[i], texts.get(i)) else {
+            drop(map);
+            return Err(NoMemory);
+        };
     }
     Ok(map)
 }
@@ -153,7 +159,10 @@ fn put_label(
         None => Ok(()),
         Some(name) => {
             let name = name.share()?;
-            let value = SharedText::from_slice(alloc, label)?;
+            let Ok(value) = SharedText::from_slice(alloc, label) else {
+                drop(name);
+                return Err(NoMemory);
+            };
             put(map, name, value)
         }
     }
@@ -169,12 +178,48 @@ fn scope_of(
     ensures { IfOk result (λ scope. IsScopeOf prototype.now label.now texts.now scope) }
 {
     let mut rows = rows_of(alloc, prototype.parameters.as_slice(), texts)?;
-    put_label(alloc, &mut rows, &prototype.label, label)?;
+    let Ok(()) = put_label(alloc, &mut rows, &prototype.label, label) else {
+        drop(rows);
+        return Err(NoMemory);
+    };
     Ok(Scope {
         in_call: true,
         locals: IndexMap::new(alloc),
         arguments: rows,
     })
+}
+
+/// What a call of a macro says that has these arguments.
+fn call_with(
+    alloc: Global,
+    depth: Depth,
+    state: &mut Expansion,
+    at: LineCursor,
+    words: Words<'_>,
+    called: &Definition,
+    texts: &[SharedText],
+) -> Result<Next, NoMemory>
+    requires { texts.now ≡ arguments words.behind.now }
+    ensures says { IfOk result (λ next. Says at state.old state.new next (λ s l ls.
+        model.call (depth_of depth) l (words_shown words.entry) s ls (macro_of called.now))) }
+    ensures visits { state.new.visits ≤ state.old.visits }
+    ensures flats { state.new.flats.items ≡ state.old.flats.items }
+{
+    let prototype = called.prototype.as_ref();
+    if let Some(kind) = call_fault(prototype, words, texts.len(), depth) {
+        return Ok(Next::Bad(at, kind));
+    }
+    let Ok(scope) = scope_of(alloc, prototype, words.label, texts) else {
+        drop(at);
+        return Err(NoMemory);
+    };
+    let Ok(body) = LineCursor::of_body(&called.body) else {
+        drop(scope);
+        drop(at);
+        return Err(NoMemory);
+    };
+    let outer = state.enter(scope);
+    Ok(Next::Under(Frame::Call(outer, at.past(1)), body))
 }
 
 /// What a call of a macro says.
@@ -191,13 +236,13 @@ pub fn call(
     ensures visits { state.new.visits ≤ state.old.visits }
     ensures flats { state.new.flats.items ≡ state.old.flats.items }
 {
-    let texts = arguments(alloc, words.behind)?;
-    let prototype = called.prototype.as_ref();
-    if let Some(kind) = call_fault(prototype, words, texts.len(), depth) {
-        return Ok(Next::Bad(at, kind));
-    }
-    let scope = scope_of(alloc, prototype, words.label, texts.as_slice())?;
-    let body = LineCursor::of_body(&called.body)?;
-    let outer = state.enter(scope);
-    Ok(Next::Under(Frame::Call(outer, at.past(1)), body))
+    let Ok(texts) = arguments(alloc, words.behind) else {
+        drop(called);
+        drop(at);
+        return Err(NoMemory);
+    };
+    let said = call_with(alloc, depth, state, at, words, &called, texts.as_slice());
+    drop(texts);
+    drop(called);
+    said
 }

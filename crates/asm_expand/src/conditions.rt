@@ -33,8 +33,14 @@ pub fn skip_from(
     ensures flats { state.new.flats.items ≡ state.old.flats.items }
     ensures fewer { state.new.visits ≤ state.old.visits }
 {
-    match skip(alloc, opening, state.visits, from.rest())? {
+    let Ok(skipping) = skip(alloc, opening, state.visits, from.rest()) else {
+        drop(at);
+        drop(from);
+        return Err(NoMemory);
+    };
+    match skipping {
         Skipping::Closed(passed) => {
+            drop(at);
             state.pass(passed);
             Ok(Next::Go(from.past(passed)))
         }
@@ -42,8 +48,14 @@ pub fn skip_from(
             state.pass(passed);
             Ok(Next::Under(Frame::Alternative(at), from.past(passed)))
         }
-        Skipping::Faulty(passed, kind) => Ok(Next::Bad(from.past(passed), kind)),
-        Skipping::Endless => Ok(Next::Stop(End::Unclosed(at))),
+        Skipping::Faulty(passed, kind) => {
+            drop(at);
+            Ok(Next::Bad(from.past(passed), kind))
+        }
+        Skipping::Endless => {
+            drop(from);
+            Ok(Next::Stop(End::Unclosed(at)))
+        }
     }
 }
 
@@ -59,7 +71,10 @@ fn branch(
     ensures visits { state.new.visits ≤ state.old.visits }
     ensures flats { state.new.flats.items ≡ state.old.flats.items }
 {
-    let behind = at.behind()?;
+    let Ok(behind) = at.behind() else {
+        drop(at);
+        return Err(NoMemory);
+    };
     if truth {
         return Ok(Next::Under(Frame::Condition(at), behind));
     }
@@ -78,7 +93,10 @@ fn turn_around(
     ensures visits { state.new.visits ≤ state.old.visits }
     ensures flats { state.new.flats.items ≡ state.old.flats.items }
 {
-    let behind = at.behind()?;
+    let Ok(behind) = at.behind() else {
+        drop(at);
+        return Err(NoMemory);
+    };
     if truth {
         return Ok(Next::Under(Frame::Loop(at), behind));
     }
@@ -91,7 +109,10 @@ fn truth_of(value: Result<Value, LineKind>) -> Result<bool, LineKind>
 {
     match value {
         Ok(Value::Truth(truth)) => Ok(truth),
-        Ok(_) => Err(LineKind::WrongType),
+        Ok(value) => {
+            drop(value);
+            Err(LineKind::WrongType)
+        }
         Err(kind) => Err(kind),
     }
 }
@@ -113,7 +134,10 @@ pub fn say_if(
     ensures visits { state.new.visits ≤ state.old.visits }
     ensures flats { state.new.flats.items ≡ state.old.flats.items }
 {
-    let value = value_of(alloc, state, operand)?;
+    let Ok(value) = value_of(alloc, state, operand) else {
+        drop(at);
+        return Err(NoMemory);
+    };
     let truth = truth_of(value);
     let told = opening_fault(words, depth, operand);
     match settle(told, truth) {
@@ -139,7 +163,10 @@ pub fn say_while(
     ensures visits { state.new.visits ≤ state.old.visits }
     ensures flats { state.new.flats.items ≡ state.old.flats.items }
 {
-    let value = value_of(alloc, state, operand)?;
+    let Ok(value) = value_of(alloc, state, operand) else {
+        drop(at);
+        return Err(NoMemory);
+    };
     let truth = truth_of(value);
     let told = opening_fault(words, depth, operand);
     match settle(told, truth) {

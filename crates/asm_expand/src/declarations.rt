@@ -77,11 +77,18 @@ pub fn say_global(
     let Some(name) = name_of(operand_text(words.behind)) else {
         return Ok(Next::Bad(at, LineKind::Syntax));
     };
-    let name = SharedText::from_slice(alloc, name)?;
+    let Ok(name) = SharedText::from_slice(alloc, name) else {
+        drop(at);
+        return Err(NoMemory);
+    };
     if let Some(kind) = global_fault(state, words, &name) {
+        drop(name);
         return Ok(Next::Bad(at, kind));
     }
-    state.declare_global(name, first_value(alloc, sort))?;
+    let Ok(()) = state.declare_global(name, first_value(alloc, sort)) else {
+        drop(at);
+        return Err(NoMemory);
+    };
     Ok(Next::Go(at.past(1)))
 }
 
@@ -117,14 +124,22 @@ pub fn say_local(
     let Some(name) = name_of(operand_text(words.behind)) else {
         return Ok(Next::Bad(at, LineKind::Syntax));
     };
-    let name = SharedText::from_slice(alloc, name)?;
+    let Ok(name) = SharedText::from_slice(alloc, name) else {
+        drop(at);
+        return Err(NoMemory);
+    };
     if let Some(kind) = local_fault(state, words, &name) {
+        drop(name);
         return Ok(Next::Bad(at, kind));
     }
     if !state.in_call {
+        drop(name);
         return Ok(Next::Bad(at, LineKind::Nesting));
     }
-    state.declare_local(name, first_value(alloc, sort))?;
+    let Ok(()) = state.declare_local(name, first_value(alloc, sort)) else {
+        drop(at);
+        return Err(NoMemory);
+    };
     Ok(Next::Go(at.past(1)))
 }
 
@@ -161,6 +176,7 @@ fn of_type(sort: Sort, value: Result<Value, LineKind>) -> Result<Value, LineKind
             if is_of(sort, &value) {
                 return Ok(value);
             }
+            drop(value);
             Err(LineKind::WrongType)
         }
     }
@@ -185,14 +201,27 @@ pub fn say_set(
     let Some(name) = name_of(words.label) else {
         return Ok(Next::Bad(at, LineKind::Syntax));
     };
-    let name = SharedText::from_slice(alloc, name)?;
-    let value = value_of(alloc, state, operand)?;
+    let Ok(name) = SharedText::from_slice(alloc, name) else {
+        drop(at);
+        return Err(NoMemory);
+    };
+    let Ok(value) = value_of(alloc, state, operand) else {
+        drop(name);
+        drop(at);
+        return Err(NoMemory);
+    };
     let typed = of_type(sort, value);
     let told = set_fault(state, sort, &name, operand);
     match settle(told, typed) {
-        Err(kind) => Ok(Next::Bad(at, kind)),
+        Err(kind) => {
+            drop(name);
+            Ok(Next::Bad(at, kind))
+        }
         Ok(value) => {
-            state.set(name, value)?;
+            let Ok(()) = state.set(name, value) else {
+                drop(at);
+                return Err(NoMemory);
+            };
             Ok(Next::Go(at.past(1)))
         }
     }

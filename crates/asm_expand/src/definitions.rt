@@ -29,7 +29,10 @@ fn line_copy(alloc: Global, line: &Line) -> Result<Line, NoMemory>
     ensures { IfOk result (λ copy. copy ≡ line.now) }
 {
     let source = line.source.share()?;
-    let text = line.text.share()?;
+    let Ok(text) = line.text.share() else {
+        drop(source);
+        return Err(NoMemory);
+    };
     Ok(Line {
         source,
         number: line.number,
@@ -42,7 +45,14 @@ fn lines_copy(alloc: Global, lines: &[Line]) -> Result<Vec<Line>, NoMemory>
 {
     let mut copies = Vec::new(alloc);
     'lines: for line in lines {
-        copies.push(line_copy(alloc, line)?)?;
+        let Ok(copy) = line_copy(alloc, line) else {
+            drop(copies);
+            return Err(NoMemory);
+        };
+        let Ok(()) = copies.push(copy) else {
+            drop(copies);
+            return Err(NoMemory);
+        };
     }
     Ok(copies)
 }
@@ -66,9 +76,18 @@ fn definition_of(
 ) -> Result<Definition, NoMemory>
     ensures { IfOk result (λ d. IsDefinition prototype (take count lines.now) d) }
 {
-    let body = lines_copy(alloc, front(lines, count))?;
-    let body = Rc::new(alloc, List::from_vec(body))?;
-    let prototype = Rc::new(alloc, prototype)?;
+    let Ok(body) = lines_copy(alloc, front(lines, count)) else {
+        drop(prototype);
+        return Err(NoMemory);
+    };
+    let Ok(body) = Rc::new(alloc, List::from_vec(body)) else {
+        drop(prototype);
+        return Err(NoMemory);
+    };
+    let Ok(prototype) = Rc::new(alloc, prototype) else {
+        drop(body);
+        return Err(NoMemory);
+    };
     Ok(Definition { prototype, body })
 }
 
@@ -85,11 +104,26 @@ fn defined(
     ensures flats { state.new.flats.items ≡ state.old.flats.items }
 {
     match take_body(state.visits, body.rest()) {
-        Taking::Bad(passed, kind) => Ok(Next::Bad(body.past(passed), kind)),
-        Taking::Open => Ok(Next::Stop(End::Unclosed(at))),
+        Taking::Bad(passed, kind) => {
+            drop(at);
+            drop(prototype);
+            Ok(Next::Bad(body.past(passed), kind))
+        }
+        Taking::Open => {
+            drop(body);
+            drop(prototype);
+            Ok(Next::Stop(End::Unclosed(at)))
+        }
         Taking::Whole(count) => {
-            let definition = definition_of(alloc, prototype, body.rest(), count)?;
-            state.define(alloc, definition)?;
+            drop(at);
+            let Ok(definition) = definition_of(alloc, prototype, body.rest(), count) else {
+                drop(body);
+                return Err(NoMemory);
+            };
+            let Ok(()) = state.define(alloc, definition) else {
+                drop(body);
+                return Err(NoMemory);
+            };
             state.pass(count);
             state.pass(1);
             Ok(Next::Go(body.past(count).past(1)))
@@ -104,12 +138,24 @@ fn is_repeated(alloc: Global, prototype: &Prototype) -> Result<bool, NoMemory>
         ≡ prototypes.is_repeated (prototypes.parameter_names prototype.now)) }
 {
     let mut seen = IndexSet::new(alloc);
-    if has_twice(alloc, prototype.parameters.as_slice(), &mut seen)? {
+    let Ok(twice) = has_twice(alloc, prototype.parameters.as_slice(), &mut seen) else {
+        drop(seen);
+        return Err(NoMemory);
+    };
+    if twice {
+        drop(seen);
         return Ok(true);
     }
     match &prototype.label {
-        None => Ok(false),
-        Some(name) => Ok(seen.contains(name)),
+        None => {
+            drop(seen);
+            Ok(false)
+        }
+        Some(name) => {
+            let among = seen.contains(name);
+            drop(seen);
+            Ok(among)
+        }
     }
 }
 
@@ -225,8 +271,15 @@ fn prototype_on(
     let Some(prototype) = prototype_of(alloc, raw_words_of(line.text.as_slice()))? else {
         return Ok(Err(LineKind::Syntax));
     };
-    match prototype_fault(alloc, state, &prototype)? {
-        Some(kind) => Ok(Err(kind)),
+    let Ok(told) = prototype_fault(alloc, state, &prototype) else {
+        drop(prototype);
+        return Err(NoMemory);
+    };
+    match told {
+        Some(kind) => {
+            drop(prototype);
+            Ok(Err(kind))
+        }
         None => Ok(Ok(prototype)),
     }
 }
@@ -238,16 +291,29 @@ pub fn definition(alloc: Global, state: &mut Expansion, at: LineCursor) -> Resul
     ensures visits { state.new.visits ≤ state.old.visits }
     ensures flats { state.new.flats.items ≡ state.old.flats.items }
 {
-    let place = at.behind()?;
+    let Ok(place) = at.behind() else {
+        drop(at);
+        return Err(NoMemory);
+    };
     let Some(line) = place.first() else {
+        drop(place);
         return Ok(Next::Stop(End::Unclosed(at)));
     };
     if state.visits == 0 {
+        drop(at);
         return Ok(Next::Bad(place, LineKind::TooMany));
     }
     state.visit();
-    match prototype_on(alloc, state, line)? {
-        Err(kind) => Ok(Next::Bad(place, kind)),
+    let Ok(read) = prototype_on(alloc, state, line) else {
+        drop(place);
+        drop(at);
+        return Err(NoMemory);
+    };
+    match read {
+        Err(kind) => {
+            drop(at);
+            Ok(Next::Bad(place, kind))
+        }
         Ok(prototype) => defined(alloc, state, at, place.past(1), prototype),
     }
 }

@@ -1,6 +1,9 @@
 //! The engine: the lines of a source, in a loop over a stack of what is open.
 
-ghost use Rattle.std.specs.Prelude.{◌≡◌, ◌≤◌, ◌∷◌, [], ◌++◌, length, IfOk, IfErr, MatchOption, OnOk};
+ghost use Rattle.asm_model.specs.Lines.{split};
+ghost use Rattle.asm_model.specs.Told.{GivesFault};
+ghost use Rattle.std.specs.Prelude.{Ok, ◌≡◌, ◌≤◌, ◌∷◌, [], ◌++◌, length, IfOk, IfErr, MatchOption, OnOk};
+ghost use Rattle.sdt_fault.specs.declared.kinds.LineKind.TheVariants.{Nesting};
 ghost use Rattle.sdt_outside.specs.Counts.{Rose};
 ghost use Rattle.expand_model.specs.Expands.{Expands, Flats};
 ghost use Rattle.expand_model.specs.Gets.{GetsFile};
@@ -27,6 +30,7 @@ use sdt_fault::refusal::Refusal;
 use sdt_fault::{NoMemory, Text};
 use sdt_outside::{Store, StoreError};
 use std::alloc::Global;
+use std::mem;
 
 /// How many lines may be visited.
 pub const VISIT_LIMIT: usize = 1_000_000;
@@ -126,10 +130,22 @@ fn open(engine: &mut Engine, frame: Frame) -> Result<(), NoMemory>
     ensures opens { OnOk result (Opens frame engine.old engine.new) }
     ensures state { engine.new.state ≡ engine.old.state }
 {
-    let depth = deeper(&frame, engine.depth)?;
+    let Ok(depth) = deeper(&frame, engine.depth) else {
+        drop(frame);
+        return Err(NoMemory);
+    };
     engine.frames.push(frame)?;
     engine.depth = depth;
     Ok(())
+}
+
+/// The lines of a file with these bytes.
+fn lines_in(alloc: Global, name: &Text, bytes: &[u8]) -> Result<LineCursor, Fault>
+    ensures lines { IfOk result (λ p. split name.now bytes.now ≡ Ok (cursor_lines p)) }
+    ensures fault { IfErr result (λ e. GivesFault (split name.now bytes.now) e) }
+{
+    let lines = split_lines(alloc, name, bytes)?;
+    Ok(LineCursor::start(alloc, lines)?)
 }
 
 /// The lines of a file, under its frame.
@@ -151,14 +167,41 @@ fn get<S: Store>(
 {
     match store.read(alloc, &name) {
         Ok(bytes) => {
-            let lines = split_lines(alloc, &name, bytes.as_slice())?;
-            let first = LineCursor::start(alloc, lines)?;
-            Ok(Next::Under(Frame::File(behind), first))
+            let first = lines_in(alloc, &name, bytes.as_slice());
+            drop(bytes);
+            drop(name);
+            match first {
+                Ok(first) => Ok(Next::Under(Frame::File(behind), first)),
+                Err(fault) => {
+                    drop(behind);
+                    Err(fault)
+                }
+            }
         }
-        Err(StoreError::Missing) => Err(Fault::Refused(Refusal::Missing { name })),
-        Err(StoreError::Failed) => Err(Fault::ReadFault(name)),
-        Err(StoreError::NoMemory) => Err(Fault::NoMemory),
+        Err(StoreError::Missing) => {
+            drop(behind);
+            Err(Fault::Refused(Refusal::Missing { name }))
+        }
+        Err(StoreError::Failed) => {
+            drop(behind);
+            Err(Fault::ReadFault(name))
+        }
+        Err(StoreError::NoMemory) => {
+            drop(behind);
+            drop(name);
+            Err(Fault::NoMemory)
+        }
     }
+}
+
+/// The refusal of a word that nothing pairs with.
+fn unpaired(alloc: Global, place: LineCursor) -> Fault
+    ensures at { IsBadAt place Nesting result }
+    ensures refusal { IsRefusal result }
+{
+    let fault = bad_at(alloc, &place, LineKind::Nesting);
+    drop(place);
+    fault
 }
 
 /// Where lines end under nothing: a word there that is unpaired is refused.
@@ -169,10 +212,10 @@ fn outermost(alloc: Global, end: End) -> Result<Option<Next>, Fault>
     match end {
         End::Over => Ok(None),
         End::Ended => Ok(None),
-        End::Cut(place) => Err(bad_at(alloc, &place, LineKind::Nesting)),
-        End::Closed(_, place) => Err(bad_at(alloc, &place, LineKind::Nesting)),
-        End::Left(place) => Err(bad_at(alloc, &place, LineKind::Nesting)),
-        End::Unclosed(place) => Err(bad_at(alloc, &place, LineKind::Nesting)),
+        End::Cut(place) => Err(unpaired(alloc, place)),
+        End::Closed(_, place) => Err(unpaired(alloc, place)),
+        End::Left(place) => Err(unpaired(alloc, place)),
+        End::Unclosed(place) => Err(unpaired(alloc, place)),
     }
 }
 
@@ -248,13 +291,70 @@ fn step<S: Store>(
             Ok(Some(next))
         }
         Next::Under(frame, place) => {
-            open(engine, frame)?;
+            let Ok(()) = open(engine, frame) else {
+                drop(place);
+                return Err(Fault::NoMemory);
+            };
             Ok(Some(Next::Go(place)))
         }
         Next::Get(name, behind) => { get_on(alloc, store, engine, name, behind) }
-        Next::Bad(place, kind) => Err(bad_at(alloc, &place, kind)),
+        Next::Bad(place, kind) => {
+            let fault = bad_at(alloc, &place, kind);
+            drop(place);
+            Err(fault)
+        }
         Next::Stop(end) => close(alloc, engine, end),
     }
+}
+
+/// Reads all lines from this one on, where nothing is read yet: the flat lines are in the engine.
+fn run<S: Store>(
+    alloc: Global,
+    first: LineCursor,
+    store: &mut S,
+    engine: &mut Engine,
+) -> Result<(), Fault>
+    requires { Starts engine.old }
+    ensures flats { OnOk result (OfFiles (S.files store.old) (λ sources. RunsTo sources
+        (Go (started visit_limit) (cursor_lines first)) (Flats engine.new.state.flats.items))) }
+    ensures few { OnOk result (length engine.new.state.flats.items ≤ visit_limit) }
+    ensures fault { IfErr result (λ e. OfFiles (S.files store.old) (λ sources.
+        IsFault e (RunsTo sources (Go (started visit_limit) (cursor_lines first))))) }
+    ensures read { IfErr result (λ e. OfFiles (S.files store.old) (λ sources.
+        IsReadOf e (RunsToGet sources (Go (started visit_limit) (cursor_lines first))))) }
+    ensures cause { IfErr result
+        (λ e. Caused e (S.files store.old)
+        (Rose (S.read_faults store.old) (S.read_faults store.new))) }
+    ensures files { S.files store.new ≡ S.files store.old }
+    ensures read_faults { S.read_faults store.old ≤ S.read_faults store.new }
+    ensures write_faults { S.write_faults store.new ≡ S.write_faults store.old }
+{
+    let mut next = Next::Go(first);
+    let mut kept = NONE_KEPT;
+    'steps: loop {
+        match step(alloc, store, engine, next) {
+            Err(fault) => return Err(fault),
+            Ok(None) => return Ok(()),
+            Ok(Some(after)) => {
+                let Ok(count) = kept_behind(kept, &after, engine.state.flats.as_slice()) else {
+                    drop(after);
+                    return Err(Fault::NoMemory);
+                };
+                kept = count;
+                next = after;
+            }
+        }
+    }
+}
+
+/// The flat lines that an engine has, of which nothing else is left.
+fn flats_of(alloc: Global, engine: Engine) -> Vec<Flat>
+    ensures { result.items ≡ engine.state.flats.items }
+{
+    let mut engine = engine;
+    let flats = mem::replace(&mut engine.state.flats, Vec::new(alloc));
+    drop(engine);
+    flats
 }
 
 /// The flat lines of a source whose lines these are.
@@ -278,17 +378,12 @@ fn expand_lines<S: Store>(
     ensures write_faults { S.write_faults store.new ≡ S.write_faults store.old }
 {
     let mut engine = started(alloc);
-    let mut next = Next::Go(first);
-    let mut kept = NONE_KEPT;
-    'steps: loop {
-        match step(alloc, store, &mut engine, next) {
-            Err(fault) => return Err(fault),
-            Ok(None) => return Ok(engine.state.flats),
-            Ok(Some(after)) => {
-                kept = kept_behind(kept, &after, engine.state.flats.as_slice())?;
-                next = after;
-            }
+    match run(alloc, first, store, &mut engine) {
+        Err(fault) => {
+            drop(engine);
+            Err(fault)
         }
+        Ok(()) => Ok(flats_of(alloc, engine)),
     }
 }
 

@@ -59,7 +59,9 @@ fn expression_in(alloc: Global, text: &[u8]) -> Result<Result<Expr, LineKind>, N
     let Some(tokens) = found else {
         return Ok(Err(LineKind::Syntax));
     };
-    expression(alloc, text, parts_of(tokens.as_slice()).behind)
+    let read = expression(alloc, text, parts_of(tokens.as_slice()).behind);
+    drop(tokens);
+    read
 }
 
 /// The macro that a word names.
@@ -78,8 +80,15 @@ fn macro_called(
     };
     let name = SharedText::from_slice(alloc, name)?;
     match state.macros.get(&name) {
-        None => Ok(None),
-        Some(called) => Ok(Some(called.copy()?)),
+        None => {
+            drop(name);
+            Ok(None)
+        }
+        Some(called) => {
+            let copy = called.copy();
+            drop(name);
+            Ok(Some(copy?))
+        }
     }
 }
 
@@ -162,7 +171,10 @@ fn say_get(alloc: Global, depth: Depth, at: LineCursor, words: Words<'_>) -> Res
     if let Some(kind) = file_fault(words, depth) {
         return Ok(Next::Bad(at, kind));
     }
-    let name = Text::from_slice(alloc, operand_text(words.behind))?;
+    let Ok(name) = Text::from_slice(alloc, operand_text(words.behind)) else {
+        drop(at);
+        return Err(NoMemory);
+    };
     Ok(Next::Get(name, at.past(1)))
 }
 
@@ -293,9 +305,18 @@ fn read_text(
         return Ok(Next::Bad(at, LineKind::TooMany));
     }
     let words = words_of(text);
-    let kind = kind_of(alloc, state, words)?;
-    let operand = operand_of(alloc, &kind, words.operation, text)?;
-    say(alloc, depth, state, at, flat, words, kind, &operand)
+    let Ok(kind) = kind_of(alloc, state, words) else {
+        drop(at);
+        return Err(NoMemory);
+    };
+    let Ok(operand) = operand_of(alloc, &kind, words.operation, text) else {
+        drop(kind);
+        drop(at);
+        return Err(NoMemory);
+    };
+    let said = say(alloc, depth, state, at, flat, words, kind, &operand);
+    drop(operand);
+    said
 }
 
 /// What a line with this text says, which has dollars.
@@ -311,14 +332,23 @@ fn read_dollars(
     ensures visits { state.new.visits ≤ state.old.visits }
     ensures flats { length state.new.flats.items ≤ length state.old.flats.items + 1 }
 {
-    match substitute(alloc, &state.tables, text.as_slice())? {
-        None => Ok(Next::Bad(at, LineKind::UnknownWord)),
-        Some(bytes) => {
-            // without the room that the bytes have to grow
-            let flat = SharedText::from_slice(alloc, bytes.as_slice())?;
-            read_text(alloc, depth, state, at, &flat)
-        }
-    }
+    let Ok(found) = substitute(alloc, &state.tables, text.as_slice()) else {
+        drop(at);
+        return Err(NoMemory);
+    };
+    let Some(bytes) = found else {
+        return Ok(Next::Bad(at, LineKind::UnknownWord));
+    };
+    // without the room that the bytes have to grow
+    let shared = SharedText::from_slice(alloc, bytes.as_slice());
+    drop(bytes);
+    let Ok(flat) = shared else {
+        drop(at);
+        return Err(NoMemory);
+    };
+    let said = read_text(alloc, depth, state, at, &flat);
+    drop(flat);
+    said
 }
 
 /// What a line with this text says.
@@ -355,10 +385,16 @@ pub fn read(
     let Some(line) = at.first() else {
         return Ok(Next::Stop(End::Over));
     };
-    let text = line.text.share()?;
+    let Ok(text) = line.text.share() else {
+        drop(at);
+        return Err(NoMemory);
+    };
     if state.visits == 0 {
+        drop(text);
         return Ok(Next::Bad(at, LineKind::TooMany));
     }
     state.visit();
-    read_line(alloc, depth, state, at, &text)
+    let said = read_line(alloc, depth, state, at, &text);
+    drop(text);
+    said
 }

@@ -1,6 +1,7 @@
 //! Expansion of a source to its flat lines: variables, conditions, loops, macros and the files that its GETs name, by a
 //! loop over a stack of what is open. Public source: the SDT 2.50 Reference Guide, chapter on the assembler; depths and
-//! limits are this project's. `armasm_core` calls `expand` over a store of files.
+//! limits are this project's. `armasm_core` calls `expand` over a store of files. Places, names and tables are given up by
+//! `drop` at each exit, for a short proof (docs/GATE.md).
 #![tactic(auto)]
 
 pub mod calls;

@@ -132,8 +132,14 @@ fn push_flat(
     ensures visits { state.new.visits ≡ state.old.visits }
     ensures flats { length state.new.flats.items ≤ length state.old.flats.items + 1 }
 {
-    state.flats.push(flat)?;
-    note_number(alloc, &mut state.numbers, &name, number)?;
+    let Ok(()) = state.flats.push(flat) else {
+        drop(name);
+        return Err(NoMemory);
+    };
+    let Ok(()) = note_number(alloc, &mut state.numbers, &name, number) else {
+        drop(name);
+        return Err(NoMemory);
+    };
     note_label(&mut state.labels, name)?;
     state.thumb = thumb;
     Ok(())
@@ -147,7 +153,10 @@ fn flat_at(at: &LineCursor, text: &SharedText) -> Result<Option<Flat>, NoMemory>
         return Ok(None);
     };
     let source = line.source.share()?;
-    let text = text.share()?;
+    let Ok(text) = text.share() else {
+        drop(source);
+        return Err(NoMemory);
+    };
     Ok(Some(Flat {
         source,
         number: line.number,
@@ -173,13 +182,31 @@ pub fn say_plain(
 {
     let ends = is_called(b"END", words.operation);
     let thumb = state_behind(words.operation, state.thumb);
-    let name = label_name(text, words.label)?;
-    let number = equ_number(alloc, state, words.operation, operand)?;
-    let Some(flat) = flat_at(&at, text)? else {
+    let Ok(name) = label_name(text, words.label) else {
+        drop(at);
+        return Err(NoMemory);
+    };
+    let Ok(number) = equ_number(alloc, state, words.operation, operand) else {
+        drop(name);
+        drop(at);
+        return Err(NoMemory);
+    };
+    let Ok(found) = flat_at(&at, text) else {
+        drop(name);
+        drop(at);
+        return Err(NoMemory);
+    };
+    let Some(flat) = found else {
+        drop(name);
+        drop(at);
         return Ok(Next::Stop(End::Over));
     };
-    push_flat(alloc, state, flat, name, number, thumb)?;
+    let Ok(()) = push_flat(alloc, state, flat, name, number, thumb) else {
+        drop(at);
+        return Err(NoMemory);
+    };
     if ends {
+        drop(at);
         return Ok(Next::Stop(End::Ended));
     }
     Ok(Next::Go(at.past(1)))

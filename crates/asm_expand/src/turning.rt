@@ -3,7 +3,9 @@
 ghost use Rattle.std.specs.Prelude.{◌≡◌, ◌≤◌, IfOk};
 ghost use Rattle.expand_model.specs.Steps as model;
 ghost use Rattle.asm_expand.specs.Saying.{Shortens};
-ghost use Rattle.asm_expand.specs.Turning.{Answers, Closes, ClosesLoop, IsWhile, Repeats, Resumes, Returns, Turns, TurnsLoop, names_while};
+ghost use Rattle.asm_expand.specs.declared.steps.Next.TheVariants as steps;
+ghost use Rattle.sdt_fault.specs.declared.kinds.LineKind.TheVariants.{Nesting};
+ghost use Rattle.asm_expand.specs.Turning.{Answers, Closes, ClosesLoop, IsWhile, Leaves, Repeats, Resumes, Returns, Turns, TurnsLoop, names_while};
 
 use crate::conditions::skip_from;
 use crate::line_cursors::LineCursor;
@@ -34,8 +36,14 @@ fn close_condition(
 {
     match operation {
         Operation::Else => skip_from(alloc, state, Opening::Alternative, at, word.past(1)),
-        Operation::EndIf => Ok(Next::Go(word.past(1))),
-        _ => Ok(Next::Bad(word, LineKind::Nesting)),
+        Operation::EndIf => {
+            drop(at);
+            Ok(Next::Go(word.past(1)))
+        }
+        _ => {
+            drop(at);
+            Ok(Next::Bad(word, LineKind::Nesting))
+        }
     }
 }
 
@@ -54,10 +62,19 @@ fn turn_condition(
     match end {
         End::Closed(operation, word) => close_condition(alloc, state, at, operation, word),
         End::Over => Ok(Next::Stop(End::Unclosed(at))),
-        End::Unclosed(_) => Ok(Next::Stop(End::Unclosed(at))),
-        End::Left(place) => Ok(Next::Stop(End::Left(place))),
+        End::Unclosed(inner) => {
+            drop(inner);
+            Ok(Next::Stop(End::Unclosed(at)))
+        }
+        End::Left(place) => {
+            drop(at);
+            Ok(Next::Stop(End::Left(place)))
+        }
         End::Ended => Ok(Next::Stop(End::Cut(at))),
-        End::Cut(_) => Ok(Next::Stop(End::Cut(at))),
+        End::Cut(inner) => {
+            drop(inner);
+            Ok(Next::Stop(End::Cut(at)))
+        }
     }
 }
 
@@ -67,13 +84,28 @@ fn turn_alternative(state: &Expansion, at: LineCursor, end: End) -> Next
     ensures visits { Shortens result state.now.visits state.now.visits }
 {
     match end {
-        End::Closed(Operation::EndIf, word) => Next::Go(word.past(1)),
-        End::Closed(_, word) => Next::Bad(word, LineKind::Nesting),
+        End::Closed(Operation::EndIf, word) => {
+            drop(at);
+            Next::Go(word.past(1))
+        }
+        End::Closed(_, word) => {
+            drop(at);
+            Next::Bad(word, LineKind::Nesting)
+        }
         End::Over => Next::Stop(End::Unclosed(at)),
-        End::Unclosed(_) => Next::Stop(End::Unclosed(at)),
-        End::Left(place) => Next::Stop(End::Left(place)),
+        End::Unclosed(inner) => {
+            drop(inner);
+            Next::Stop(End::Unclosed(at))
+        }
+        End::Left(place) => {
+            drop(at);
+            Next::Stop(End::Left(place))
+        }
         End::Ended => Next::Stop(End::Cut(at)),
-        End::Cut(_) => Next::Stop(End::Cut(at)),
+        End::Cut(inner) => {
+            drop(inner);
+            Next::Stop(End::Cut(at))
+        }
     }
 }
 
@@ -93,7 +125,11 @@ fn is_while(alloc: Global, state: &Expansion, line: &Line) -> Result<bool, NoMem
 {
     match substitute(alloc, &state.tables, line.text.as_slice())? {
         None => Ok(true),
-        Some(text) => Ok(names_while(operation_of(words_of(text.as_slice()).operation))),
+        Some(text) => {
+            let holds = names_while(operation_of(words_of(text.as_slice()).operation));
+            drop(text);
+            Ok(holds)
+        }
     }
 }
 
@@ -108,11 +144,19 @@ fn again(
     ensures visits { IfOk result (λ next. Shortens next state.now.visits state.now.visits) }
 {
     let Some(line) = at.first() else {
+        drop(word);
         return Ok(Next::Go(at));
     };
-    if is_while(alloc, state, line)? {
+    let Ok(holds) = is_while(alloc, state, line) else {
+        drop(at);
+        drop(word);
+        return Err(NoMemory);
+    };
+    if holds {
+        drop(word);
         return Ok(Next::Go(at));
     }
+    drop(at);
     Ok(Next::Bad(word, LineKind::Nesting))
 }
 
@@ -129,7 +173,10 @@ fn close_loop(
 {
     match operation {
         Operation::WEnd => again(alloc, state, at, word),
-        _ => Ok(Next::Bad(word, LineKind::Nesting)),
+        _ => {
+            drop(at);
+            Ok(Next::Bad(word, LineKind::Nesting))
+        }
     }
 }
 
@@ -141,11 +188,30 @@ fn turn_loop(alloc: Global, state: &Expansion, at: LineCursor, end: End) -> Resu
     match end {
         End::Closed(operation, word) => close_loop(alloc, state, at, operation, word),
         End::Over => Ok(Next::Stop(End::Unclosed(at))),
-        End::Unclosed(_) => Ok(Next::Stop(End::Unclosed(at))),
-        End::Left(place) => Ok(Next::Stop(End::Left(place))),
+        End::Unclosed(inner) => {
+            drop(inner);
+            Ok(Next::Stop(End::Unclosed(at)))
+        }
+        End::Left(place) => {
+            drop(at);
+            Ok(Next::Stop(End::Left(place)))
+        }
         End::Ended => Ok(Next::Stop(End::Cut(at))),
-        End::Cut(_) => Ok(Next::Stop(End::Cut(at))),
+        End::Cut(inner) => {
+            drop(inner);
+            Ok(Next::Stop(End::Cut(at)))
+        }
     }
+}
+
+/// The call around is open again, or none; what the call had is given up.
+fn leave(state: &mut Expansion, around: Scope)
+    ensures state { Leaves around state.old state.new }
+    ensures visits { state.new.visits ≡ state.old.visits }
+    ensures flats { state.new.flats.items ≡ state.old.flats.items }
+{
+    let left = state.enter(around);
+    drop(left);
 }
 
 /// Behind the body of a macro.
@@ -156,21 +222,43 @@ fn turn_call(state: &mut Expansion, scope: Scope, behind: LineCursor, end: End) 
 {
     match end {
         End::Over => {
-            state.enter(scope);
+            leave(state, scope);
             Next::Go(behind)
         }
-        End::Left(_) => {
-            state.enter(scope);
+        End::Left(place) => {
+            drop(place);
+            leave(state, scope);
             Next::Go(behind)
         }
         End::Ended => {
-            state.enter(scope);
+            drop(behind);
+            leave(state, scope);
             Next::Stop(End::Ended)
         }
-        End::Cut(place) => Next::Stop(End::Cut(place)),
-        End::Closed(_, word) => Next::Bad(word, LineKind::Nesting),
-        End::Unclosed(place) => Next::Bad(place, LineKind::Nesting),
+        End::Cut(place) => {
+            drop(scope);
+            drop(behind);
+            Next::Stop(End::Cut(place))
+        }
+        End::Closed(_, word) => {
+            drop(scope);
+            drop(behind);
+            Next::Bad(word, LineKind::Nesting)
+        }
+        End::Unclosed(place) => {
+            drop(scope);
+            drop(behind);
+            Next::Bad(place, LineKind::Nesting)
+        }
     }
+}
+
+/// The fault of a word in a file that nothing there pairs with; the lines behind the file are given up.
+fn bad_in_file(behind: LineCursor, place: LineCursor) -> Next
+    ensures { result ≡ steps.Bad place Nesting }
+{
+    drop(behind);
+    Next::Bad(place, LineKind::Nesting)
 }
 
 /// Behind a file.
@@ -181,10 +269,10 @@ fn turn_file(state: &Expansion, behind: LineCursor, end: End) -> Next
     match end {
         End::Over => Next::Go(behind),
         End::Ended => Next::Go(behind),
-        End::Cut(place) => Next::Bad(place, LineKind::Nesting),
-        End::Left(place) => Next::Bad(place, LineKind::Nesting),
-        End::Closed(_, word) => Next::Bad(word, LineKind::Nesting),
-        End::Unclosed(place) => Next::Bad(place, LineKind::Nesting),
+        End::Cut(place) => bad_in_file(behind, place),
+        End::Left(place) => bad_in_file(behind, place),
+        End::Closed(_, word) => bad_in_file(behind, word),
+        End::Unclosed(place) => bad_in_file(behind, place),
     }
 }
 

@@ -11,7 +11,7 @@ use Rattle.asm_expand.proofs.conditions.say_while.Goals as goal
 pub returns-in-Err-clause-says : goal.returns-in-Err-clause-says
 returns-in-Err-clause-says c =
     λ sources s l ls h r.
-    let same = c.truth_of-truth.ensures ∙ ap truth (c.in_ok-value.ensures s r) in
+    let same = c.truth_of-truth.ensures ∙ ap truth (c.in-Ok.ensures s r) in
     let e =
     valued_bad l (label_kinds (words_shown c.args.words) ++ depth_kinds (depth_of c.args.depth) ++ long_kinds c.args.operand.now)
     (truth (value_of s c.args.operand.now)) (loop l s ls)

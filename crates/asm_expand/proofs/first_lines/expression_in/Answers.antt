@@ -10,8 +10,8 @@ returns-in_default c = read_none c.args.text.now (rw c.in_default.is at c.in_ok-
 
 pub returns : goal.returns
 returns c =
-    IfOk-weaker c.expression.result _ _
+    IfOk-weaker c.expression-read.result _ _
     (λ x h.
     read_all c.args.text.now c.in-Some.tokens.items c.parts_of.result.behind.now x (rw c.in-Some.is at c.in_ok-found.ensures)
     (ap (λ (s : Sentence). s.behind) c.parts_of.ensures ∙ ap (λ (ts : List Token). (sentence ts).behind) c.as_slice.ensures.value) h)
-    c.expression.ensures
+    c.expression-read.ensures

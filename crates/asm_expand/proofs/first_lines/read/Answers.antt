@@ -19,11 +19,11 @@ returns-then-state-eq0-clause-says c =
 
 pub returns-clause-says : goal.returns-clause-says
 returns-clause-says c =
-    IfOk-weaker c.read_line.result _ _
+    IfOk-weaker c.read_line-said.result _ _
     (λ n h sources s r.
     let v = c.visit.ensures.state s r in
-    line_at sources (depth_of c.args.depth) c.read_line.new.state n c.args.at s c.in_ok-text.text (cursor_lines c.args.at) c.in-Some.line.now
+    line_at sources (depth_of c.args.depth) c.read_line-said.new.state n c.args.at s c.in-Ok.text (cursor_lines c.args.at) c.in-Some.line.now
     (drop 1 (cursor_lines c.args.at)) refl c.in-Some.ensures (some_visits _ _ c.if-state-eq0.false r.visits)
-    c.in_ok-text.ensures
+    c.in-Ok.ensures
     (λ m ms e. h sources (visited s) m ms e v))
-    c.read_line.ensures.says
+    c.read_line-said.ensures.says

@@ -27,14 +27,14 @@ returns-clause-says c =
     let there : length c.as_slice-text.result.now ≤ line_bytes = omega arith in
     let less : length c.args.flat.now ≤ line_bytes = rw is at there in
     let short : nat_lt line_bytes (length c.args.flat.now) ≡ false = le-ltb line_bytes (length c.args.flat.now) less in
-    IfOk-weaker c.say.result _ _
+    IfOk-weaker c.say-said.result _ _
     (λ n h sources s l ls a r.
-    text_said sources (depth_of c.args.depth) c.say.new.state n s l ls c.args.flat.now (words_shown c.words_of-words.result) (kind_shown c.in_ok-kind.kind)
-    c.in_ok-operand.operand short
-    (c.in_ok-kind.ensures s r) (rw is at c.words_of-words.ensures) (rw is at c.in_ok-operand.ensures.reads) (h sources s l ls a r))
-    c.say.ensures.says
+    text_said sources (depth_of c.args.depth) c.say-said.new.state n s l ls c.args.flat.now (words_shown c.words_of-words.result) (kind_shown c.in-Ok.kind)
+    c.in-Ok-operand_of.operand short
+    (c.in-Ok.ensures s r) (rw is at c.words_of-words.ensures) (rw is at c.in-Ok-operand_of.ensures.reads) (h sources s l ls a r))
+    c.say-said.ensures.says
 
-pub say-requires-clause-begins : goal.say-requires-clause-begins
-say-requires-clause-begins c =
+pub say-said-requires-clause-begins : goal.say-said-requires-clause-begins
+say-said-requires-clause-begins c =
     label_begins c.args.flat.now c.words_of-words.result.label.now (words_shown c.words_of-words.result)
     (rw c.as_slice-text.ensures at c.words_of-words.ensures) refl

@@ -21,8 +21,8 @@ returns-clause-state c =
       arguments = r.arguments;
       called = r.called;
       macros = r.macros;
-      flats = c.in_ok-push.ensures.items ∙ ap (λ (xs : List Flat). xs ++ c.args.flat ∷ []) r.flats;
-      numbers = λ q. c.in_ok-note_number.ensures q ∙ ap (λ (o : Option ℕ). or_else o (found q rows)) (r.numbers q) ∙ sym (found_append q s.numbers rows);
+      flats = c.in-Ok.ensures.items ∙ ap (λ (xs : List Flat). xs ++ c.args.flat ∷ []) r.flats;
+      numbers = λ q. c.in-Ok-note_number.ensures q ∙ ap (λ (o : Option ℕ). or_else o (found q rows)) (r.numbers q) ∙ sym (found_append q s.numbers rows);
       labels = λ q. c.in_ok-note_label.ensures q ∙ ap (λ (b : Bool). list_any (λ n. same n q) (listed c.args.name) || b) (r.labels q)
           ∙ sym (labels_listed q c.args.name s.labels);
       thumb = refl;

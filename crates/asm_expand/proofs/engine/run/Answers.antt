@@ -13,7 +13,7 @@ use Rattle.asm_expand.specs.Leading.{IsLed, LedOn, OfFiles, ReadsAlike, RunsTo}
 use Rattle.asm_expand.specs.LineCursors.{cursor_lines}
 use Rattle.asm_expand.proofs.AnswerLemmas.{few_started, led_start, of_files}
 use Rattle.asm_expand.proofs.GetLemmas.{led_next, led_without, read_failed}
-use Rattle.asm_expand.proofs.engine.expand_lines.Goals as goal
+use Rattle.asm_expand.proofs.engine.run.Goals as goal
 
 alike : (n : Next) (a : Sources) → ReadsAlike n a a
 alike (next.Go p) a = tt
@@ -30,10 +30,10 @@ led_last (Some files) start g h n on led = on (content files) start (alike n (co
 
 pub steps-init : goal.steps-init
 steps-init g c = record {
-  led = of_files (g.S.Store.files c.args.store.now) _ (λ sources. led_start sources c.started-engine.result c.args.first c.started-engine.ensures);
+  led = of_files (g.S.Store.files c.args.store.now) _ (λ sources. led_start sources c.args.engine.now c.args.first c.requires);
   without = of_files (g.S.Store.files c.args.store.now) _ (λ sources file. inr
-      (led_start (without file sources) c.started-engine.result c.args.first c.started-engine.ensures));
-  few = few_started c.started-engine.result c.started-engine.ensures;
+      (led_start (without file sources) c.args.engine.now c.args.first c.requires));
+  few = few_started c.args.engine.now c.requires;
   files = refl;
   reads = search rules;
   writes = refl;

@@ -4,7 +4,7 @@ use Rattle.expand_model.specs.Steps.{Go, visit_limit}
 use Rattle.asm_expand.specs.Leading.{IsLed, IsLedWithout, OfFiles, left}
 use Rattle.asm_expand.specs.LineCursors.{cursor_lines}
 use Rattle.asm_expand.specs.Saying.{most_flats}
-use Rattle.asm_expand.proofs.engine.expand_lines.Given as goal
+use Rattle.asm_expand.proofs.engine.run.Given as goal
 
 abbrev pub invariant-steps : goal.invariant-steps
 invariant-steps g l = record {
