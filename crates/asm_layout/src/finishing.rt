@@ -1,17 +1,19 @@
 //! The layout of a source whose lines have no fault of their own.
 
 ghost use Rattle.std.specs.Prelude.{IfOk};
+ghost use Rattle.asm_layout.specs.Areas.{AreAreasOf};
 ghost use Rattle.asm_layout.specs.Finishing.{AreNames, AreNamesOf, Finishes};
 
 use crate::areas::areas_of;
-use crate::laid::Layout;
+use crate::laid::{LaidArea, Layout};
 use crate::late::cleared;
 use crate::outline::Outline;
 use crate::placed_lines::lines_of;
 use crate::walking::Walk;
+use asm_checks::AreaStart;
 use asm_laying::laying::{Ended, LaidStatement};
 use asm_names::{KnownNames, final_names};
-use asm_offsets::extents_are_placeable;
+use asm_offsets::{LaidPools, extents_are_placeable};
 use layout_laws::laws::known_names_are_final;
 use sdt_fault::answer::Fault;
 use sdt_fault::{List as Listed, NoMemory};
@@ -26,8 +28,9 @@ fn made_names(
     ensures { IfOk result (λ names. AreNames laid.now declared.now names) }
 {
     let lines = lines_of(alloc, laid)?;
-    let names = final_names(alloc, lines.as_slice(), declared)?;
-    Ok(names)
+    let names = final_names(alloc, lines.as_slice(), declared);
+    drop(lines);
+    names
 }
 
 /// All names of a source: those that its lines knew, where these are all.
@@ -46,6 +49,34 @@ fn names_of(
     }
 }
 
+/// The names and the areas of a source.
+fn names_and_areas(
+    alloc: Global,
+    laid: &[LaidStatement<'_>],
+    declared: &KnownNames,
+    known: Option<KnownNames>,
+    starts: Vec<AreaStart>,
+    pools: Vec<LaidPools>,
+) -> Result<(KnownNames, Vec<LaidArea>), NoMemory>
+    ensures names { IfOk result (λ both. AreNamesOf laid.now declared.now known both.0) }
+    ensures areas { IfOk result (λ both. AreAreasOf starts.items pools.items both.1.items) }
+{
+    let names = match names_of(alloc, laid, declared, known) {
+        Ok(names) => names,
+        Err(e) => {
+            drop((starts, pools));
+            return Err(e);
+        }
+    };
+    match areas_of(alloc, starts, pools) {
+        Ok(areas) => Ok((names, areas)),
+        Err(e) => {
+            drop(names);
+            Err(e)
+        }
+    }
+}
+
 /// The layout, or the refusal of the first line with a fault that needs the whole layout.
 pub fn finished<'a>(alloc: Global, outline: &Outline, walk: Walk<'a>) -> Result<Layout<'a>, Fault>
     ensures { Finishes outline.now walk.entry result }
@@ -53,18 +84,36 @@ pub fn finished<'a>(alloc: Global, outline: &Outline, walk: Walk<'a>) -> Result<
     extents_are_placeable();
     let Walk {
         laying,
+        checks,
+        registers,
         starts,
         lines,
         ..
     } = walk;
+    drop((checks, registers));
     let Ended { ends, names } = laying.end();
-    let pools = ends.finish()?;
-    cleared(alloc, lines.as_slice(), pools.as_slice())?;
-    let names = names_of(alloc, lines.as_slice(), &outline.names, names)?;
-    let areas = areas_of(alloc, starts.into_vec(), pools)?;
-    Ok(Layout {
-        areas: Listed::from_vec(areas),
-        statements: Listed::from_vec(lines),
-        names,
-    })
+    let pools = match ends.finish() {
+        Ok(pools) => pools,
+        Err(e) => {
+            drop((starts, lines, names));
+            return Err(Fault::from(e));
+        }
+    };
+    if let Err(fault) = cleared(alloc, lines.as_slice(), pools.as_slice()) {
+        drop((starts, lines, names, pools));
+        return Err(fault);
+    }
+    let starts = starts.into_vec();
+    let laid = lines.as_slice();
+    match names_and_areas(alloc, laid, &outline.names, names, starts, pools) {
+        Ok((names, areas)) => Ok(Layout {
+            areas: Listed::from_vec(areas),
+            statements: Listed::from_vec(lines),
+            names,
+        }),
+        Err(e) => {
+            drop(lines);
+            Err(Fault::from(e))
+        }
+    }
 }

@@ -66,6 +66,29 @@ fn list_equal<'a>(listed: &mut Listed<'a>, statement: &'a Statement) -> Result<(
     Ok(())
 }
 
+/// Lists the names of a source, in its order, where none are listed yet.
+fn list_each<'a>(
+    alloc: Global,
+    listed: &mut Listed<'a>,
+    statements: &'a [Statement],
+) -> Result<(), NoMemory>
+    requires { IsListed [] listed.old }
+    ensures { OnOk result (IsListed (reversed statements.now []) listed.new) }
+{
+    let mut behind = START;
+    let mut left = statements;
+    'statements: loop {
+        match left {
+            [] => return Ok(()),
+            [statement, rest @ ..] => {
+                list_equal(listed, statement)?;
+                behind = declare_one(alloc, &mut listed.names, behind, statement)?;
+                left = rest;
+            }
+        }
+    }
+}
+
 /// The names of a source, in its order.
 fn list_all<'a>(alloc: Global, statements: &'a [Statement]) -> Result<Listed<'a>, NoMemory>
     ensures { IfOk result (λ l. IsListed (reversed statements.now []) l) }
@@ -75,16 +98,11 @@ fn list_all<'a>(alloc: Global, statements: &'a [Statement]) -> Result<Listed<'a>
         equals: Vec::new(alloc),
         firsts: Vec::new(alloc),
     };
-    let mut behind = START;
-    let mut left = statements;
-    'statements: loop {
-        match left {
-            [] => return Ok(listed),
-            [statement, rest @ ..] => {
-                list_equal(&mut listed, statement)?;
-                behind = declare_one(alloc, &mut listed.names, behind, statement)?;
-                left = rest;
-            }
+    match list_each(alloc, &mut listed, statements) {
+        Ok(()) => Ok(listed),
+        Err(e) => {
+            drop(listed);
+            Err(e)
         }
     }
 }
@@ -130,7 +148,9 @@ fn circular_in(alloc: Global, equals: &[Equal<'_>], firsts: &[bool]) -> Result<V
         return Err(NoMemory);
     }
     let order = order_of(alloc, equals)?;
-    circular_of(alloc, firsts, order.settled.as_slice())
+    let marks = circular_of(alloc, firsts, order.settled.as_slice());
+    drop(order);
+    marks
 }
 
 /// What the lines of a source need to know of it.
@@ -143,11 +163,25 @@ pub fn outline_of(alloc: Global, statements: &[Statement]) -> Result<Outline, No
         equals,
         firsts,
     } = list_all(alloc, statements)?;
-    let circular = circular_in(alloc, equals.as_slice(), firsts.as_slice())?;
-    let states = states_of(alloc, statements)?;
-    Ok(Outline {
-        names,
-        circular,
-        states,
-    })
+    let marks = circular_in(alloc, equals.as_slice(), firsts.as_slice());
+    drop(equals);
+    drop(firsts);
+    let circular = match marks {
+        Ok(circular) => circular,
+        Err(e) => {
+            drop(names);
+            return Err(e);
+        }
+    };
+    match states_of(alloc, statements) {
+        Ok(states) => Ok(Outline {
+            names,
+            circular,
+            states,
+        }),
+        Err(e) => {
+            drop((names, circular));
+            Err(e)
+        }
+    }
 }

@@ -30,8 +30,8 @@ use std::alloc::Global;
 pub struct Walk<'a> {
     alloc: Global,
     pub laying: Laying,
-    checks: Checks,
-    registers: Registers,
+    pub checks: Checks,
+    pub registers: Registers,
     pub starts: Starts,
     /// The lines, in the order of the source.
     pub lines: Vec<LaidStatement<'a>>,
@@ -93,13 +93,28 @@ impl<'a> Walk<'a> {
     ) -> Result<Walk<'a>, NoMemory>
         ensures { IfOk result (λ w. walking.Begins (reversed statements.now []) w) }
     {
+        let laying = Laying::with_room(alloc, names)?;
+        let registers = match Registers::new(alloc, statements) {
+            Ok(registers) => registers,
+            Err(e) => {
+                drop(laying);
+                return Err(e);
+            }
+        };
+        let lines = match Vec::with_capacity(alloc, lines) {
+            Ok(lines) => lines,
+            Err(e) => {
+                drop((laying, registers));
+                return Err(NoMemory::from(e));
+            }
+        };
         Ok(Walk {
             alloc,
-            laying: Laying::with_room(alloc, names)?,
+            laying,
             checks: Checks::new(alloc),
-            registers: Registers::new(alloc, statements)?,
+            registers,
             starts: Starts::new(alloc),
-            lines: Vec::with_capacity(alloc, lines)?,
+            lines,
             equals: 0,
         })
     }
@@ -146,9 +161,9 @@ impl<'a> Walk<'a> {
         ensures { OnOk result (walking.Keeps laid.entry number thumb_area self.old self.new) }
     {
         let line = laid.line;
+        self.lines.push(laid)?;
         self.starts
             .note(&line.statement.what, line.place.area, thumb_area, number)?;
-        self.lines.push(laid)?;
         Ok(())
     }
 
@@ -170,7 +185,10 @@ impl<'a> Walk<'a> {
         match (placed, found) {
             (Err(kind), None) => Err(told_of(alloc, statement, kind)),
             (Err(kind), Some(other)) => Err(told_of(alloc, statement, earlier(kind, other))),
-            (Ok(_), Some(kind)) => Err(told_of(alloc, statement, kind)),
+            (Ok(laid), Some(kind)) => {
+                drop(laid);
+                Err(told_of(alloc, statement, kind))
+            }
             (Ok(laid), None) => {
                 self.keep(laid, number, thumb_area)?;
                 Ok(())

@@ -22,7 +22,7 @@ returns-in-Err-Some c = λ d names settled all old before w h.
 pub returns-in-Ok-Some : goal.returns-in-Ok-Some
 returns-in-Ok-Some c = λ d names settled all old before w h.
     let l = laid_behind d c.args.statement.now before in
-    let e = (ok_laid d l before c.args.self.now.laying c.args.checked.laid.placed c.in-Ok-Some.field-0-0 c.in-Ok-Some.is-0 h.tells.placed).told in
+    let e = (ok_laid d l before c.args.self.now.laying c.args.checked.laid.placed c.in-Ok-Some.laid c.in-Ok-Some.is-0 h.tells.placed).told in
     tells c.args.statement.now (told_by names settled all l before) c.in-Ok-Some.kind c.told_of-in-Ok-Some.result
     (checked_told d names settled all l before old c.args.self.now c.args.checked h ∙ rw (e, c.in-Ok-Some.is-1) refl) c.told_of-in-Ok-Some.ensures
 

@@ -3,11 +3,11 @@ use Rattle.asm_layout.proofs.walking.Walk.new.Goals as goal
 
 pub returns : goal.returns
 returns c = λ d settled all. record {
-  lays = c.in_ok-with_room.ensures d;
-  checked = c.new.ensures;
-  named = c.in_ok-new.ensures;
+  lays = c.in_ok-laying.ensures d;
+  checked = c.new-2.ensures;
+  named = c.in-Ok.ensures;
   begun = c.new-3.ensures all;
-  kept = c.in_ok-with_capacity.ensures.items;
+  kept = c.in-Ok-with_capacity.ensures.items;
   counted = refl;
   none = refl;
 }

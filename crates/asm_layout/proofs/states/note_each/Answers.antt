@@ -1,10 +1,13 @@
 use Rattle.asm_layout.proofs.StateLemmas.{room, noted_next}
-use Rattle.std.proofs.Common.{refl}
-use Rattle.asm_layout.proofs.states.states_of.Goals as goal
+use Rattle.std.proofs.Common.{[], refl}
+use Rattle.asm_layout.proofs.states.note_each.Goals as goal
+
+pub statements-init : goal.statements-init
+statements-init c = record { before = []; whole = refl; standing = refl; numbered = c.requires.numbered; noted = c.requires.none }
 
 pub enter-requires : goal.enter-requires
 enter-requires c =
-    room c.args.statements.now c.statements.left.now c.statements.areas c.statements.behind c.statements.states c.statements.invariant c.requires
+    room c.args.statements.now c.statements.left.now c.statements.areas c.statements.behind c.statements.states c.statements.invariant c.requires.few
     c.in-len1-up.len_at_least
 
 pub statements-preserved : goal.statements-preserved
