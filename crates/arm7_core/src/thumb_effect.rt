@@ -39,7 +39,6 @@ fn interrupt_outcome(number: u8) -> Outcome
 }
 
 /// Does what a predictable instruction does.
-#[tactic(auto, unfolding(arm7_model::specs::ThumbStep::thumb_effect, arm7_model::specs::ThumbStep::thumb_transfer))]
 fn effect(core: &mut ArmState, bus: &mut Bus, i: &ThumbInstr) -> Outcome
     requires ready { IsReady (state_of base size state touched bus.old) }
     requires quiet { (state_of base size state touched bus.old).contents.stores ≡ [] }
