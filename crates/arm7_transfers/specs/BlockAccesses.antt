@@ -1,14 +1,16 @@
 -- The accesses of a block of words, in order: a word for each register of a list, from an address on. This project's.
-use Rattle.std.specs.Prelude.{ℕ, ◌+◌, ◌/◌, ◌%◌, ◌^◌, ◌==◌, Bool, false, ◌&&◌, not, if◌then◌else◌, List, [], ◌∷◌, Option, Some, None}
+use Rattle.std.specs.Prelude.{◌≡◌, ℕ, ◌+◌, ◌/◌, ◌%◌, ◌^◌, ◌==◌, Bool, true, false, ◌&&◌, not, if◌then◌else◌, List, [], ◌∷◌, Option, Some, None}
 use Rattle.sdt_word.specs.Bytes.{word_in}
+use Rattle.sdt_word.specs.Numbers.{registers}
 use Rattle.sdt_word.specs.declared.codes.Width.TheVariants.{Word}
 use Rattle.arm7_model.specs.declared.state.ArmState.{ArmState}
 use Rattle.arm7_model.specs.Accesses.{Access, Load, Store, next_word}
-use Rattle.arm7_model.specs.Blocks.{with_listed, listed_at}
+use Rattle.arm7_model.specs.Blocks.{all_there, with_block_base, with_listed, listed_at}
 use Rattle.arm7_bus.specs.declared.memory.Bank.{Bank}
 use Rattle.arm7_bus.specs.Buses.{after_read, needs_page}
 use Rattle.arm7_bus.specs.States.{State, bank_has}
-use Rattle.arm7_transfers.specs.Served.{value_at}
+use Rattle.arm7_transfers.specs.Boards.{board_of}
+use Rattle.arm7_transfers.specs.Served.{served, value_at}
 
 abbrev pub loads_of : List ℕ → ℕ → List Access
 loads_of [] a = []
@@ -27,6 +29,13 @@ taken user (k ∷ ks) a core s = taken user ks (next_word a) (with_listed user c
 abbrev pub drawn : Bool → List ℕ → ℕ → ArmState → List ℕ → ArmState
 drawn user [] at core bytes = core
 drawn user (k ∷ ks) at core bytes = drawn user ks (at + 4) (with_listed user core k (word_in bytes at)) bytes
+
+-- each word of a list is there, the base is written back and then each register loaded, and the loads leave the bus as it was
+abbrev pub IsTaken : Bool → ℕ → ℕ → ℕ → ℕ → ArmState → ArmState → State → Type 0
+IsTaken write_back rn list a end core core' s =
+    (all_there (board_of s) (registers 16 list) a ≡ true)
+    × (core' ≡ taken false (registers 16 list) a (with_block_base write_back rn end core) s)
+    × (s ≡ served s (loads_of (registers 16 list) a))
 
 -- the addresses of the words that lie in banks
 abbrev pub words_in : List Bank → List ℕ → ℕ → List ℕ

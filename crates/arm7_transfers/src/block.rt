@@ -7,7 +7,7 @@ ghost use Rattle.arm7_bus.specs.Buses.{needs_page};
 ghost use Rattle.arm7_bus.specs.Meets.{lesser_of};
 ghost use Rattle.arm7_bus.specs.Paging.{used_count};
 ghost use Rattle.arm7_bus.specs.Picks.{four_from};
-ghost use Rattle.arm7_transfers.specs.BlockAccesses.{drawn, is_page_of, loads_of, pages_needed, stores_of, taken, words_in};
+ghost use Rattle.arm7_transfers.specs.BlockAccesses.{IsTaken, drawn, is_page_of, loads_of, pages_needed, stores_of, taken, words_in};
 ghost use Rattle.arm7_transfers.specs.Boards.{board_of};
 ghost use Rattle.arm7_transfers.specs.declared.outcome.Outcome.TheVariants as outcome;
 ghost use Rattle.arm7_transfers.specs.Done.{IsDone};
@@ -238,9 +238,7 @@ fn taken_of_piece(
     requires ready { IsReady (state_of base size state touched bus.now) }
     requires from { rn < 16 }
     requires aligned { a % 4 ≡ 0 }
-    ensures there { result ≡ true → all_there (board_of (state_of base size state touched bus.now)) (registers 16 list) a ≡ true }
-    ensures core { result ≡ true → core.new ≡ taken false (registers 16 list) a (with_block_base write_back rn end core.old) (state_of base size state touched bus.now) }
-    ensures served { result ≡ true → state_of base size state touched bus.now ≡ served (state_of base size state touched bus.now) (loads_of (registers 16 list) a) }
+    ensures taken { result ≡ true → IsTaken write_back rn list a end core.old core.new (state_of base size state touched bus.now) }
     ensures same { result ≡ false → core.new ≡ core.old }
 {
     let n = count(list);
@@ -267,9 +265,7 @@ fn taken_at_once(
     requires ready { IsReady (state_of base size state touched bus.now) }
     requires from { rn < 16 }
     requires aligned { a % 4 ≡ 0 }
-    ensures there { result ≡ true → all_there (board_of (state_of base size state touched bus.now)) (registers 16 list) a ≡ true }
-    ensures core { result ≡ true → core.new ≡ taken false (registers 16 list) a (with_block_base write_back rn end core.old) (state_of base size state touched bus.now) }
-    ensures served { result ≡ true → state_of base size state touched bus.now ≡ served (state_of base size state touched bus.now) (loads_of (registers 16 list) a) }
+    ensures taken { result ≡ true → IsTaken write_back rn list a end core.old core.new (state_of base size state touched bus.now) }
     ensures same { result ≡ false → core.new ≡ core.old }
 {
     let n = count(list);

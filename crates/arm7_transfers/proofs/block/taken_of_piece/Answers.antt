@@ -7,15 +7,10 @@ take_words-requires g c =
     let count = c.count-n.ensures.value in
     omega arith
 
-pub returns-clause-there : goal.returns-clause-there
-returns-clause-there g c =
-    λ _. piece-there _ c.args.list c.count-n.result c.args.a c.piece-bytes.result.now c.requires.ready c.requires.aligned c.ranges.a.fits (piece-bytes _ _ _ c.piece-bytes.ensures) c.count-n.ensures.value (omega arith)
-
-pub returns-clause-core : goal.returns-clause-core
-returns-clause-core g c =
-    λ _. piece-taken _ false c.args.write_back c.args.list c.count-n.result c.args.a c.args.rn c.args.end c.args.core.now c.set_block_base.new.state c.take_words.new.core c.piece-bytes.result.now
-    c.requires.ready c.requires.aligned c.ranges.a.fits (piece-bytes _ _ _ c.piece-bytes.ensures) c.count-n.ensures.value (omega arith) c.set_block_base.ensures c.take_words.ensures
-
-pub returns-clause-served : goal.returns-clause-served
-returns-clause-served g c =
-    λ _. piece-served _ c.args.list c.count-n.result c.args.a c.piece-bytes.result.now c.requires.ready c.requires.aligned c.ranges.a.fits (piece-bytes _ _ _ c.piece-bytes.ensures) c.count-n.ensures.value (omega arith)
+pub returns-clause-taken : goal.returns-clause-taken
+returns-clause-taken g c = λ _. (
+  piece-there _ c.args.list c.count-n.result c.args.a c.piece-bytes.result.now c.requires.ready c.requires.aligned c.ranges.a.fits (piece-bytes _ _ _ c.piece-bytes.ensures) c.count-n.ensures.value (omega arith),
+  piece-taken _ false c.args.write_back c.args.list c.count-n.result c.args.a c.args.rn c.args.end c.args.core.now c.set_block_base.new.state c.take_words.new.core c.piece-bytes.result.now
+      c.requires.ready c.requires.aligned c.ranges.a.fits (piece-bytes _ _ _ c.piece-bytes.ensures) c.count-n.ensures.value (omega arith) c.set_block_base.ensures c.take_words.ensures,
+  piece-served _ c.args.list c.count-n.result c.args.a c.piece-bytes.result.now c.requires.ready c.requires.aligned c.ranges.a.fits (piece-bytes _ _ _ c.piece-bytes.ensures) c.count-n.ensures.value (omega arith),
+)
