@@ -57,6 +57,12 @@ acts-same (arm.TransferBlock c p up s wb l n r) h u w = absurd (cc)
 acts-same (arm.SoftwareInterrupt c n) h u w = absurd (cc)
 acts-same (arm.Undefined c bits) h u w = absurd (cc)
 
+-- a row that isn't one of those
+pub no_row : {P : Type 0} (i j : ArmInstr) → is_on_registers i ≡ false → is_on_registers j ≡ true → i ≡ j → P
+no_row i j off on e =
+    let both : true ≡ false = sym on ∙ ap is_on_registers (sym e) ∙ off in
+    absurd (cc)
+
 pub row_acts : (i j : ArmInstr) (core core' : ArmState) (s : State) → IsReady s → i ≡ j → is_on_registers j ≡ true → core' ≡ acted j core
     → Makes (effect_part i) core s Ran core' s
 row_acts i j core core' s r e t result =

@@ -1,4 +1,5 @@
-use Rattle.arm7_core.proofs.ArmParts.{row_swap, row_immediate, row_shifted, row_half, row_block, row_interrupt, row_raises}
+use Rattle.std.proofs.Common.{inl, inr, refl}
+use Rattle.arm7_core.proofs.ArmParts.{no_row, row_swap, row_immediate, row_shifted, row_half, row_block, row_interrupt, row_raises}
 use Rattle.arm7_core.proofs.effect.effect_outside.Goals as goal
 
 pub returns-in-Swap-clause-done : goal.returns-in-Swap-clause-done
@@ -37,3 +38,44 @@ returns-in-SoftwareInterrupt-clause-done g c =
 pub returns-in-Undefined-clause-done : goal.returns-in-Undefined-clause-done
 returns-in-Undefined-clause-done g c =
     row_raises c.args.i.now c.args.core.now _ c.in-Undefined.condition c.in-Undefined.bits c.requires.ready c.in-Undefined.is
+
+pub returns-in-DataImmediate : goal.returns-in-DataImmediate
+returns-in-DataImmediate g c =
+    let off = c.requires.more in
+    elim c.in-DataImmediate.is [
+      | inl a ↦ no_row _ _ off refl a.7
+      | inr b ↦
+          elim b [
+            | inl a ↦ no_row _ _ off refl a.8
+            | inr b ↦
+                elim b [
+                  | inl a ↦ no_row _ _ off refl a.8
+                  | inr b ↦
+                      elim b [
+                        | inl a ↦ no_row _ _ off refl a.7
+                        | inr b ↦
+                            elim b [
+                              | inl a ↦ no_row _ _ off refl a.8
+                              | inr b ↦
+                                  elim b [
+                                    | inl a ↦ no_row _ _ off refl a.2
+                                    | inr b ↦
+                                        elim b [
+                                          | inl a ↦ no_row _ _ off refl a.3
+                                          | inr b ↦
+                                              elim b [
+                                                | inl a ↦ no_row _ _ off refl a.4
+                                                | inr b ↦
+                                                    elim b [
+                                                      | inl a ↦ no_row _ _ off refl a.5
+                                                      | inr b ↦
+                                                          no_row _ _ off refl b.3
+                                                    ]
+                                              ]
+                                        ]
+                                  ]
+                            ]
+                      ]
+                ]
+          ]
+    ]
