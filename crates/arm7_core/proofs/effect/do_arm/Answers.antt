@@ -48,3 +48,12 @@ returns-in_default-held_back-5-clause-done g c =
     let r = c.in-Branch in
     done_well c.args.i.now c.args.core.now _ Ran c.branch-core.new.state _ c.in_default-held_back-5.ensures
     (branched_row c.args.i.now c.args.core.now c.branch-core.new.state _ r.condition r.link r.displacement c.requires.ready r.is c.branch-core.ensures)
+
+pub returns-in_default-clause-done : goal.returns-in_default-clause-done
+returns-in_default-clause-done g c = c.do_any.ensures.done
+
+pub returns-in_default-clause-ready : goal.returns-in_default-clause-ready
+returns-in_default-clause-ready g c = c.do_any.ensures.ready
+
+pub do_any-requires-clause-fits : goal.do_any-requires-clause-fits
+do_any-requires-clause-fits g c = c.requires.fits
