@@ -38,7 +38,9 @@ fn object_file<S: Store>(
     size_law();
     let object = assemble(alloc, source, text, store)?;
     object_fits(&object);
-    write_object(alloc, &object)
+    let bytes = write_object(alloc, &object);
+    drop(object);
+    bytes
 }
 
 /// Of a source that has more than `MOST_BYTES` bytes.

@@ -91,22 +91,42 @@ fn push(out: &mut Vec<u8>, bytes: &[u8]) -> Result<(), NoMemory>
     Ok(())
 }
 
-ghost use Rattle.std.specs.Prelude.{◌++◌, OnOk};
+ghost use Rattle.std.specs.Prelude.{◌++◌, [], OnOk};
+
+/// The line, into what has nothing.
+fn push_line(
+    alloc: Global,
+    out: &mut Vec<u8>,
+    count: u32,
+    words: u32,
+    ended: &Ended,
+) -> Result<(), NoMemory>
+    requires { out.old.items ≡ [] }
+    ensures { OnOk result (out.new.items ≡ big_line count words ended.now.steps ended.now.sum) }
+{
+    push(out, b"big ")?;
+    push_decimal(alloc, out, u64::from(count))?;
+    push(out, b" words ")?;
+    push_decimal(alloc, out, u64::from(words))?;
+    push(out, b" steps ")?;
+    push_decimal(alloc, out, ended.steps)?;
+    push(out, b" sum ")?;
+    push_hexadecimal(alloc, out, u64::from(ended.sum))?;
+    push(out, b"\n")?;
+    Ok(())
+}
 
 fn line(alloc: Global, count: u32, words: u32, ended: &Ended) -> Result<Vec<u8>, NoMemory>
     ensures { IfOk result (λ line. line.items ≡ big_line count words ended.now.steps ended.now.sum) }
 {
     let mut out = Vec::new(alloc);
-    push(&mut out, b"big ")?;
-    push_decimal(alloc, &mut out, u64::from(count))?;
-    push(&mut out, b" words ")?;
-    push_decimal(alloc, &mut out, u64::from(words))?;
-    push(&mut out, b" steps ")?;
-    push_decimal(alloc, &mut out, ended.steps)?;
-    push(&mut out, b" sum ")?;
-    push_hexadecimal(alloc, &mut out, u64::from(ended.sum))?;
-    push(&mut out, b"\n")?;
-    Ok(out)
+    match push_line(alloc, &mut out, count, words, ended) {
+        Ok(()) => Ok(out),
+        Err(NoMemory) => {
+            drop(out);
+            Err(NoMemory)
+        }
+    }
 }
 
 fn print_line<K: Sink>(alloc: Global, sink: &mut K, count: u32, words: u32, ended: &Ended) -> Answer
@@ -115,7 +135,11 @@ fn print_line<K: Sink>(alloc: Global, sink: &mut K, count: u32, words: u32, ende
     ensures faults { K.faults sink.old ≤ K.faults sink.new }
 {
     match line(alloc, count, words, ended) {
-        Ok(text) => print(sink, text.as_slice()),
+        Ok(text) => {
+            let answer = print(sink, text.as_slice());
+            drop(text);
+            answer
+        }
         Err(NoMemory) => Answer::NoMemory,
     }
 }
@@ -212,10 +236,14 @@ pub fn make_big<S: Store, K: Sink>(
 {
     let program = match build_program(alloc, &output, count) {
         Ok(program) => program,
-        Err(fault) => return fault_answer(fault),
+        Err(fault) => {
+            drop(output);
+            return fault_answer(fault);
+        }
     };
     let lent = mem::replace(devices, Vec::new(alloc));
     let left = run_big(alloc, store, sink, lent, &program, count, output);
+    drop(program);
     *devices = left.devices;
     left.answer
 }

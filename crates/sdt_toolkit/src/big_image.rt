@@ -16,7 +16,7 @@ ghost use Rattle.sdt_toolkit.specs.RunImages as images;
 ghost use Rattle.sdt_toolkit.specs.Starting.{HasBytes};
 
 use crate::big_laws::big_law;
-use crate::names::module_of;
+use crate::gathering::{list_of_one, named, put};
 use crate::sound::areas_fit;
 use aof_object::{Area, Object};
 use armasm_core::assemble;
@@ -38,6 +38,26 @@ struct WithObject {
     object: Named<Object>,
 }
 
+/// The object of so many steps and words of data, whose source this is.
+fn object_of(alloc: Global, name: &Text, count: u32, source: &[u8]) -> Result<Named<Object>, Fault>
+    requires few { count ≤ 50000 }
+    requires source { source.now ≡ big_text count }
+    ensures object { IfOk result (λ object. object ≡ big_named name.now (module_of name.now) count) }
+    ensures told { IfOk result (λ o. AssembledFrom (Some (files_of [])) name.now (big_text count) (Ok (big_object count))) }
+    ensures valid { IfOk result (λ o. IsValid (big_object count)) }
+    ensures bytes { IfOk result (λ o. HasBytes (big_object count)) }
+    ensures memory { IfErr result (λ e. e ≡ fault.NoMemory) }
+{
+    big_law();
+    match assemble(alloc, name, source, &mut NoFiles) {
+        Ok(object) => {
+            areas_fit(object.areas.as_slice());
+            Ok(named(alloc, name, object)?)
+        }
+        Err(fault) => Err(fault),
+    }
+}
+
 fn assembled(alloc: Global, name: &Text, count: u32) -> Result<WithObject, Fault>
     requires { count ≤ 50000 }
     ensures source { IfOk result (λ a. a.source ≡ big_text count) }
@@ -47,18 +67,14 @@ fn assembled(alloc: Global, name: &Text, count: u32) -> Result<WithObject, Fault
     ensures bytes { IfOk result (λ a. HasBytes (big_object count)) }
     ensures memory { IfErr result (λ e. e ≡ fault.NoMemory) }
 {
-    big_law();
     let source = big_source(alloc, count)?;
-    let object = assemble(alloc, name, source.as_slice(), &mut NoFiles)?;
-    areas_fit(object.areas.as_slice());
-    Ok(WithObject {
-        source,
-        object: Named {
-            name: name.try_clone(alloc)?,
-            module: module_of(alloc, name)?,
-            value: object,
-        },
-    })
+    match object_of(alloc, name, count, source.as_slice()) {
+        Ok(object) => Ok(WithObject { source, object }),
+        Err(fault) => {
+            drop(source);
+            Err(fault)
+        }
+    }
 }
 
 /// The words of the first area.
@@ -79,6 +95,28 @@ struct WithImage {
     image: LinkedImage,
 }
 
+/// The linked image of this object.
+fn image_of(
+    alloc: Global,
+    name: &Text,
+    count: u32,
+    object: Named<Object>,
+) -> Result<LinkedImage, Fault>
+    requires some { 1 ≤ count }
+    requires few { count ≤ 50000 }
+    requires object { object ≡ big_named name.now (module_of name.now) count }
+    requires valid { IsValid (big_object count) }
+    ensures image { IfOk result (λ i. i ≡ big_image name.now (module_of name.now) count) }
+    ensures memory { IfErr result (λ e. e ≡ fault.NoMemory) }
+{
+    big_law();
+    let objects = list_of_one(alloc, object)?;
+    match link_scatter(alloc, objects, Vec::new(alloc), DESCRIPTION, None) {
+        Ok(image) => Ok(image),
+        Err(fault) => Err(fault),
+    }
+}
+
 fn linked(alloc: Global, name: &Text, count: u32) -> Result<WithImage, Fault>
     requires some { 1 ≤ count }
     requires few { count ≤ 50000 }
@@ -90,17 +128,19 @@ fn linked(alloc: Global, name: &Text, count: u32) -> Result<WithImage, Fault>
     ensures bytes { IfOk result (λ l. HasBytes (big_object count)) }
     ensures memory { IfErr result (λ e. e ≡ fault.NoMemory) }
 {
-    big_law();
     let parts = assembled(alloc, name, count)?;
     let words = first_words(parts.object.value.areas.as_slice());
-    let mut objects = Vec::new(alloc);
-    objects.push(parts.object)?;
-    let image = link_scatter(alloc, objects, Vec::new(alloc), DESCRIPTION, None)?;
-    Ok(WithImage {
-        source: parts.source,
-        words,
-        image,
-    })
+    match image_of(alloc, name, count, parts.object) {
+        Ok(image) => Ok(WithImage {
+            source: parts.source,
+            words,
+            image,
+        }),
+        Err(fault) => {
+            drop(parts.source);
+            Err(fault)
+        }
+    }
 }
 
 // ---- the image of a run
@@ -109,10 +149,11 @@ fn push_load_needs(needs: &mut Vec<Need>, loads: &[LoadRegion]) -> Result<(), No
     ensures { OnOk result (needs.new.items ≡ needs.old.items ++ map images.load_need loads.now) }
 {
     for load in loads {
-        needs.push(Need {
+        let need = Need {
             base: load.base,
             size: load.bytes.as_slice().len() as u64,
-        })?;
+        };
+        put(needs, need)?;
     }
     Ok(())
 }
@@ -132,9 +173,22 @@ fn push_region_needs(needs: &mut Vec<Need>, regions: &[Region]) -> Result<(), No
     ensures { OnOk result (needs.new.items ≡ needs.old.items ++ map images.region_need regions.now) }
 {
     for region in regions {
-        needs.push(region_need(region))?;
+        put(needs, region_need(region))?;
     }
     Ok(())
+}
+
+fn push_needs(
+    needs: &mut Vec<Need>,
+    loads: &[LoadRegion],
+    regions: &[Region],
+) -> Result<(), NoMemory>
+    requires none { needs.old.items ≡ [] }
+    requires sized { AllByRecursion (λ r. r.length + r.zero ≤ 2 ^ 26) regions.now }
+    ensures { OnOk result (needs.new.items ≡ map images.load_need loads.now ++ map images.region_need regions.now) }
+{
+    push_load_needs(needs, loads)?;
+    push_region_needs(needs, regions)
 }
 
 fn loads_of(alloc: Global, loads: Vec<LoadRegion>) -> Result<Vec<Load>, NoMemory>
@@ -142,12 +196,30 @@ fn loads_of(alloc: Global, loads: Vec<LoadRegion>) -> Result<Vec<Load>, NoMemory
 {
     let mut out = Vec::new(alloc);
     for load in loads {
-        out.push(Load {
+        let load = Load {
             base: load.base,
             bytes: load.bytes,
-        })?;
+        };
+        let Ok(()) = put(&mut out, load) else {
+            drop(out);
+            return Err(NoMemory);
+        };
     }
     Ok(out)
+}
+
+fn needs_of(alloc: Global, loads: &[LoadRegion], regions: &[Region]) -> Result<Vec<Need>, NoMemory>
+    requires { AllByRecursion (λ r. r.length + r.zero ≤ 2 ^ 26) regions.now }
+    ensures { IfOk result (λ needs. needs.items ≡ map images.load_need loads.now ++ map images.region_need regions.now) }
+{
+    let mut needs = Vec::new(alloc);
+    match push_needs(&mut needs, loads, regions) {
+        Ok(()) => Ok(needs),
+        Err(NoMemory) => {
+            drop(needs);
+            Err(NoMemory)
+        }
+    }
 }
 
 /// The image of a run: the load regions, and what is to be memory: they, and the execution ranges with their zero parts.
@@ -155,17 +227,26 @@ fn run_image(alloc: Global, image: LinkedImage) -> Result<Image, NoMemory>
     requires { AllByRecursion (λ r. r.length + r.zero ≤ 2 ^ 26) image.regions }
     ensures { IfOk result (λ i. i ≡ images.run_image image) }
 {
-    let mut needs = Vec::new(alloc);
-    push_load_needs(&mut needs, image.loads.as_slice())?;
-    push_region_needs(&mut needs, image.regions.as_slice())?;
+    let needs = match needs_of(alloc, image.loads.as_slice(), image.regions.as_slice()) {
+        Ok(needs) => needs,
+        Err(NoMemory) => {
+            drop(image);
+            return Err(NoMemory);
+        }
+    };
     let start = image.start;
-    let loads = loads_of(alloc, image.loads.into_vec())?;
-    Ok(Image {
-        loads: List::from_vec(loads),
-        needs: List::from_vec(needs),
-        start,
-        thumb: false,
-    })
+    match loads_of(alloc, image.loads.into_vec()) {
+        Ok(loads) => Ok(Image {
+            loads: List::from_vec(loads),
+            needs: List::from_vec(needs),
+            start,
+            thumb: false,
+        }),
+        Err(NoMemory) => {
+            drop(needs);
+            Err(NoMemory)
+        }
+    }
 }
 
 // ---- both

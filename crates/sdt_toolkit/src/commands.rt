@@ -31,6 +31,13 @@ fn refused(fault: WordsFault) -> Answer
 
 ghost use Rattle.sdt_toolkit.specs.Commands.{RefusedBy};
 
+/// An answer, behind which these words are given up.
+fn after<W: Drop>(answer: Answer, _words: W) -> Answer
+    ensures { result ≡ answer }
+{
+    answer
+}
+
 fn carried_out<S: Store, K: Sink>(
     alloc: Global,
     command: Command,
@@ -47,22 +54,30 @@ fn carried_out<S: Store, K: Sink>(
         (seats_by base size state touched devices.old.items) (seats_by base size state touched devices.new.items) result }
 {
     match command {
-        Command::Assemble { source, output } => assemble_file(alloc, store, &source, output),
-        Command::CreateLibrary { library, objects } => {
-            create_library(alloc, store, library, objects.as_slice())
+        Command::Assemble { source, output } => {
+            after(assemble_file(alloc, store, &source, output), source)
         }
-        Command::ListMembers { library } => list_members(alloc, store, sink, &library),
+        Command::CreateLibrary { library, objects } => after(
+            create_library(alloc, store, library, objects.as_slice()),
+            objects,
+        ),
+        Command::ListMembers { library } => {
+            after(list_members(alloc, store, sink, &library), library)
+        }
         Command::ExtractMember {
             library,
             member,
             output,
-        } => extract_member(alloc, store, &library, &member, output),
-        Command::List { file } => list_file(alloc, store, sink, &file),
-        Command::Run(words) => run(alloc, store, sink, devices, &words),
-        Command::Debug(words) => debug(alloc, store, sink, devices, &words),
-        Command::Link(words) => link_files(alloc, store, false, &words),
-        Command::Build(words) => link_files(alloc, store, true, &words),
-        Command::Report(words) => print_report(alloc, store, sink, &words),
+        } => after(
+            extract_member(alloc, store, &library, &member, output),
+            (library, member),
+        ),
+        Command::List { file } => after(list_file(alloc, store, sink, &file), file),
+        Command::Run(words) => after(run(alloc, store, sink, devices, &words), words),
+        Command::Debug(words) => after(debug(alloc, store, sink, devices, &words), words),
+        Command::Link(words) => after(link_files(alloc, store, false, &words), words),
+        Command::Build(words) => after(link_files(alloc, store, true, &words), words),
+        Command::Report(words) => after(print_report(alloc, store, sink, &words), words),
         Command::InterruptKit {
             output,
             acknowledge,

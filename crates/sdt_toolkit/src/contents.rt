@@ -8,6 +8,7 @@ ghost use Rattle.sdt_toolkit.specs.Inputs as inputs;
 ghost use Rattle.sdt_toolkit.specs.Contents.{AreCounted, AreFiles, AreKept, IsKept, IsShort};
 ghost use Rattle.sdt_toolkit.specs.Links.{read_by, text_in};
 
+use crate::gathering::{list_of_one, put};
 use crate::names::is_source_name;
 use armasm_core::MOST_BYTES;
 use sdt_fault::{Bytes, List, NoMemory, Text};
@@ -116,15 +117,26 @@ fn read_contents<S: Store>(
     ensures read_faults { S.read_faults store.old ≤ S.read_faults store.new }
     ensures write_faults { S.write_faults store.new ≡ S.write_faults store.old }
 {
-    let mut contents = Vec::new(alloc);
     let mut left = left_behind(MOST_KEPT, before)?;
+    let mut contents = Vec::new(alloc);
     for name in names {
         match file_content(alloc, store, is_source(sources, name), name) {
             Ok(content) => {
-                left = left_behind(left, kept(&content))?;
-                contents.push(content)?
+                let count = kept(&content);
+                let Ok(()) = put(&mut contents, content) else {
+                    drop(contents);
+                    return Err(InputEnd::NoMemory);
+                };
+                let Ok(rest) = left_behind(left, count) else {
+                    drop(contents);
+                    return Err(InputEnd::NoMemory);
+                };
+                left = rest;
             }
-            Err(end) => return Err(end),
+            Err(end) => {
+                drop(contents);
+                return Err(end);
+            }
         }
     }
     Ok(contents)
@@ -133,13 +145,9 @@ fn read_contents<S: Store>(
 fn scatter_names(alloc: Global, placement: &LinkPlacement) -> Result<Vec<Text>, NoMemory>
     ensures { IfOk result (λ names. names.items ≡ read_by placement.now []) }
 {
-    let mut names = Vec::new(alloc);
     match placement {
-        LinkPlacement::Scatter { file } => {
-            names.push(file.try_clone(alloc)?)?;
-            Ok(names)
-        }
-        LinkPlacement::Aif { .. } | LinkPlacement::Plain { .. } => Ok(names),
+        LinkPlacement::Scatter { file } => list_of_one(alloc, file.try_clone(alloc)?),
+        LinkPlacement::Aif { .. } | LinkPlacement::Plain { .. } => Ok(Vec::new(alloc)),
     }
 }
 

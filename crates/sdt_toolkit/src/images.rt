@@ -13,6 +13,7 @@ ghost use Rattle.sdt_toolkit.specs.Inputs.{AreValid, Tells, archives_among, obje
 ghost use Rattle.sdt_toolkit.specs.Links as links;
 ghost use Rattle.sdt_toolkit.specs.Links.{HasImage, filed, is_long, unless_long};
 
+use crate::gathering::list_of_one;
 use crate::laws::images_start;
 use crate::sound::{archives_fit, objects_fit};
 use aif_image::make_aif;
@@ -82,9 +83,14 @@ fn scatter_image(
     match ram {
         None => link_scatter(alloc, parts.objects, parts.archives, text, None),
         Some(banks) => {
-            let ranges = ranges(alloc, banks.as_slice())?;
+            let Ok(ranges) = ranges(alloc, banks.as_slice()) else {
+                drop(parts);
+                return Err(Fault::NoMemory);
+            };
             let ram = Some(ranges.as_slice());
-            link_scatter(alloc, parts.objects, parts.archives, text, ram)
+            let image = link_scatter(alloc, parts.objects, parts.archives, text, ram);
+            drop(ranges);
+            image
         }
     }
 }
@@ -112,9 +118,14 @@ fn aif_image(
             None,
         ),
         Some(banks) => {
-            let ranges = ranges(alloc, banks.as_slice())?;
+            let Ok(ranges) = ranges(alloc, banks.as_slice()) else {
+                drop(parts);
+                return Err(Fault::NoMemory);
+            };
             let ram = Some(ranges.as_slice());
-            link_aif(alloc, parts.objects, parts.archives, base, relocatable, ram)
+            let image = link_aif(alloc, parts.objects, parts.archives, base, relocatable, ram);
+            drop(ranges);
+            image
         }
     }
 }
@@ -183,6 +194,7 @@ fn region_files(alloc: Global, image: &Image, out: &Text) -> Result<List<OutFile
     }
     let files = load_files(alloc, image, out)?;
     if has_long_file(files.as_slice()) {
+        drop(files);
         return Err(too_large());
     }
     Ok(files)
@@ -192,12 +204,13 @@ pub fn one_file(alloc: Global, out: &Text, bytes: Bytes) -> Result<List<OutFile>
     ensures value { Gives result (unless_long (links.one_file out.now bytes)) }
     ensures short { IfOk result (λ files. All (λ f. length f.bytes < 2 ^ 32) files) }
 {
-    let mut files = Vec::new(alloc);
-    files.push(OutFile {
-        name: out.try_clone(alloc)?,
-        bytes,
-    })?;
+    let Ok(name) = out.try_clone(alloc) else {
+        drop(bytes);
+        return Err(Fault::NoMemory);
+    };
+    let files = list_of_one(alloc, OutFile { name, bytes })?;
     if has_long_file(files.as_slice()) {
+        drop(files);
         return Err(too_large());
     }
     Ok(List::from_vec(files))

@@ -9,7 +9,7 @@ ghost use Rattle.tool_library.specs.Linkables.{IsValidInput};
 
 use crate::assemble::too_large;
 use crate::contents::{Content, is_source};
-use crate::names::module_of;
+use crate::gathering::{named, put};
 use crate::sound::object_fits;
 use armasm_core::assemble;
 use link_model::Named;
@@ -104,12 +104,10 @@ fn named_input<S: Store>(
     ensures read_faults { S.read_faults store.old ≤ S.read_faults store.new }
     ensures write_faults { S.write_faults store.new ≡ S.write_faults store.old }
 {
-    let value = content_input(alloc, store, sources, name, content)?;
-    Ok(Named {
-        name: name.try_clone(alloc)?,
-        module: module_of(alloc, name)?,
-        value,
-    })
+    match content_input(alloc, store, sources, name, content) {
+        Ok(value) => Ok(named(alloc, name, value)?),
+        Err(fault) => Err(fault),
+    }
 }
 
 /// Files of these names, of which this was read, as inputs, or the first refusal, whatever contents they have that agree
@@ -136,8 +134,16 @@ pub fn inputs_of<S: Store>(
     let mut inputs = Vec::new(alloc);
     for k in 0..names.len() {
         match named_input(alloc, store, sources, &names[k], &read[k]) {
-            Ok(input) => inputs.push(input)?,
-            Err(fault) => return Err(fault),
+            Ok(input) => {
+                let Ok(()) = put(&mut inputs, input) else {
+                    drop(inputs);
+                    return Err(Fault::NoMemory);
+                };
+            }
+            Err(fault) => {
+                drop(inputs);
+                return Err(fault);
+            }
         }
     }
     Ok(List::from_vec(inputs))

@@ -24,7 +24,9 @@ fn kit_bytes(alloc: Global, acknowledge: u32) -> Result<Bytes, Fault>
 {
     size_law();
     let object = kit_object(alloc, acknowledge)?;
-    write_object(alloc, &object)
+    let bytes = write_object(alloc, &object);
+    drop(object);
+    bytes
 }
 
 /// Writes the object of the interrupt kit, whose handler stores to the address `acknowledge`.

@@ -33,6 +33,7 @@ mod big_laws;
 mod commands;
 mod contents;
 mod debug;
+mod gathering;
 mod images;
 mod inputs;
 mod kit;

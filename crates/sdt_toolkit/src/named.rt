@@ -44,9 +44,14 @@ fn scatter_image(
     match ram {
         None => link_named_scatter(alloc, parts.objects, parts.archives, text, None),
         Some(banks) => {
-            let ranges = ranges(alloc, banks.as_slice())?;
+            let Ok(ranges) = ranges(alloc, banks.as_slice()) else {
+                drop(parts);
+                return Err(Fault::NoMemory);
+            };
             let ram = Some(ranges.as_slice());
-            link_named_scatter(alloc, parts.objects, parts.archives, text, ram)
+            let image = link_named_scatter(alloc, parts.objects, parts.archives, text, ram);
+            drop(ranges);
+            image
         }
     }
 }

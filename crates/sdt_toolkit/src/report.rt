@@ -79,7 +79,11 @@ fn report_as(
 {
     let given = parts.objects.len();
     match placed_as(alloc, parts, placement, text, ram) {
-        Ok(placed) => report(alloc, &placed, given),
+        Ok(placed) => {
+            let text = report(alloc, &placed, given);
+            drop(placed);
+            text
+        }
         Err(fault) => Err(fault),
     }
 }
@@ -99,8 +103,13 @@ fn report_within(
     match ram {
         None => report_as(alloc, parts, placement, text, None),
         Some(banks) => {
-            let ranges = ranges(alloc, banks.as_slice())?;
-            report_as(alloc, parts, placement, text, Some(ranges.as_slice()))
+            let Ok(ranges) = ranges(alloc, banks.as_slice()) else {
+                drop(parts);
+                return Err(Fault::NoMemory);
+            };
+            let text = report_as(alloc, parts, placement, text, Some(ranges.as_slice()));
+            drop(ranges);
+            text
         }
     }
 }

@@ -19,8 +19,8 @@ returns-clause-spells g c = λ s among.
     let files = g.S.Store.files c.args.store.now in
     let before = g.S.Store.read_faults c.args.store.now in
     let now = g.S.Store.read_faults c.assemble.new.store in
-    spells_object files before now s among c.args.source.now c.args.text.now c.in_ok-object.object c.write_object.result c.in_ok-object.ensures.assembled
-    (record { stands = c.in_ok-object.ensures.stands; valid = c.in_ok-object.ensures.valid; fits = c.object_fits.ensures }) c.write_object.ensures
+    spells_object files before now s among c.args.source.now c.args.text.now c.in_ok-object.object c.write_object-bytes.result c.in_ok-object.ensures.assembled
+    (record { stands = c.in_ok-object.ensures.stands; valid = c.in_ok-object.ensures.valid; fits = c.object_fits.ensures }) c.write_object-bytes.ensures
 
 pub returns-clause-short : goal.returns-clause-short
-returns-clause-short g c = object_short c.size_law.ensures c.in_ok-object.object c.write_object.result c.write_object.ensures
+returns-clause-short g c = object_short c.size_law.ensures c.in_ok-object.object c.write_object-bytes.result c.write_object-bytes.ensures

@@ -1,4 +1,4 @@
-use Rattle.std.proofs.Common.{rules, ◌∙◌, arith}
+use Rattle.std.proofs.Common.{[], ◌∷◌, ◌+◌, ◌∙◌, ℕ, ap, arith, length-append}
 use Rattle.std.proofs.lemmas.List.Elements.{All-push}
 use Rattle.tool_answers.proofs.InputLemmas.{inputs_fail}
 use Rattle.sdt_toolkit.specs.Contents.{IsShort}
@@ -10,9 +10,9 @@ loop-name-preserved g c =
     let told = g.S.Store.files c.args.store.now in
     let found = rw (c.loop-name.invariant.files, c.is_source.ensures) at c.in-Ok.ensures.found in
     record {
-      found = rw c.in_ok-push-in-Ok.ensures.items (read_step told c.args.sources c.args.names.now c.loop-name.contents.items c.loop-name.name-index c.name-item.result c.in-Ok.content c.loop-name-test.true c.name-item.is c.loop-name.invariant.found found);
-      count = search rules;
-      short = rw c.in_ok-push-in-Ok.ensures.items (All-push IsShort c.loop-name.contents.items c.in-Ok.content c.loop-name.invariant.short c.in-Ok.ensures.short);
+      found = rw c.in-Ok-put.ensures (read_step told c.args.sources c.args.names.now c.loop-name.contents.items c.loop-name.name-index c.name-item.result c.in-Ok.content c.loop-name-test.true c.name-item.is c.loop-name.invariant.found found);
+      count = rw c.in-Ok-put.ensures (length-append c.loop-name.contents.items (c.in-Ok.content ∷ []) ∙ ap (λ (n : ℕ). n + 1) c.loop-name.invariant.count);
+      short = rw c.in-Ok-put.ensures (All-push IsShort c.loop-name.contents.items c.in-Ok.content c.loop-name.invariant.short c.in-Ok.ensures.short);
       files = c.file_content.ensures.files ∙ c.loop-name.invariant.files;
       reads = omega (arith, c.file_content.ensures.read_faults, c.loop-name.invariant.reads);
       writes = c.file_content.ensures.write_faults ∙ c.loop-name.invariant.writes;

@@ -1,6 +1,5 @@
 use Rattle.std.proofs.Common.{[], ◌∷◌, ◌∙◌, arith, refl, get_or}
 use Rattle.std.proofs.lemmas.List.{drop_all}
-use Rattle.std.proofs.lemmas.Result.{err_from_is_err_and}
 use Rattle.base_lemmas.proofs.BaseLemmas.{all_append}
 use Rattle.tool_library.specs.Linkables.{IsValidInput}
 use Rattle.sdt_toolkit.proofs.ContentLemmas.{agree_at, same_place}
@@ -9,10 +8,8 @@ use Rattle.sdt_toolkit.specs.Reads.{Told}
 use Rattle.sdt_toolkit.proofs.ReadLemmas.{among_later}
 use Rattle.sdt_toolkit.proofs.inputs.inputs_of.Goals as goal
 
-pub returns-in_err-push-in-Ok-clause-value : goal.returns-in_err-push-in-Ok-clause-value
-returns-in_err-push-in-Ok-clause-value g c = λ contents agree.
-    let p = err_from_is_err_and c.from_residual.result c.from_residual.ensures.1 in
-    rw (p.1, p.2) (none_judged _ _ _ _ _)
+pub returns-in_default-clause-value : goal.returns-in_default-clause-value
+returns-in_default-clause-value g c = λ contents agree. none_judged _ _ _ _ _
 
 pub returns-in-Err-clause-value : goal.returns-in-Err-clause-value
 unfolding Told
@@ -36,7 +33,7 @@ loop-k-preserved g c =
     let count = g.S.Store.read_faults in
     let before = c.loop-k.invariant in
     record {
-      value = rw c.in_ok-push-in-Ok.ensures.items (λ contents agree s among.
+      value = rw c.in-Ok-put.ensures (λ contents agree s among.
           let here = among_later (told c.args.store.now) (told c.loop-k.store) (count c.args.store.now) (count c.loop-k.store) (count c.named_input.new.store) (count c.named_input.new.store) s
           before.files before.read_faults (omega arith) among in
           let there = among_later (told c.args.store.now) (told c.args.store.now) (count c.args.store.now) (count c.args.store.now) (count c.loop-k.store) (count c.named_input.new.store) s
@@ -45,7 +42,7 @@ loop-k-preserved g c =
           let is = c.in-Ok.ensures.value (get_or contents c.loop-k.k []) one.0 s here in
           one_more s c.args.sources c.args.names.now contents c.loop-k.k c.loop-k.inputs.items c.index-names-k.result (get_or contents c.loop-k.k [])
           c.loop-k-test.true c.index-names-k.is one.1 (same_place contents c.loop-k.k one.1) (before.value contents agree s there) c.in-Ok.input is);
-      valid = rw c.in_ok-push-in-Ok.ensures.items (all_append (λ x. IsValidInput x.value) c.loop-k.inputs.items (c.in-Ok.input ∷ []) before.valid (c.in-Ok.ensures.valid, tt));
+      valid = rw c.in-Ok-put.ensures (all_append (λ x. IsValidInput x.value) c.loop-k.inputs.items (c.in-Ok.input ∷ []) before.valid (c.in-Ok.ensures.valid, tt));
       files = c.named_input.ensures.files ∙ before.files;
       read_faults = omega (arith, before.read_faults, c.named_input.ensures.read_faults);
       write_faults = c.named_input.ensures.write_faults ∙ before.write_faults;

@@ -8,7 +8,7 @@ use Rattle.sdt_toolkit.proofs.kit.kit_bytes.Goals as goal
 
 pub returns-clause-exact : goal.returns-clause-exact
 returns-clause-exact c =
-    subst (λ (x : Result (List ℕ) Refusal). Gives c.write_object.result x) (ap written c.in_ok-object.ensures.exact ∙ kit_written c.args.acknowledge) c.write_object.ensures
+    subst (λ (x : Result (List ℕ) Refusal). Gives c.write_object-bytes.result x) (ap written c.in_ok-object.ensures.exact ∙ kit_written c.args.acknowledge) c.write_object-bytes.ensures
 
 pub returns-clause-short : goal.returns-clause-short
-returns-clause-short c = object_short c.size_law.ensures c.in_ok-object.object c.write_object.result c.write_object.ensures
+returns-clause-short c = object_short c.size_law.ensures c.in_ok-object.object c.write_object-bytes.result c.write_object-bytes.ensures
