@@ -14,6 +14,7 @@ pub mod PieceLemmas
 pub mod ProtectLemmas
 pub mod SeatLemmas
 pub mod StoreLemmas
+pub mod TableLemmas
 pub mod TestLemmas
 pub mod TickLemmas
 pub mod WindowLemmas

@@ -5,7 +5,6 @@ use Rattle.std.proofs.Math.Seq.{get_or-append_right, get_or-take, get_or-drop, g
 use Rattle.std.proofs.lemmas.List.Sums.{sum_by-cons, sum_by-set}
 use Rattle.std.proofs.Math.Path.{fun_ext}
 use Rattle.std.proofs.lemmas.Bool.{true≢false}
-use Rattle.std.proofs.lemmas.List.{length-replicate}
 use Rattle.sdt_word.specs.Bytes.{load, number_of, written}
 use Rattle.sdt_word.specs.Codes.{bytes_in}
 use Rattle.sdt_word.specs.declared.codes.Width.{Width}
@@ -85,12 +84,6 @@ same_or_not x a = go (x == a) refl
     go : (b : Bool) → (x == a) ≡ b → (x ≡ a) ⊎ (x ≢ a)
     go true e = inl (eqb-true x a e)
     go false e = inr (λ same. absurd (true≢false (sym (eq-eqb x a same) ∙ e)))
-
--- what a read of the table gives
-pub frame_read : (table : List (Option ℕ)) (i : ℕ) (o : Option ℕ) → i < length table → o ≡ get_or table i o → frame_of table i ≡ o
-frame_read [] i o h e = absurd (omega arith)
-frame_read (x ∷ xs) zero o h e = sym e
-frame_read (x ∷ xs) (suc i) o h e = frame_read xs i o (omega arith) e
 
 byte_clear : (bytes : List ℕ) (used : ℕ) → ((k : ℕ) → 4096 * used ≤ k → get_or bytes k 0 ≡ 0) → (at : ℕ) → byte_of bytes at (Some used) ≡ 0
 byte_clear bytes used clear at = clear (4096 * used + at) (omega arith)
@@ -252,20 +245,6 @@ pub none_at : (n page : ℕ) → frame_of (replicate n None) page ≡ None
 none_at zero page = refl
 none_at (suc n) zero = refl
 none_at (suc n) (suc page) = none_at n page
-
-pub none_counted : (n : ℕ) → count_by is_some (replicate {A = Option ℕ} n None) ≡ 0
-none_counted zero = refl
-none_counted (suc n) =
-    let head = sum_by-cons one None (replicate n None) in
-    let rest = none_counted n in
-    omega (arith, head, rest)
-
-pub unused_table : (n : ℕ) (table : List (Option ℕ)) → table ≡ replicate n None → IsUnused table n
-unused_table n table e = rw e (record {
-  pages = length-replicate n None;
-  none = none_at n;
-  count = none_counted n;
-})
 
 pub fresh-memory : (table : List (Option ℕ)) (bytes : List ℕ) (n : ℕ) (before : List (Option ℕ)) (old : List ℕ) → IsUnused table n → length (used_in before) ≡ 0 → memory_in table bytes ≡ memory_in before old
 unfolding memory_in

@@ -1,5 +1,5 @@
 -- The places at which a number has a 1, in four parts one after the other.
-use Rattle.std.proofs.Common.{◌≡◌, ℕ, zero, suc, ◌+◌, ◌*◌, ◌/◌, ◌%◌, ◌^◌, ◌≤◌, Bool, true, false, List, [], ◌∷◌, ◌++◌, length, append-nil, append_assoc, length-append, refl, sym, ap, ◌∙◌, arith}
+use Rattle.std.proofs.Common.{◌≡◌, ℕ, zero, suc, ◌+◌, ◌*◌, ◌/◌, ◌%◌, ◌^◌, ◌≤◌, Bool, true, false, List, [], ◌∷◌, ◌++◌, length, append_assoc, length-append, refl, sym, ap, ◌∙◌, arith}
 use Rattle.std.specs.Prelude.{slice_index}
 use Rattle.sdt_word.specs.Bytes.{bytes_of, written}
 use Rattle.sdt_word.specs.Numbers.{bit, bits, flag, kept, places_from}
@@ -125,18 +125,3 @@ pub four_behind : (k k1 k2 k3 m v at at1 at2 at3 end : ℕ) → k1 ≡ k + m →
     → at1 ≡ at + 4 * length (places_from k m v) → at2 ≡ at1 + 4 * length (places_from k1 m v) → at3 ≡ at2 + 4 * length (places_from k2 m v)
     → end ≡ at3 + 4 * length (places_from k3 m v) → end ≡ at + 4 * length (places_from k (m + (m + (m + m))) v)
 four_behind k k1 k2 k3 m v at at1 at2 at3 end i j l p q r s = let count = four_count k k1 k2 k3 m v i j l in omega arith
-
--- four words
-one_picked : (words : List ℕ) (k : ℕ) → picked_bytes words (k ∷ []) ≡ bytes_of (slice_index words k) 4
-one_picked words k = append-nil (bytes_of (slice_index words k) 4)
-
-word_written : (words old new : List ℕ) (at k : ℕ) → new ≡ written old at (bytes_of (slice_index words k) 4) → new ≡ written old at (picked_bytes words (k ∷ []))
-word_written words old new at k e = e ∙ ap (written old at) (sym (one_picked words k))
-
-pub run_written : (words old one two three new : List ℕ) (at k : ℕ) → at + 16 ≤ length old → length one ≡ length old → length two ≡ length one
-    → one ≡ written old at (bytes_of (slice_index words k) 4) → two ≡ written one (at + 4) (bytes_of (slice_index words (k + 1)) 4)
-    → three ≡ written two (at + 8) (bytes_of (slice_index words (k + 2)) 4) → new ≡ written three (at + 12) (bytes_of (slice_index words (k + 3)) 4)
-    → new ≡ written old at (picked_bytes words (four_from k))
-run_written words old one two three new at k le l m e f g h =
-    four_written words old one two three new (k ∷ []) ((k + 1) ∷ []) ((k + 2) ∷ []) ((k + 3) ∷ []) at (at + 4) (at + 8) (at + 12) (omega arith) (omega arith) (omega arith) (omega arith) (omega arith) (omega arith)
-    (word_written words old one at k e) (word_written words one two (at + 4) (k + 1) f) (word_written words two three (at + 8) (k + 2) g) (word_written words three new (at + 12) (k + 3) h)

@@ -23,6 +23,10 @@ set_written xs bs at i v e lt =
 pub one_set : (xs : List ℕ) (at a : ℕ) → at < length xs → set xs at a ≡ written xs at (a ∷ [])
 one_set xs at a lt = ap (λ (ys : List ℕ). set ys at a) (sym (none_written xs at)) ∙ set_written xs [] at at a (omega arith) lt
 
+-- one byte more behind those that are written
+pub one_more : (xs ys bs : List ℕ) (at i v : ℕ) → ys ≡ written xs at bs → i ≡ at + length bs → i < length xs → set ys i v ≡ written xs at (bs ++ v ∷ [])
+one_more xs ys bs at i v e f lt = ap (λ (zs : List ℕ). set zs i v) e ∙ set_written xs bs at i v f lt
+
 pub half_set : (xs ys zs : List ℕ) (at v : ℕ) → at + 2 ≤ length xs → ys ≡ set xs at (v % 256) → zs ≡ set ys (at + 1) (v / 256 % 256) → zs ≡ written xs at (bytes_of v 2)
 half_set xs ys zs at v le e f =
     f ∙ ap (λ (us : List ℕ). set us (at + 1) (v / 256 % 256)) (e ∙ one_set xs at (v % 256) (omega arith)) ∙ set_written xs (v % 256 ∷ []) at (at + 1) (v / 256 % 256) (omega arith) (omega arith)

@@ -12,6 +12,7 @@ pub mod Places
 pub mod Protection
 pub mod Seats
 pub mod States
+pub mod Tables
 pub mod Touches
 pub mod WholeWords
 pub mod Windows

@@ -71,8 +71,8 @@ after_store c a width value = record c {
 abbrev pub contents_of : Memory → Contents
 contents_of m = record {
   banks = m.banks.items;
-  memory = memory_in m.pages.table.items m.pages.frames;
-  used = used_in m.pages.table.items;
+  memory = memory_in m.pages.table m.pages.frames;
+  used = used_in m.pages.table;
   frames = m.pages.room;
   stores = noted_in m.stores;
 }

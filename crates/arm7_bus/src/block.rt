@@ -121,6 +121,52 @@ impl Cells {
         }
     }
 
+    /// Sets sixteen bytes, through one pointer, so that they are one store.
+    #[inline(always)]
+    fn write_sixteen(
+        &mut self,
+        start: usize,
+        a: u8,
+        b: u8,
+        c: u8,
+        d: u8,
+        e: u8,
+        f: u8,
+        g: u8,
+        h: u8,
+        i: u8,
+        j: u8,
+        k: u8,
+        l: u8,
+        m: u8,
+        n: u8,
+        o: u8,
+        p: u8,
+    )
+        requires { start + 16 ≤ length self.old.bytes }
+        ensures { (self.new.bytes ≡ written self.old.bytes start (a ∷ b ∷ c ∷ d ∷ e ∷ f ∷ g ∷ h ∷ i ∷ j ∷ k ∷ l ∷ m ∷ n ∷ o ∷ p ∷ [])) × (self.new.at ≡ self.old.at) × (self.new.room ≡ self.old.room) }
+    {
+        unsafe {
+            let at = self.at.add(start);
+            *at = a;
+            *at.add(1) = b;
+            *at.add(2) = c;
+            *at.add(3) = d;
+            *at.add(4) = e;
+            *at.add(5) = f;
+            *at.add(6) = g;
+            *at.add(7) = h;
+            *at.add(8) = i;
+            *at.add(9) = j;
+            *at.add(10) = k;
+            *at.add(11) = l;
+            *at.add(12) = m;
+            *at.add(13) = n;
+            *at.add(14) = o;
+            *at.add(15) = p;
+        }
+    }
+
     /// Makes the next byte.
     #[inline(always)]
     fn push(&mut self, i: usize, v: u8)
@@ -304,6 +350,35 @@ impl Block {
             (v / 256 % 256) as u8,
             (v / 256 / 256 % 256) as u8,
             (v / 256 / 256 / 256 % 256) as u8,
+        );
+    }
+
+    /// Sets four words, one behind the other.
+    #[inline(always)]
+    pub(crate) fn write_words(&mut self, at: usize, a: u32, b: u32, c: u32, d: u32)
+        requires { at + 16 ≤ length self.old.cells.bytes }
+        ensures bytes { self.new.cells.bytes ≡ written self.old.cells.bytes at (bytes_of a 4 ++ (bytes_of b 4 ++ (bytes_of c 4 ++ bytes_of d 4))) }
+        ensures count { length self.new.cells.bytes ≡ length self.old.cells.bytes }
+        ensures room { self.new.cells.room ≡ self.old.cells.room }
+    {
+        self.cells.write_sixteen(
+            at,
+            (a % 256) as u8,
+            (a / 256 % 256) as u8,
+            (a / 256 / 256 % 256) as u8,
+            (a / 256 / 256 / 256 % 256) as u8,
+            (b % 256) as u8,
+            (b / 256 % 256) as u8,
+            (b / 256 / 256 % 256) as u8,
+            (b / 256 / 256 / 256 % 256) as u8,
+            (c % 256) as u8,
+            (c / 256 % 256) as u8,
+            (c / 256 / 256 % 256) as u8,
+            (c / 256 / 256 / 256 % 256) as u8,
+            (d % 256) as u8,
+            (d / 256 % 256) as u8,
+            (d / 256 / 256 % 256) as u8,
+            (d / 256 / 256 / 256 % 256) as u8,
         );
     }
 

@@ -244,11 +244,7 @@ fn put_run(block: &mut Block, at: usize, words: &[u32; 16], k: u32) -> usize
     ensures room { block.new.cells.room ≡ block.old.cells.room }
 {
     let k = k as usize;
-    let (a, b, c, d) = (words[k], words[k + 1], words[k + 2], words[k + 3]);
-    block.write_word(at, a);
-    block.write_word(at + 4, b);
-    block.write_word(at + 8, c);
-    block.write_word(at + 12, d);
+    block.write_words(at, words[k], words[k + 1], words[k + 2], words[k + 3]);
     at + 16
 }
 

@@ -9,6 +9,7 @@ pub mod meets;
 mod memory;
 mod notes;
 mod pages;
+mod table;
 
 pub use crate::bus::{Absent, Bus, NoBus, NoDevice, PagesFull};
 pub use crate::frames::Frames;

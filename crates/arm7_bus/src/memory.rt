@@ -10,7 +10,7 @@ ghost use Rattle.arm7_bus.specs.Windows.{IsWindow};
 
 use crate::meets::{first_shared, lesser};
 use crate::notes::{Notes, Stores};
-use crate::pages::{PAGE, PAGES, Pages};
+use crate::pages::{PAGE, PARTS, Pages};
 use sdt_fault::NoMemory;
 use sdt_word::{Range32, Width};
 use std::alloc::Global;
@@ -60,7 +60,7 @@ pub struct Memory {
     /// Whether a store since the last tick went to a device.
     pub strayed: bool,
     pub ghost apart: { AreApartBanks banks.items },
-    pub ghost seen: { IsWindow banks.items pages.table.items window.page window.shift },
+    pub ghost seen: { IsWindow banks.items pages.table window.page window.shift },
     pub ghost in_banks: { strayed ≡ false → lie_in_banks banks.items (noted_in stores) ≡ true },
 }
 
@@ -310,7 +310,7 @@ impl Memory {
         if !self.is_last(first, PAGE) {
             return;
         }
-        match self.pages.table[(a / PAGE) as usize] {
+        match self.pages.table.lookup((a / PAGE) as usize) {
             Some(frame) => {
                 self.window = Window {
                     page: a / PAGE,
@@ -469,7 +469,7 @@ impl Memory {
         ensures err { OnErr result (contents_of self.new ≡ contents_of self.old) }
     {
         let room = frames_for(&self.banks);
-        let pages = Pages::make(self.alloc, PAGES, room)?;
+        let pages = Pages::make(self.alloc, PARTS, room)?;
         self.pages = pages;
         self.window = CLOSED;
         Ok(())

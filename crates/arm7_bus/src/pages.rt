@@ -10,6 +10,7 @@ ghost use Rattle.arm7_bus.specs.Picks.{picked_bytes};
 ghost use Rattle.arm7_bus.specs.Windows.{KeepsFrames};
 
 use crate::frames::Frames;
+use crate::table::Table;
 use sdt_fault::NoMemory;
 use sdt_word::Width;
 use std::alloc::Global;
@@ -17,18 +18,18 @@ use std::alloc::Global;
 /// The bytes in a page.
 pub const PAGE: u32 = 4096;
 
-/// How many pages there are addresses for.
-pub const PAGES: usize = 1048576;
+/// How many parts of the table have all 1,048,576 pages that there are addresses for.
+pub const PARTS: usize = 256;
 
 /// The frame of each page, the frames, how many of them are in use, and how many there are. The table is
 /// empty until memory is started.
 #[derive(Debug, Drop)]
 pub struct Pages {
-    pub table: Vec<Option<u16>>,
+    pub table: Table,
     pub frames: Frames,
     pub used: u32,
     pub room: u32,
-    pub ghost paging: { IsPaging table.items frames used room },
+    pub ghost paging: { IsPaging table frames used room },
 }
 
 impl Pages {
@@ -38,11 +39,11 @@ impl Pages {
     /// The bytes of an access, as a number.
     #[inline(always)]
     pub fn read(&self, a: u32, width: Width) -> u32
-        requires started { length self.now.table.items ≡ 1048576 }
+        requires started { length self.now.table ≡ 1048576 }
         requires aligned { a % bytes_in width ≡ 0 }
-        ensures { result ≡ number_of (load (memory_in self.now.table.items self.now.frames) a (bytes_in width)) }
+        ensures { result ≡ number_of (load (memory_in self.now.table self.now.frames) a (bytes_in width)) }
     {
-        match self.table[(a / PAGE) as usize] {
+        match self.table.lookup((a / PAGE) as usize) {
             Some(frame) => self.frames.read(u32::from(frame) * PAGE + a % PAGE, width),
             None => 0,
         }
@@ -52,9 +53,9 @@ impl Pages {
     #[inline(always)]
     pub fn read_from(&self, at: u32, _a: u32, width: Width) -> u32
         requires aligned { _a % bytes_in width ≡ 0 }
-        requires frame { frame_of self.now.table.items (_a / 4096) ≡ Some (at / 4096) }
+        requires frame { frame_of self.now.table (_a / 4096) ≡ Some (at / 4096) }
         requires place { at % 4096 ≡ _a % 4096 }
-        ensures { result ≡ number_of (load (memory_in self.now.table.items self.now.frames) _a (bytes_in width)) }
+        ensures { result ≡ number_of (load (memory_in self.now.table self.now.frames) _a (bytes_in width)) }
     {
         self.frames.read(at, width)
     }
@@ -63,8 +64,8 @@ impl Pages {
     #[inline(always)]
     fn put(&mut self, frame: u16, a: u32, width: Width, v: u32)
         requires aligned { a % bytes_in width ≡ 0 }
-        requires frame { frame_of self.old.table.items (a / 4096) ≡ Some frame }
-        ensures memory { memory_in self.new.table.items self.new.frames ≡ store (memory_in self.old.table.items self.old.frames) a (bytes_of v (bytes_in width)) }
+        requires frame { frame_of self.old.table (a / 4096) ≡ Some frame }
+        ensures memory { memory_in self.new.table self.new.frames ≡ store (memory_in self.old.table self.old.frames) a (bytes_of v (bytes_in width)) }
         ensures table { self.new.table ≡ self.old.table }
         ensures counts { (self.new.used ≡ self.old.used) × (self.new.room ≡ self.old.room) }
     {
@@ -74,23 +75,23 @@ impl Pages {
 
     /// Gives a frame to a page that has none.
     pub fn claim(&mut self, page: usize)
-        requires page { page < length self.old.table.items }
-        requires fresh { frame_of self.old.table.items page ≡ None }
+        requires page { page < length self.old.table }
+        requires fresh { frame_of self.old.table page ≡ None }
         requires left { self.old.used < self.old.room }
-        ensures memory { memory_in self.new.table.items self.new.frames ≡ memory_in self.old.table.items self.old.frames }
-        ensures table { self.new.table.items ≡ slice_set self.old.table.items page (Some self.old.used) }
+        ensures memory { memory_in self.new.table self.new.frames ≡ memory_in self.old.table self.old.frames }
+        ensures table { self.new.table ≡ slice_set self.old.table page (Some self.old.used) }
         ensures counts { (self.new.used ≡ self.old.used + 1) × (self.new.room ≡ self.old.room) }
     {
-        self.table[page] = Some(self.used as u16);
+        self.table.set(page, self.used as u16);
         self.used += 1;
     }
 
     /// The byte at an address.
     pub fn peek(&self, a: u32) -> u8
-        requires { length self.now.table.items ≡ 1048576 }
-        ensures { result ≡ memory_in self.now.table.items self.now.frames a }
+        requires { length self.now.table ≡ 1048576 }
+        ensures { result ≡ memory_in self.now.table self.now.frames a }
     {
-        match self.table[(a / PAGE) as usize] {
+        match self.table.lookup((a / PAGE) as usize) {
             Some(frame) => self.frames.read_byte(u32::from(frame) * PAGE + a % PAGE),
             None => 0,
         }
@@ -98,11 +99,11 @@ impl Pages {
 
     /// The bytes from an address on, up to the end of its page; none where its page has no frame, or no byte of it was made.
     pub fn piece(&self, a: u32) -> &[u8]
-        requires { length self.now.table.items ≡ 1048576 }
-        ensures bytes { result.now ≡ load (memory_in self.now.table.items self.now.frames) a (length result.now) }
-        ensures some { length result.now ≡ 0 → memory_in self.now.table.items self.now.frames a ≡ 0 }
+        requires { length self.now.table ≡ 1048576 }
+        ensures bytes { result.now ≡ load (memory_in self.now.table self.now.frames) a (length result.now) }
+        ensures some { length result.now ≡ 0 → memory_in self.now.table self.now.frames a ≡ 0 }
     {
-        match self.table[(a / PAGE) as usize] {
+        match self.table.lookup((a / PAGE) as usize) {
             Some(frame) => self.frames.rest(u32::from(frame) * PAGE + a % PAGE),
             None => &[],
         }
@@ -111,43 +112,43 @@ impl Pages {
     /// The `n` bytes from an address on; None where one page hasn't all of them, it has no frame, or they aren't made yet.
     #[inline(always)]
     pub fn part(&self, a: u32, n: u32) -> Option<&[u8]>
-        requires started { length self.now.table.items ≡ 1048576 }
+        requires started { length self.now.table ≡ 1048576 }
         requires few { n ≤ 64 }
-        ensures { IfSome result (λ part. (part.now ≡ load (memory_in self.now.table.items self.now.frames) a n) × (a % 4096 + n ≤ 4096)) }
+        ensures { IfSome result (λ part. (part.now ≡ load (memory_in self.now.table self.now.frames) a n) × (a % 4096 + n ≤ 4096)) }
     {
         if a % PAGE + n > PAGE {
             return None;
         }
-        match self.table[(a / PAGE) as usize] {
+        match self.table.lookup((a / PAGE) as usize) {
             Some(frame) => self.frames.part(u32::from(frame) * PAGE + a % PAGE, n),
             None => None,
         }
     }
 
     pub fn is_used(&self, page: usize) -> bool
-        requires { page < length self.now.table.items }
-        ensures { result ≡ slice_index_or (used_in self.now.table.items) page false }
+        requires { page < length self.now.table }
+        ensures { result ≡ slice_index_or (used_in self.now.table) page false }
     {
-        self.table[page].is_some()
+        self.table.lookup(page).is_some()
     }
 
     /// How many pages can still take a frame.
     pub fn left(&self) -> u32
-        ensures { result ≡ self.now.room - used_count (used_in self.now.table.items) }
+        ensures { result ≡ self.now.room - used_count (used_in self.now.table) }
     {
         self.room - self.used
     }
 
     #[inline(never)]
     fn put_fresh(&mut self, a: u32, width: Width, v: u32) -> bool
-        requires started { length self.old.table.items ≡ 1048576 }
+        requires started { length self.old.table ≡ 1048576 }
         requires aligned { a % bytes_in width ≡ 0 }
-        requires fresh { frame_of self.old.table.items (a / 4096) ≡ None }
-        ensures answer { result ≡ nat_lt (used_count (used_in self.old.table.items)) self.old.room }
-        ensures memory { result ≡ true → memory_in self.new.table.items self.new.frames ≡ store (memory_in self.old.table.items self.old.frames) a (bytes_of v (bytes_in width)) }
-        ensures used { result ≡ true → used_in self.new.table.items ≡ slice_set (used_in self.old.table.items) (a / 4096) true }
+        requires fresh { frame_of self.old.table (a / 4096) ≡ None }
+        ensures answer { result ≡ nat_lt (used_count (used_in self.old.table)) self.old.room }
+        ensures memory { result ≡ true → memory_in self.new.table self.new.frames ≡ store (memory_in self.old.table self.old.frames) a (bytes_of v (bytes_in width)) }
+        ensures used { result ≡ true → used_in self.new.table ≡ slice_set (used_in self.old.table) (a / 4096) true }
         ensures room { self.new.room ≡ self.old.room }
-        ensures frames { KeepsFrames self.old.table.items self.new.table.items }
+        ensures frames { KeepsFrames self.old.table self.new.table }
         ensures same { result ≡ false → self.new ≡ self.old }
     {
         if self.used >= self.room {
@@ -162,16 +163,16 @@ impl Pages {
     /// Sets the bytes of an access, for which its page takes a frame where it has none; false where it can't.
     #[inline(always)]
     pub fn write(&mut self, a: u32, width: Width, v: u32) -> bool
-        requires started { length self.old.table.items ≡ 1048576 }
+        requires started { length self.old.table ≡ 1048576 }
         requires aligned { a % bytes_in width ≡ 0 }
-        ensures answer { result ≡ (page_used_in (used_in self.old.table.items) a || nat_lt (used_count (used_in self.old.table.items)) self.old.room) }
-        ensures memory { result ≡ true → memory_in self.new.table.items self.new.frames ≡ store (memory_in self.old.table.items self.old.frames) a (bytes_of v (bytes_in width)) }
-        ensures used { result ≡ true → used_in self.new.table.items ≡ slice_set (used_in self.old.table.items) (a / 4096) true }
+        ensures answer { result ≡ (page_used_in (used_in self.old.table) a || nat_lt (used_count (used_in self.old.table)) self.old.room) }
+        ensures memory { result ≡ true → memory_in self.new.table self.new.frames ≡ store (memory_in self.old.table self.old.frames) a (bytes_of v (bytes_in width)) }
+        ensures used { result ≡ true → used_in self.new.table ≡ slice_set (used_in self.old.table) (a / 4096) true }
         ensures room { self.new.room ≡ self.old.room }
-        ensures frames { KeepsFrames self.old.table.items self.new.table.items }
+        ensures frames { KeepsFrames self.old.table self.new.table }
         ensures same { result ≡ false → self.new ≡ self.old }
     {
-        match self.table[(a / PAGE) as usize] {
+        match self.table.lookup((a / PAGE) as usize) {
             Some(frame) => {
                 self.put(frame, a, width, v);
                 true
@@ -184,8 +185,8 @@ impl Pages {
     #[inline(always)]
     fn put_picked(&mut self, frame: u16, a: u32, words: &[u32; 16], list: u32)
         requires within { a % 4096 + 4 * length (registers 16 list) ≤ 4096 }
-        requires frame { frame_of self.old.table.items (a / 4096) ≡ Some frame }
-        ensures memory { memory_in self.new.table.items self.new.frames ≡ store (memory_in self.old.table.items self.old.frames) a (picked_bytes words.now (registers 16 list)) }
+        requires frame { frame_of self.old.table (a / 4096) ≡ Some frame }
+        ensures memory { memory_in self.new.table self.new.frames ≡ store (memory_in self.old.table self.old.frames) a (picked_bytes words.now (registers 16 list)) }
         ensures table { self.new.table ≡ self.old.table }
         ensures counts { (self.new.used ≡ self.old.used) × (self.new.room ≡ self.old.room) }
     {
@@ -197,12 +198,12 @@ impl Pages {
     /// changes, where one page hasn't all of them, or it has no frame.
     #[inline(always)]
     pub fn write_picked(&mut self, a: u32, words: &[u32; 16], list: u32, n: u32) -> bool
-        requires started { length self.old.table.items ≡ 1048576 }
+        requires started { length self.old.table ≡ 1048576 }
         requires counted { n ≡ length (registers 16 list) }
         requires most { n ≤ 16 }
         ensures within { result ≡ true → a % 4096 + 4 * n ≤ 4096 }
-        ensures used { result ≡ true → page_used_in (used_in self.old.table.items) a ≡ true }
-        ensures memory { result ≡ true → memory_in self.new.table.items self.new.frames ≡ store (memory_in self.old.table.items self.old.frames) a (picked_bytes words.now (registers 16 list)) }
+        ensures used { result ≡ true → page_used_in (used_in self.old.table) a ≡ true }
+        ensures memory { result ≡ true → memory_in self.new.table self.new.frames ≡ store (memory_in self.old.table self.old.frames) a (picked_bytes words.now (registers 16 list)) }
         ensures table { self.new.table ≡ self.old.table }
         ensures room { self.new.room ≡ self.old.room }
         ensures same { result ≡ false → self.new ≡ self.old }
@@ -210,7 +211,7 @@ impl Pages {
         if a % PAGE + 4 * n > PAGE {
             return false;
         }
-        match self.table[(a / PAGE) as usize] {
+        match self.table.lookup((a / PAGE) as usize) {
             Some(frame) => {
                 self.put_picked(frame, a, words, list);
                 true
@@ -220,8 +221,8 @@ impl Pages {
     }
 
     fn added(&self, page: usize) -> u32
-        requires { page < length self.now.table.items }
-        ensures { result ≡ cond (slice_index_or (used_in self.now.table.items) page false) 0 1 }
+        requires { page < length self.now.table }
+        ensures { result ≡ cond (slice_index_or (used_in self.now.table) page false) 0 1 }
     {
         if self.is_used(page) { 0 } else { 1 }
     }
@@ -230,8 +231,8 @@ impl Pages {
     #[tactic(auto, using(crate::proofs::ClaimLemmas::added_more))]
     fn fresh(&self, first: usize, count: usize) -> u32
         requires few { first + count ≤ 1048576 }
-        requires within { first + count ≤ length self.now.table.items }
-        ensures { result + used_count (used_in self.now.table.items) ≡ used_count (claimed (used_in self.now.table.items) first count) }
+        requires within { first + count ≤ length self.now.table }
+        ensures { result + used_count (used_in self.now.table) ≡ used_count (claimed (used_in self.now.table) first count) }
     {
         let mut n: u32 = 0;
         for k in 0..count {
@@ -243,10 +244,10 @@ impl Pages {
     /// Uses a page, for which there is a frame where it has none.
     #[tactic(auto, using(crate::proofs::ClaimLemmas::page_fresh, crate::proofs::ClaimLemmas::page_kept, crate::proofs::ClaimLemmas::page_room))]
     fn use_page(&mut self, page: usize)
-        requires page { page < length self.old.table.items }
-        requires room { used_count (slice_set (used_in self.old.table.items) page true) ≤ self.old.room }
-        ensures memory { memory_in self.new.table.items self.new.frames ≡ memory_in self.old.table.items self.old.frames }
-        ensures used { used_in self.new.table.items ≡ slice_set (used_in self.old.table.items) page true }
+        requires page { page < length self.old.table }
+        requires room { used_count (slice_set (used_in self.old.table) page true) ≤ self.old.room }
+        ensures memory { memory_in self.new.table self.new.frames ≡ memory_in self.old.table self.old.frames }
+        ensures used { used_in self.new.table ≡ slice_set (used_in self.old.table) page true }
         ensures room { self.new.room ≡ self.old.room }
     {
         if self.is_used(page) {
@@ -258,10 +259,10 @@ impl Pages {
     /// Uses these pages, for which there are frames.
     fn use_all(&mut self, first: usize, count: usize)
         requires few { first + count ≤ 1048576 }
-        requires within { first + count ≤ length self.old.table.items }
-        requires room { used_count (claimed (used_in self.old.table.items) first count) ≤ self.old.room }
-        ensures memory { memory_in self.new.table.items self.new.frames ≡ memory_in self.old.table.items self.old.frames }
-        ensures used { used_in self.new.table.items ≡ claimed (used_in self.old.table.items) first count }
+        requires within { first + count ≤ length self.old.table }
+        requires room { used_count (claimed (used_in self.old.table) first count) ≤ self.old.room }
+        ensures memory { memory_in self.new.table self.new.frames ≡ memory_in self.old.table self.old.frames }
+        ensures used { used_in self.new.table ≡ claimed (used_in self.old.table) first count }
         ensures room { self.new.room ≡ self.old.room }
     {
         for k in 0..count {
@@ -273,10 +274,10 @@ impl Pages {
     #[tactic(auto, using(crate::proofs::ClaimLemmas::paging_count))]
     pub fn claim_all(&mut self, first: usize, count: usize) -> bool
         requires few { first + count ≤ 1048576 }
-        requires within { first + count ≤ length self.old.table.items }
-        ensures answer { result ≡ nat_le (used_count (claimed (used_in self.old.table.items) first count)) self.old.room }
-        ensures memory { memory_in self.new.table.items self.new.frames ≡ memory_in self.old.table.items self.old.frames }
-        ensures used { result ≡ true → used_in self.new.table.items ≡ claimed (used_in self.old.table.items) first count }
+        requires within { first + count ≤ length self.old.table }
+        ensures answer { result ≡ nat_le (used_count (claimed (used_in self.old.table) first count)) self.old.room }
+        ensures memory { memory_in self.new.table self.new.frames ≡ memory_in self.old.table self.old.frames }
+        ensures used { result ≡ true → used_in self.new.table ≡ claimed (used_in self.old.table) first count }
         ensures room { self.new.room ≡ self.old.room }
         ensures same { result ≡ false → self.new ≡ self.old }
     {
@@ -289,24 +290,25 @@ impl Pages {
 
     /// No pages yet.
     pub fn none(alloc: Global) -> Pages
-        ensures table { result.table.items ≡ [] }
+        ensures table { result.table ≡ [] }
         ensures room { result.room ≡ 0 }
     {
         Pages {
-            table: Vec::new(alloc),
+            table: Table::none(alloc),
             frames: Frames::none(alloc),
             used: 0,
             room: 0,
         }
     }
 
-    /// This many pages, none of them used, and frames for as many.
-    pub fn make(alloc: Global, pages: usize, room: u32) -> Result<Pages, NoMemory>
-        requires { room ≤ 65536 }
-        ensures table { IfOk result (λ made. IsUnused made.table.items pages) }
+    /// The pages of so many parts of the table, none of them used, and this many frames.
+    pub fn make(alloc: Global, parts: usize, room: u32) -> Result<Pages, NoMemory>
+        requires parts { parts ≤ 256 }
+        requires room { room ≤ 65536 }
+        ensures table { IfOk result (λ made. IsUnused made.table (4096 * parts)) }
         ensures room { IfOk result (λ made. made.room ≡ room) }
     {
-        let table = empty_table(alloc, pages)?;
+        let table = Table::make(alloc, parts)?;
         let frames = Frames::make(alloc, room)?;
         Ok(Pages {
             table,
@@ -315,13 +317,4 @@ impl Pages {
             room,
         })
     }
-}
-
-#[tactic(auto, using(crate::proofs::PagingLemmas::unused_table))]
-fn empty_table(alloc: Global, pages: usize) -> Result<Vec<Option<u16>>, NoMemory>
-    ensures { IfOk result (λ table. IsUnused table.items pages) }
-{
-    let mut table = Vec::new(alloc);
-    table.resize(pages, None)?;
-    Ok(table)
 }

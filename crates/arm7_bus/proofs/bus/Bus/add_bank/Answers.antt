@@ -20,7 +20,7 @@ returns-in-Some-clause-err g c =
 pub returns-in-Ok-clause-zeros : goal.returns-in-Ok-clause-zeros
 returns-in-Ok-clause-zeros g c =
     λ a. ap (λ (x : Contents). x.memory a) c.in-Ok.ensures.ok
-    ∙ memory_before c.args.self.now.memory.pages.table.items c.args.self.now.memory.pages.frames a c.requires.unstarted
+    ∙ memory_before c.args.self.now.memory.pages.table c.args.self.now.memory.pages.frames a c.requires.unstarted
 
 pub add_bank-requires : goal.add_bank-requires
 add_bank-requires g c =

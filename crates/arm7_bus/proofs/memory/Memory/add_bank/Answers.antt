@@ -7,6 +7,6 @@ use Rattle.arm7_bus.proofs.memory.Memory.add_bank.Goals as goal
 pub invariant_of-self : goal.invariant_of-self
 invariant_of-self c = record {
   apart = apart_pushed c.args.self.now.banks.items c.push.new.self.items c.args.range (is_ok c.push.result) c.args.self.now.apart c.requires c.push.ensures.items;
-  seen = window_pushed c.args.self.now.banks.items c.push.new.self.items c.args.range (is_ok c.push.result) c.args.self.now.pages.table.items c.args.self.now.window.page c.args.self.now.window.shift c.args.self.now.seen c.push.ensures.items;
+  seen = window_pushed c.args.self.now.banks.items c.push.new.self.items c.args.range (is_ok c.push.result) c.args.self.now.pages.table c.args.self.now.window.page c.args.self.now.window.shift c.args.self.now.seen c.push.ensures.items;
   in_banks = λ e. in_pushed c.args.self.now.banks.items c.push.new.self.items c.args.range (is_ok c.push.result) _ c.push.ensures.items (c.args.self.now.in_banks e);
 }

@@ -1,15 +1,15 @@
-use Rattle.std.proofs.Common.{◌≡◌, ◌/◌, Some, ◌∙◌, arith}
+use Rattle.std.proofs.Common.{◌≡◌, ◌/◌, Some, sym, ◌∙◌, arith}
 use Rattle.arm7_bus.specs.Paging.{frame_of}
-use Rattle.arm7_bus.proofs.PagingLemmas.{frame_read, used_length}
+use Rattle.arm7_bus.proofs.PagingLemmas.{used_length}
 use Rattle.arm7_bus.proofs.WindowLemmas.{window_moved}
 use Rattle.arm7_bus.proofs.memory.Memory.move_window.Goals as goal
 
 pub invariant_of-self : goal.invariant_of-self
 invariant_of-self c =
-    let count = used_length c.args.self.now.pages.table.items in
+    let count = used_length c.args.self.now.pages.table in
     let started = c.requires in
-    let is : frame_of c.args.self.now.pages.table.items (c.args.a / 4096) ≡ Some c.in-Some.frame =
-    frame_read c.args.self.now.pages.table.items (c.args.a / 4096) c.index.result.now (omega arith) c.index.ensures ∙ c.in-Some.is in
+    let is : frame_of c.args.self.now.pages.table (c.args.a / 4096) ≡ Some c.in-Some.frame =
+    sym c.lookup.ensures ∙ c.in-Some.is in
     let p = c.args.self.now.pages.paging in
     let below = p.below (c.args.a / 4096) c.in-Some.frame is in
     let fits = p.fits in
@@ -17,7 +17,7 @@ invariant_of-self c =
     let from = c.from.ensures in
     record {
       apart = c.args.self.now.apart;
-      seen = window_moved c.args.self.now.banks.items c.args.self.now.pages.table.items c.args.self.now.last _ _ c.args.a c.in-Some.frame
+      seen = window_moved c.args.self.now.banks.items c.args.self.now.pages.table c.args.self.now.last _ _ c.args.a c.in-Some.frame
           (c.is_last.ensures c.if-not-is_last.false) (omega arith) (omega arith) (omega arith) (omega arith) is;
       in_banks = c.args.self.now.in_banks;
     }

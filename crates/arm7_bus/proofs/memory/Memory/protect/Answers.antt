@@ -7,6 +7,6 @@ use Rattle.arm7_bus.proofs.memory.Memory.protect.Goals as goal
 pub invariant_of-self : goal.invariant_of-self
 invariant_of-self c = record {
   apart = apart_protected c.args.r c.args.self.now.banks.items c.protect_banks.new.banks c.args.self.now.banks.len c.args.self.now.apart (rw c.deref_mut.ensures.value at c.protect_banks.ensures) (omega arith);
-  seen = window_protected c.args.r c.args.self.now.banks.items c.protect_banks.new.banks c.args.self.now.banks.len c.args.self.now.pages.table.items c.args.self.now.window.page c.args.self.now.window.shift c.args.self.now.seen (rw c.deref_mut.ensures.value at c.protect_banks.ensures) (omega arith);
+  seen = window_protected c.args.r c.args.self.now.banks.items c.protect_banks.new.banks c.args.self.now.banks.len c.args.self.now.pages.table c.args.self.now.window.page c.args.self.now.window.shift c.args.self.now.seen (rw c.deref_mut.ensures.value at c.protect_banks.ensures) (omega arith);
   in_banks = λ e. in_protected c.args.r c.args.self.now.banks.items c.protect_banks.new.banks c.args.self.now.banks.len _ (rw c.deref_mut.ensures.value at c.protect_banks.ensures) (omega arith) (c.args.self.now.in_banks e);
 }

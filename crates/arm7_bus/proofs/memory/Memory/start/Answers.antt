@@ -7,10 +7,10 @@ returns-clause-ok c =
     let u = c.in_ok-pages.ensures.table in
     record {
       banks = refl;
-      memory = fresh-memory c.in_ok-pages.pages.table.items c.in_ok-pages.pages.frames 1048576 c.args.self.now.pages.table.items c.args.self.now.pages.frames u c.requires;
+      memory = fresh-memory c.in_ok-pages.pages.table c.in_ok-pages.pages.frames 1048576 c.args.self.now.pages.table c.args.self.now.pages.frames u c.requires;
       stores = refl;
-      pages = used_length c.in_ok-pages.pages.table.items ∙ u.pages;
-      unused = λ page. unused_at c.in_ok-pages.pages.table.items 1048576 page u;
-      count = used_counted c.in_ok-pages.pages.table.items ∙ u.count;
+      pages = used_length c.in_ok-pages.pages.table ∙ u.pages;
+      unused = λ page. unused_at c.in_ok-pages.pages.table 1048576 page u;
+      count = used_counted c.in_ok-pages.pages.table ∙ u.count;
       frames = c.in_ok-pages.ensures.room ∙ (rw c.deref.ensures.value at c.frames_for-room.ensures);
     }

@@ -5,4 +5,4 @@ use Rattle.arm7_bus.proofs.pages.Pages.fresh.Given as goal
 
 abbrev pub invariant-loop-k : goal.invariant-loop-k
 invariant-loop-k l =
-    (l.n + used_count (used_in l.self.table.items) ≡ used_count (claimed (used_in l.self.table.items) l.first l.k)) × (l.n ≤ l.k)
+    (l.n + used_count (used_in l.self.table) ≡ used_count (claimed (used_in l.self.table) l.first l.k)) × (l.n ≤ l.k)

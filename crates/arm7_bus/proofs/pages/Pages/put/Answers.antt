@@ -10,4 +10,4 @@ returns-clause-memory c =
     let bs = bytes_of c.args.v (bytes_in c.args.width) in
     let count = length-bytes_of c.args.v (bytes_in c.args.width) in
     let page = in_page c.args.width c.args.a c.requires.aligned in
-    rw c.write.ensures (rw c.from.ensures (put-memory c.args.self.now.table.items c.args.self.now.frames c.args.self.now.used c.args.self.now.room c.args.frame c.args.a bs c.args.self.now.paging c.requires.frame (omega arith)))
+    rw c.write.ensures (rw c.from.ensures (put-memory c.args.self.now.table c.args.self.now.frames c.args.self.now.used c.args.self.now.room c.args.frame c.args.a bs c.args.self.now.paging c.requires.frame (omega arith)))

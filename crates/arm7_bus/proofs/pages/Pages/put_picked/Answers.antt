@@ -11,7 +11,7 @@ invariant_of-self c =
     let size = picked_length c.args.words.now (registers 16 c.args.list) in
     let within = c.requires.within in
     record {
-      paging = rw c.write_picked.ensures (rw c.from.ensures (put-paging c.args.self.now.table.items c.args.self.now.frames c.args.self.now.used c.args.self.now.room c.args.frame c.args.a bs c.args.self.now.paging c.requires.frame (omega arith)));
+      paging = rw c.write_picked.ensures (rw c.from.ensures (put-paging c.args.self.now.table c.args.self.now.frames c.args.self.now.used c.args.self.now.room c.args.frame c.args.a bs c.args.self.now.paging c.requires.frame (omega arith)));
     }
 
 pub returns-clause-memory : goal.returns-clause-memory
@@ -19,4 +19,4 @@ returns-clause-memory c =
     let bs = picked_bytes c.args.words.now (registers 16 c.args.list) in
     let size = picked_length c.args.words.now (registers 16 c.args.list) in
     let within = c.requires.within in
-    rw c.write_picked.ensures (rw c.from.ensures (put-memory c.args.self.now.table.items c.args.self.now.frames c.args.self.now.used c.args.self.now.room c.args.frame c.args.a bs c.args.self.now.paging c.requires.frame (omega arith)))
+    rw c.write_picked.ensures (rw c.from.ensures (put-memory c.args.self.now.table c.args.self.now.frames c.args.self.now.used c.args.self.now.room c.args.frame c.args.a bs c.args.self.now.paging c.requires.frame (omega arith)))

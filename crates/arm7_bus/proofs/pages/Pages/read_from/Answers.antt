@@ -10,5 +10,5 @@ returns c =
     let inside = in_page c.args.width c.args._a c.requires.aligned in
     let same = c.requires.place in
     let place : c.args.at ≡ c.args.at / 4096 * 4096 + c.args._a % 4096 = omega arith in
-    let loads = load_frame c.args.self.now.table.items c.args.self.now.frames c.args._a (bytes_in c.args.width) (c.args.at / 4096) inside c.requires.frame (omega arith) in
+    let loads = load_frame c.args.self.now.table c.args.self.now.frames c.args._a (bytes_in c.args.width) (c.args.at / 4096) inside c.requires.frame (omega arith) in
     c.read.ensures ∙ ap number_of (ap (λ (i : ℕ). take (bytes_in c.args.width) (drop i c.args.self.now.frames)) place ∙ sym loads)

@@ -5,6 +5,6 @@ use Rattle.arm7_bus.proofs.pages.Pages.use_all.Given as goal
 
 abbrev pub invariant-loop-k : goal.invariant-loop-k
 invariant-loop-k l =
-    (used_in l.self.table.items ≡ claimed (used_in l.initial.self.table.items) l.first l.k)
-    × (memory_in l.self.table.items l.self.frames ≡ memory_in l.initial.self.table.items l.initial.self.frames)
+    (used_in l.self.table ≡ claimed (used_in l.initial.self.table) l.first l.k)
+    × (memory_in l.self.table l.self.frames ≡ memory_in l.initial.self.table l.initial.self.frames)
     × (l.self.room ≡ l.initial.self.room)
