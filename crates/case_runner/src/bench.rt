@@ -51,8 +51,19 @@ pub fn check_case<T: Tool>(alloc: Global, tool: &T, case: &Case) -> Result<(), F
         seats: Vec::new(alloc),
         outcome: None,
     };
-    for step in case.steps.iter() {
-        carry_out(alloc, tool, &mut bench, step)?;
+    let judged = carry_all_out(alloc, tool, &mut bench, case.steps.as_slice());
+    drop(bench);
+    judged
+}
+
+fn carry_all_out<T: Tool>(
+    alloc: Global,
+    tool: &T,
+    bench: &mut Bench,
+    steps: &[Step],
+) -> Result<(), Fault> {
+    for step in steps {
+        carry_out(alloc, tool, bench, step)?;
     }
     settle(alloc, &bench.outcome)
 }

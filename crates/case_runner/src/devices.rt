@@ -68,7 +68,10 @@ fn word_at(device: &mut Box<dyn Device>, offset: u32) -> u32 {
 fn has_word(device: &Box<dyn Device>, offset: u32) -> bool
     ensures { IsTrue result → IsWithin offset Word (size device.now) }
 {
-    offset % 4 == 0 && u64::from(offset) + 4 <= device.range().size
+    if offset % 4 != 0 {
+        return false;
+    }
+    u64::from(offset) + 4 <= device.range().size
 }
 
 // Only a tick tells of a line. The timer is stopped in front of it, so that it raises none.
