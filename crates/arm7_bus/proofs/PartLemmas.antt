@@ -1,10 +1,11 @@
 -- The places at which a number has a 1, in four parts one after the other.
-use Rattle.std.proofs.Common.{◌≡◌, ℕ, zero, suc, ◌+◌, ◌*◌, ◌/◌, ◌%◌, ◌^◌, ◌≤◌, Bool, true, false, List, [], ◌∷◌, ◌++◌, length, append_assoc, length-append, refl, sym, ap, ◌∙◌, arith}
+use Rattle.std.proofs.Common.{◌≡◌, ℕ, zero, suc, ◌+◌, ◌*◌, ◌/◌, ◌%◌, ◌^◌, ◌≤◌, ◌<◌, Bool, true, false, List, [], ◌∷◌, ◌++◌, length, append_assoc, length-append, refl, sym, ap, ◌∙◌, arith}
 use Rattle.std.specs.Prelude.{slice_index}
 use Rattle.sdt_word.specs.Bytes.{bytes_of, written}
 use Rattle.sdt_word.specs.Numbers.{bit, bits, flag, kept, places_from}
 use Rattle.arm7_bus.specs.Picks.{four_from, picked_bytes}
 use Rattle.arm7_bus.proofs.PickLemmas.{as_spread, picked_length, spread, written_more}
+use Rattle.arm7_bus.proofs.WriteLemmas.{none_written}
 
 -- ---- one place
 
@@ -40,6 +41,10 @@ all_of k r e =
 
 pub four_absent : (v k : ℕ) → bits v k 4 ≡ 0 → places_from k 4 v ≡ []
 four_absent v k e = as_spread k 4 v ∙ none_of k (v / 2 ^ k) e
+
+-- a byte lists no place from 8 on
+pub byte_lists : (v : ℕ) → v < 256 → (places_from 8 4 v ≡ []) × (places_from 12 4 v ≡ [])
+byte_lists v lt = (four_absent v 8 (omega arith), four_absent v 12 (omega arith))
 
 pub four_there : (v k : ℕ) → bits v k 4 ≡ 15 → places_from k 4 v ≡ four_from k
 four_there v k e =
@@ -125,3 +130,12 @@ pub four_behind : (k k1 k2 k3 m v at at1 at2 at3 end : ℕ) → k1 ≡ k + m →
     → at1 ≡ at + 4 * length (places_from k m v) → at2 ≡ at1 + 4 * length (places_from k1 m v) → at3 ≡ at2 + 4 * length (places_from k2 m v)
     → end ≡ at3 + 4 * length (places_from k3 m v) → end ≡ at + 4 * length (places_from k (m + (m + (m + m))) v)
 four_behind k k1 k2 k3 m v at at1 at2 at3 end i j l p q r s = let count = four_count k k1 k2 k3 m v i j l in omega arith
+
+-- four parts of which the last two are empty
+pub two_picked : (words old one new : List ℕ) (v at at1 at2 : ℕ) → v < 256 → at + 4 * length (places_from 0 16 v) ≤ length old → length one ≡ length old → length new ≡ length one
+    → at1 ≡ at + 4 * length (places_from 0 4 v) → at2 ≡ at1 + 4 * length (places_from 4 4 v)
+    → one ≡ written old at (picked_bytes words (places_from 0 4 v)) → new ≡ written one at1 (picked_bytes words (places_from 4 4 v)) → new ≡ written old at (picked_bytes words (places_from 0 16 v))
+two_picked words old one new v at at1 at2 lt le s t p q e f =
+    let none = byte_lists v lt in
+    let here = λ (ks : List ℕ) (is : ks ≡ []). sym (none_written new at2) ∙ ap (λ (js : List ℕ). written new at2 (picked_bytes words js)) (sym is) in
+    four_picked words old one new new new 0 4 8 12 4 v at at1 at2 at2 refl refl refl le s t p q (omega (arith, ap length none.0)) e f (here (places_from 8 4 v) none.0) (here (places_from 12 4 v) none.1)

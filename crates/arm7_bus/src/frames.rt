@@ -278,6 +278,9 @@ fn put_picked(block: &mut Block, at: usize, words: &[u32; 16], list: u32)
 {
     let second = put_four(block, at, words, list, 0);
     let third = put_four(block, second, words, list, 4);
+    if list < 256 {
+        return;
+    }
     let fourth = put_four(block, third, words, list, 8);
     put_four(block, fourth, words, list, 12);
 }

@@ -219,6 +219,9 @@ fn take_words(core: &mut ArmState, bytes: &[u8], list: u32)
 {
     let second = take_four(core, bytes, 0, list, 0);
     let third = take_four(core, bytes, second, list, 4);
+    if list < 256 {
+        return;
+    }
     let fourth = take_four(core, bytes, third, list, 8);
     take_four(core, bytes, fourth, list, 12);
 }
