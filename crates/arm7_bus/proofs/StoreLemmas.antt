@@ -21,6 +21,9 @@ more bs [] new e f = f
 more bs ((a, n) ∷ old) new e f =
     both (bank_has bs a n) (lie_in_banks bs (old ++ new)) (first (bank_has bs a n) (lie_in_banks bs old) e) (more bs old new (second (bank_has bs a n) (lie_in_banks bs old) e) f)
 
+pub one_within : (bs : List Bank) (a n : ℕ) (old new : List (ℕ × ℕ)) → new ≡ old ++ (a, n) ∷ [] → bank_has bs a n ≡ true → lie_in_banks bs old ≡ true → lie_in_banks bs new ≡ true
+one_within bs a n old new e h f = ap (λ (xs : List (ℕ × ℕ)). lie_in_banks bs xs) e ∙ more bs old ((a, n) ∷ []) f (both (bank_has bs a n) true h refl)
+
 pub one_more : (bs : List Bank) (i a n : ℕ) (old new : List (ℕ × ℕ)) → new ≡ old ++ (a, n) ∷ [] → IsBankAt bs i a n → lie_in_banks bs old ≡ true → lie_in_banks bs new ≡ true
 one_more bs i a n old new e h f = ap (λ (xs : List (ℕ × ℕ)). lie_in_banks bs xs) e ∙ more bs old ((a, n) ∷ []) f (both (bank_has bs a n) true (has_at bs i a n h) refl)
 
@@ -33,7 +36,7 @@ either true y z w f g e = rw (f refl) refl
 either false y true w f g e = refl
 either false y false w f g e = g e
 
-part_of : (bs : List Bank) (a n b k : ℕ) → a ≤ b → b + k ≤ a + n → bank_has bs a n ≡ true → bank_has bs b k ≡ true
+pub part_of : (bs : List Bank) (a n b k : ℕ) → a ≤ b → b + k ≤ a + n → bank_has bs a n ≡ true → bank_has bs b k ≡ true
 part_of [] a n b k low high e = e
 part_of (x ∷ bs) a n b k low high e =
     either (has_access x.range.base x.range.size a n) (bank_has bs a n) (has_access x.range.base x.range.size b k) (bank_has bs b k)

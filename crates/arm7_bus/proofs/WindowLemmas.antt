@@ -1,38 +1,21 @@
 -- The window: what it says of an access in its page, and what keeps it.
-use Rattle.std.proofs.Common.{◌≡◌, ℕ, ◌+◌, ◌-◌, ◌*◌, ◌/◌, ◌%◌, ◌^◌, ◌<◌, ◌≤◌, Bool, true, false, ◌||◌, List, [], ◌∷◌, ◌++◌, length, map, take, drop, set, Option, Some, None, refl, sym, ap, ◌∙◌, subst, arith, ◌⊎◌, inl, inr, ◌≢◌}
-use Rattle.std.specs.Prelude.{if◌then◌else◌}
-use Rattle.std.proofs.lemmas.List.Folds.{list_any-append}
+use Rattle.std.proofs.Common.{◌≡◌, ℕ, zero, suc, ◌+◌, ◌-◌, ◌*◌, ◌/◌, ◌%◌, ◌^◌, ◌<◌, ◌≤◌, Bool, true, false, ◌||◌, List, set, Option, Some, None, refl, sym, ap, ◌∙◌, arith, ◌⊎◌, inl, inr, ◌≢◌}
 use Rattle.std.proofs.Math.Seq.{get_or-set_other}
-use Rattle.sdt_word.specs.declared.ranges.Range32.{Range32}
 use Rattle.arm7_bus.specs.declared.memory.Bank.{Bank}
 use Rattle.arm7_bus.specs.Lookups.{IsBankAt}
 use Rattle.arm7_bus.specs.Paging.{frame_of}
-use Rattle.arm7_bus.specs.Protection.{protected_bank}
-use Rattle.arm7_bus.specs.Seats.{has_access}
-use Rattle.arm7_bus.specs.States.{bank_has}
-use Rattle.arm7_bus.specs.Windows.{IsWindow, KeepsFrames}
-use Rattle.arm7_bus.proofs.LookupLemmas.{has_at, protected_items}
+use Rattle.arm7_model.specs.Memory.{any_from}
+use Rattle.arm7_model.proofs.MemoryLemmas.{any-from}
+use Rattle.arm7_bus.specs.States.{bank_has, is_protected, protected_at}
+use Rattle.arm7_bus.specs.Windows.{IsDataWindow, IsWindow, KeepsFrames}
+use Rattle.arm7_bus.proofs.LookupLemmas.{has_at}
 use Rattle.arm7_bus.proofs.PagingLemmas.{same_or_not}
-
--- ---- a part of what a bank has
-part : (base size a n x m : ℕ) → has_access base size a n ≡ true → a ≤ x → x + m ≤ a + n → has_access base size x m ≡ true
-part base size a n x m h low high = grind arith
-
-either : (u v x y : Bool) → (u || v) ≡ true → (u ≡ true → x ≡ true) → (v ≡ true → y ≡ true) → (x || y) ≡ true
-either true v x y e f g = rw (f refl) refl
-either false v true y e f g = refl
-either false v false y e f g = g e
-
-bank_part : (bs : List Bank) (a n x m : ℕ) → bank_has bs a n ≡ true → a ≤ x → x + m ≤ a + n → bank_has bs x m ≡ true
-bank_part [] a n x m e low high = e
-bank_part (b ∷ bs) a n x m e low high =
-    either (has_access b.range.base b.range.size a n) (bank_has bs a n) (has_access b.range.base b.range.size x m) (bank_has bs x m) e
-    (λ f. part b.range.base b.range.size a n x m f low high) (λ f. bank_part bs a n x m f low high)
+use Rattle.arm7_bus.proofs.StoreLemmas.{part_of}
 
 -- ---- an access in the window's page
 pub window_has : (bs : List Bank) (table : List (Option ℕ)) (page shift a n : ℕ) → IsWindow bs table page shift → page ≡ a / 4096 → a < 2 ^ 32 → a % 4096 + n ≤ 4096
     → bank_has bs a n ≡ true
-window_has bs table page shift a n w e small inside = bank_part bs (4096 * page) 4096 a n (w.has (omega arith)) (omega arith) (omega arith)
+window_has bs table page shift a n w e small inside = part_of bs (4096 * page) 4096 a n (omega arith) (omega arith) (w.has (omega arith))
 
 place_shifted : (page shift a at : ℕ) → page ≡ a / 4096 → a < 2 ^ 32 → shift % 4096 ≡ 0 → at ≡ (a + shift) % 2 ^ 32
     → ((4096 * page + shift) % 2 ^ 32 / 4096 ≡ at / 4096) × (at % 4096 ≡ a % 4096)
@@ -67,33 +50,6 @@ window_stored bs table new page shift w k = record {
   whole = w.whole;
 }
 
-has_pushed : (bs ys : List Bank) (a n : ℕ) → bank_has bs a n ≡ true → bank_has (bs ++ ys) a n ≡ true
-has_pushed bs ys a n e = rw (list_any-append (λ (d : Bank). has_access d.range.base d.range.size a n) bs ys, e) refl
-
-pub window_pushed : (bs new : List Bank) (r : Range32) (b : Bool) (table : List (Option ℕ)) (page shift : ℕ) → IsWindow bs table page shift
-    → new ≡ (if b then bs ++ record { range = r; read_only = false } ∷ [] else bs) → IsWindow new table page shift
-window_pushed bs new r true table page shift w e = subst (λ (xs : List Bank). IsWindow xs table page shift) (sym e) (record {
-  has = λ lt. has_pushed bs (record { range = r; read_only = false } ∷ []) (4096 * page) 4096 (w.has lt);
-  frame = w.frame;
-  whole = w.whole;
-})
-window_pushed bs new r false table page shift w e = subst (λ (xs : List Bank). IsWindow xs table page shift) (sym e) w
-
-range_kept : (r : Range32) (b : Bank) → (protected_bank r b).range ≡ b.range
-range_kept r b = grind arith
-
-has_kept : (r : Range32) (bs : List Bank) (a n : ℕ) → bank_has (map (protected_bank r) bs) a n ≡ bank_has bs a n
-has_kept r [] a n = refl
-has_kept r (b ∷ bs) a n = rw (range_kept r b, has_kept r bs a n) refl
-
-pub window_protected : (r : Range32) (bs new : List Bank) (n : ℕ) (table : List (Option ℕ)) (page shift : ℕ) → IsWindow bs table page shift
-    → new ≡ map (protected_bank r) bs → n ≡ length bs → IsWindow (take n (new ++ drop (length new) bs)) table page shift
-window_protected r bs new n table page shift w e len = subst (λ (xs : List Bank). IsWindow xs table page shift) (sym (protected_items r bs new n e len)) (record {
-  has = λ lt. has_kept r bs (4096 * page) 4096 ∙ w.has lt;
-  frame = w.frame;
-  whole = w.whole;
-})
-
 -- ---- frames that stay
 pub frames_same : (old new : List (Option ℕ)) → new ≡ old → KeepsFrames old new
 frames_same old new e = rw e (record { each = λ page frame is. is })
@@ -104,3 +60,40 @@ frames_claimed old new page frame fresh e = rw e (record { each = λ q f is. go 
     go : (q f : ℕ) → frame_of old q ≡ Some f → (q ≡ page) ⊎ (q ≢ page) → frame_of (set old page (Some frame)) q ≡ Some f
     go q f is (inl same) = absurd (let here = ap (frame_of old) (sym same) ∙ is in cc)
     go q f is (inr other) = get_or-set_other old page q (Some frame) None other ∙ is
+
+-- ---- the window of loads and stores, whose page isn't protected
+pub data_has : (bs : List Bank) (table : List (Option ℕ)) (page shift a n : ℕ) → IsDataWindow bs table page shift → page ≡ a / 4096 → a < 2 ^ 32 → a % 4096 + n ≤ 4096
+    → bank_has bs a n ≡ true
+data_has bs table page shift a n w e small inside = window_has bs table page shift a n w.window e small inside
+
+neither : (x y : Bool) → (x || y) ≡ false → (x ≡ false) × (y ≡ false)
+neither false false e = (refl, refl)
+neither false true e = absurd cc
+neither true y e = absurd cc
+
+any_each : (p : ℕ → Bool) (a n k : ℕ) → any_from p a n ≡ false → k < n → p (a + k) ≡ false
+any_each p a zero k e lt = absurd (omega arith)
+any_each p a (suc n) zero e lt = let here : a + zero ≡ a = omega arith in ap p here ∙ (neither (p a) (any_from p (suc a) n) e).0
+any_each p a (suc n) (suc k) e lt =
+    let there : a + suc k ≡ suc a + k = omega arith in
+    ap p there ∙ any_each p (suc a) n k (neither (p a) (any_from p (suc a) n) e).1 (omega arith)
+
+pub data_free : (bs : List Bank) (table : List (Option ℕ)) (page shift a n : ℕ) → IsDataWindow bs table page shift → page ≡ a / 4096 → a < 2 ^ 32 → a % 4096 + n ≤ 4096
+    → is_protected bs a n ≡ false
+data_free bs table page shift a n w e small inside = any-from (protected_at bs) a n (λ k lt.
+    let place : 4096 * page + (a + k - 4096 * page) ≡ a + k = omega arith in
+    ap (protected_at bs) (sym place) ∙ any_each (protected_at bs) (4096 * page) 4096 (a + k - 4096 * page) (w.free (omega arith)) (omega arith))
+
+pub data_place : (bs : List Bank) (table : List (Option ℕ)) (page shift a at : ℕ) → IsDataWindow bs table page shift → page ≡ a / 4096 → a < 2 ^ 32
+    → at ≡ (a + shift) % 2 ^ 32 → (frame_of table (a / 4096) ≡ Some (at / 4096)) × (at % 4096 ≡ a % 4096)
+data_place bs table page shift a at w e small is = window_place bs table page shift a at w.window e small is
+
+pub data_closed : (bs : List Bank) (table : List (Option ℕ)) → IsDataWindow bs table 4294967295 0
+data_closed bs table = record { window = window_closed bs table; free = λ lt. absurd (omega arith) }
+
+pub data_stored : (bs : List Bank) (table new : List (Option ℕ)) (page shift : ℕ) → IsDataWindow bs table page shift → KeepsFrames table new → IsDataWindow bs new page shift
+data_stored bs table new page shift w k = record { window = window_stored bs table new page shift w.window k; free = w.free }
+
+pub data_moved : (bs : List Bank) (table : List (Option ℕ)) (page shift first a : ℕ) → IsWindow bs table page shift → page ≡ a / 4096 → first ≡ a - a % 4096
+    → is_protected bs first 4096 ≡ false → IsDataWindow bs table page shift
+data_moved bs table page shift first a w is e free = record { window = w; free = λ lt. ap (λ (x : ℕ). is_protected bs x 4096) (omega arith) ∙ free }

@@ -1,6 +1,7 @@
 -- Which bank has an access: the banks share no address, so a byte of it lies in one of them at most. This project's.
 use Rattle.std.specs.Prelude.{◌≡◌, ℕ, ◌+◌, ◌<◌, Bool, true, false, ◌&&◌, ◌||◌, List, [], ◌∷◌, length, slice_index_or}
 use Rattle.std.specs.List.{list_any}
+use Rattle.arm7_model.specs.Memory.{any_from}
 use Rattle.arm7_bus.specs.declared.memory.Bank.{Bank}
 use Rattle.arm7_bus.specs.Seats.{has_access}
 
@@ -30,3 +31,11 @@ pub record IsBankAt (banks : List Bank) (i a n : ℕ) : Type 0 where
 -- the banks have each of the n addresses from a on
 pub record HasFrom (banks : List Bank) (a n : ℕ) : Type 0 where
   pub each : (k : ℕ) → k < n → list_any (λ b. has_access b.range.base b.range.size (a + k) 1) banks ≡ true
+
+-- the byte at a is protected
+abbrev pub protected_at : List Bank → ℕ → Bool
+protected_at banks a = list_any (λ b. b.read_only && has_access b.range.base b.range.size a 1) banks
+
+-- a byte of the access is protected
+abbrev pub is_protected : List Bank → ℕ → ℕ → Bool
+is_protected banks a n = any_from (protected_at banks) a n

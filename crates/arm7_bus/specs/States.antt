@@ -1,20 +1,19 @@
 -- What the bus is to those who call it: banks of memory with one map of bytes, pages of which some are used, the stores
 -- since the last tick, and devices in their seats. This project's.
-use Rattle.std.specs.Prelude.{◌≡◌, ℕ, zero, suc, ◌+◌, ◌-◌, ◌/◌, Bool, true, false, nat_lt, ◌&&◌, ◌||◌, if◌then◌else◌, List, [], ◌∷◌, ◌++◌, Option, Some, None, Result, Ok, Err, length, min, slice_set, slice_index_or}
-use Rattle.std.specs.List.{list_any}
+use Rattle.std.specs.Prelude.{◌≡◌, ℕ, zero, suc, ◌+◌, ◌-◌, ◌/◌, Bool, true, false, nat_lt, ◌||◌, if◌then◌else◌, List, [], ◌∷◌, ◌++◌, Option, Some, None, Result, Ok, Err, length, min, slice_set, slice_index_or}
 use Rattle.sdt_word.specs.declared.codes.Width.{Width}
 use Rattle.sdt_word.specs.Bytes.{bytes_of}
 use Rattle.sdt_word.specs.Codes.{bytes_in}
-use Rattle.arm7_model.specs.Memory.{store, any_from}
+use Rattle.arm7_model.specs.Memory.{store}
 use Rattle.arm7_bus.specs.declared.memory.Bank.{Bank}
 use Rattle.arm7_bus.specs.declared.memory.Memory.{Memory}
 use Rattle.arm7_bus.specs.declared.memory.BusFault.{BusFault}
 use Rattle.arm7_bus.specs.declared.memory.BusFault.TheVariants.{NoFrame, ReadOnly}
-pub use Rattle.arm7_bus.specs.Lookups.{bank_has, lie_in_banks}
+pub use Rattle.arm7_bus.specs.Lookups.{bank_has, is_protected, lie_in_banks, protected_at}
 use Rattle.arm7_bus.specs.Paging.{memory_in, used_in, page_used_in, used_count}
 use Rattle.arm7_bus.specs.Notes.{noted_in}
 use Rattle.arm7_bus.specs.Touches.{pages_touched}
-use Rattle.arm7_bus.specs.Seats.{Seat, has_access}
+use Rattle.arm7_bus.specs.Seats.{Seat}
 
 -- the memory of a bus. There are no pages until memory is started; then each page is used or not, and at most as many
 -- as there are frames are
@@ -30,14 +29,6 @@ pub record State : Type 0 where
   pub devices : List Seat
 
 -- ---- banks
--- the byte at a is protected
-abbrev pub protected_at : List Bank → ℕ → Bool
-protected_at banks a = list_any (λ b. b.read_only && has_access b.range.base b.range.size a 1) banks
-
--- a byte of the access is protected
-abbrev pub is_protected : List Bank → ℕ → ℕ → Bool
-is_protected banks a n = any_from (protected_at banks) a n
-
 -- ---- pages
 -- the used pages once the n pages from the first on are used too
 abbrev pub claimed : List Bool → ℕ → ℕ → List Bool

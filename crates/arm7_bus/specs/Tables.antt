@@ -7,7 +7,8 @@ abbrev pub opened : List ℕ → List (Option ℕ) → List (Option ℕ)
 opened [] entries = []
 opened (start ∷ starts) entries = take 4096 (drop start entries) ++ opened starts entries
 
--- the first part's entries are none, no two parts that are made share entries, and there is room for all parts
+-- each part's entries are there, from a multiple of 4,096 on; the first 4,096 entries are none; no two parts that are made
+-- share entries; and there is room for those of all parts
 pub record IsTable (starts : List ℕ) (entries : List (Option ℕ)) (capacity : ℕ) : Type 0 where
   pub within : (k : ℕ) → k < length starts → slice_index_or starts k 0 + 4096 ≤ length entries
   pub whole : (k : ℕ) → slice_index_or starts k 0 % 4096 ≡ 0

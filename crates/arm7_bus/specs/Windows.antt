@@ -1,7 +1,8 @@
--- The page from which an instruction was last fetched, and where its bytes stand. This project's.
-use Rattle.std.specs.Prelude.{◌≡◌, ℕ, ◌+◌, ◌*◌, ◌/◌, ◌%◌, ◌^◌, ◌<◌, true, List, Option, Some}
+-- A page whose bank and frame are known, and where its bytes stand. This project's.
+use Rattle.std.specs.Prelude.{◌≡◌, ℕ, ◌+◌, ◌*◌, ◌/◌, ◌%◌, ◌^◌, ◌<◌, true, false, List, Option, Some}
 use Rattle.std.specs.List.{list_any}
 use Rattle.arm7_bus.specs.declared.memory.Bank.{Bank}
+use Rattle.arm7_bus.specs.Lookups.{is_protected}
 use Rattle.arm7_bus.specs.Paging.{frame_of}
 use Rattle.arm7_bus.specs.Seats.{has_access}
 
@@ -11,6 +12,11 @@ pub record IsWindow (banks : List Bank) (table : List (Option ℕ)) (page shift 
   pub has : page < 1048576 → list_any (λ b. has_access b.range.base b.range.size (4096 * page) 4096) banks ≡ true
   pub frame : page < 1048576 → frame_of table page ≡ Some ((4096 * page + shift) % 2 ^ 32 / 4096)
   pub whole : shift % 4096 ≡ 0
+
+-- the same, where the bank isn't protected
+pub record IsDataWindow (banks : List Bank) (table : List (Option ℕ)) (page shift : ℕ) : Type 0 where
+  pub window : IsWindow banks table page shift
+  pub free : page < 1048576 → is_protected banks (4096 * page) 4096 ≡ false
 
 -- each page that had a frame has it still
 pub record KeepsFrames (old new : List (Option ℕ)) : Type 0 where

@@ -24,6 +24,7 @@ use crate::devices;
 use crate::meets::lesser;
 use crate::memory::{BusFault, Memory};
 use crate::notes::Stores;
+use crate::pages::PAGE;
 use sdt_fault::NoMemory;
 use sdt_fault::answer::Fault;
 use sdt_fault::refusal::Refusal;
@@ -93,7 +94,7 @@ impl Bus {
         devices::has(&self.devices, a, w.bytes())
     }
 
-    /// The bytes at an address, lowest first, or what the device there answers.
+    /// The bytes at an address, lowest first, or what the device there answers; mostly by the window of the last store.
     #[inline(always)]
     pub fn read(&mut self, a: u32, w: Width) -> Result<u32, Absent>
         requires started { IsStarted (bus_state base size state touched self.old) }
@@ -101,6 +102,22 @@ impl Bus {
         ensures answer { result_ok result ≡ read_answer (bus_state base size state touched self.old) a w }
         ensures after { bus_state base size state touched self.new ≡ after_read (bus_state base size state touched self.old) a w }
     {
+        if self.memory.data_window.has(a) {
+            return Ok(self.memory.read_in_data_window(a, w));
+        }
+        self.read_anew(a, w)
+    }
+
+    #[inline(never)]
+    fn read_anew(&mut self, a: u32, w: Width) -> Result<u32, Absent>
+        requires started { IsStarted (bus_state base size state touched self.old) }
+        requires aligned { a % bytes_in w ≡ 0 }
+        ensures answer { result_ok result ≡ read_answer (bus_state base size state touched self.old) a w }
+        ensures after { bus_state base size state touched self.new ≡ after_read (bus_state base size state touched self.old) a w }
+    {
+        if self.memory.fetch_window.has(a) {
+            return Ok(self.memory.read_in_fetch_window(a, w));
+        }
         if self.memory.finds(a, w.bytes()) {
             return Ok(self.memory.read(a, w));
         }
@@ -118,8 +135,8 @@ impl Bus {
         ensures answer { result_ok result ≡ read_answer (bus_state base size state touched self.old) a w }
         ensures after { bus_state base size state touched self.new ≡ after_read (bus_state base size state touched self.old) a w }
     {
-        if self.memory.in_window(a) {
-            return Ok(self.memory.read_window(a, w));
+        if self.memory.fetch_window.has(a) {
+            return Ok(self.memory.read_in_fetch_window(a, w));
         }
         self.fetch_anew(a, w)
     }
@@ -131,8 +148,8 @@ impl Bus {
         ensures answer { result_ok result ≡ read_answer (bus_state base size state touched self.old) a w }
         ensures after { bus_state base size state touched self.new ≡ after_read (bus_state base size state touched self.old) a w }
     {
-        let answer = self.read(a, w);
-        self.memory.move_window(a);
+        let answer = self.read_anew(a, w);
+        self.memory.move_fetch_window(a);
         answer
     }
 
@@ -145,7 +162,26 @@ impl Bus {
         ensures answer { result ≡ store_answer (write_fault (bus_state base size state touched self.old) a (bytes_in w)) }
         ensures after { bus_state base size state touched self.new ≡ after_write (bus_state base size state touched self.old) a w v }
     {
+        if self.memory.data_window.has(a) {
+            self.memory.store_in_data_window(a, w, v);
+            return Ok(());
+        }
+        self.write_anew(a, w, v)
+    }
+
+    #[inline(never)]
+    fn write_anew(&mut self, a: u32, w: Width, v: u32) -> Result<(), BusFault>
+        requires started { IsStarted (bus_state base size state touched self.old) }
+        requires aligned { a % bytes_in w ≡ 0 }
+        requires few { length (bus_state base size state touched self.old).contents.stores < 16 }
+        ensures answer { result ≡ store_answer (write_fault (bus_state base size state touched self.old) a (bytes_in w)) }
+        ensures after { bus_state base size state touched self.new ≡ after_write (bus_state base size state touched self.old) a w v }
+    {
         if self.memory.finds(a, w.bytes()) {
+            if self.memory.move_data_window(a) {
+                self.memory.store_in_data_window(a, w, v);
+                return Ok(());
+            }
             return self.memory.store(a, w, v);
         }
         if devices::write(&mut self.devices, a, w, v) {
@@ -155,8 +191,9 @@ impl Bus {
         Err(BusFault::Absent)
     }
 
-    /// Stores the `n` words from an address on, those of a table at the places where `list` has a 1, and notes each; false, and
-    /// nothing changes, where the bank that was used last hasn't all of them or is protected, or no used page has them.
+    /// Stores the `n` words from an address on, those of a table at the places where `list` has a 1, and notes each, without a
+    /// search: where one page has them all and was stored to last, or is used and lies in the bank that was used last, which
+    /// isn't protected. Elsewhere it answers false, and nothing changes.
     #[inline(always)]
     pub fn write_picked(&mut self, a: u32, words: &[u32; 16], list: u32, n: u32) -> bool
         requires started { IsStarted (bus_state base size state touched self.old) }
@@ -168,7 +205,11 @@ impl Bus {
         ensures devices { (bus_state base size state touched self.new).devices ≡ (bus_state base size state touched self.old).devices }
         ensures same { result ≡ false → bus_state base size state touched self.new ≡ bus_state base size state touched self.old }
     {
-        self.memory.store_picked(a, words, list, n)
+        if a % PAGE + 4 * n > PAGE || !self.memory.opens(a) {
+            return false;
+        }
+        self.memory.store_picked_in_data_window(a, words, list, n);
+        true
     }
 
     /// The byte at an address, where a bank has it. No device is touched.
@@ -188,14 +229,17 @@ impl Bus {
         self.memory.piece(a)
     }
 
-    /// The `n` bytes from an address on, without a search; None where the bank that was used last or one page hasn't all of
-    /// them, or they aren't made yet. No device is touched.
+    /// The `n` bytes from an address on, without a search; None where one page hasn't all of them, they lie neither in the page
+    /// of the last store nor in the bank that was used last, or they aren't made yet. No device is touched.
     #[inline(always)]
     pub fn last_part(&self, a: u32, n: u32) -> Option<&[u8]>
         requires started { IsStarted (bus_state base size state touched self.now) }
         requires few { n ≤ 64 }
         ensures { IfSome result (λ part. IsPart (bus_state base size state touched self.now).contents a n part.now) }
     {
+        if self.memory.data_window.has(a) {
+            return self.memory.part_in_data_window(a, n);
+        }
         self.memory.last_part(a, n)
     }
 

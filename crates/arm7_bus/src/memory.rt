@@ -6,7 +6,7 @@ ghost use Rattle.sdt_word.specs.Codes.{bytes_in};
 ghost use Rattle.arm7_bus.specs.Lookups.{AreApartBanks, HasFrom, IsBankAt, lie_in_banks};
 ghost use Rattle.arm7_bus.specs.Notes.{noted_in};
 ghost use Rattle.arm7_bus.specs.Places.{place_of};
-ghost use Rattle.arm7_bus.specs.Windows.{IsWindow};
+ghost use Rattle.arm7_bus.specs.Windows.{IsDataWindow, IsWindow};
 
 use crate::meets::{first_shared, lesser};
 use crate::notes::{Notes, Stores};
@@ -33,12 +33,30 @@ pub enum BusFault {
     ReadOnly,
 }
 
-/// The page from which an instruction was last fetched, and what takes its addresses to their places among the bytes of all
-/// frames, where it is added to them and wraps.
+/// A page whose bank and frame are known, and what takes its addresses to their places among the bytes of all frames, where it
+/// is added to them and wraps.
 #[derive(Clone, Copy, Debug)]
 pub struct Window {
     pub page: u32,
     pub shift: u32,
+}
+
+impl Window {
+    /// Whether an address lies in the page.
+    #[inline(always)]
+    pub fn has(self, a: u32) -> bool
+        ensures { result ≡ true → self.page ≡ a / 4096 }
+    {
+        self.page == a / PAGE
+    }
+
+    /// Where the byte of an address of the page stands among the bytes of all frames.
+    #[inline(always)]
+    fn place_of(self, a: u32) -> u32
+        ensures { result ≡ (a + self.shift) % 2 ^ 32 }
+    {
+        a.wrapping_add(self.shift)
+    }
 }
 
 /// There is no such page: no address has its number.
@@ -48,7 +66,8 @@ const CLOSED: Window = Window {
 };
 
 /// The banks, their bytes, and the stores since the last tick. `last` is the place of the bank that was used last, with
-/// which a search begins, and `window` spares a fetch the search: they are no part of what memory means, and decide no answer.
+/// which a search begins. The window on the page of the last fetch spares a fetch the search, and that on the page of the last
+/// store, which isn't protected, loads and stores. They are no part of what memory means, and decide no answer.
 #[derive(Debug, Drop)]
 pub struct Memory {
     pub alloc: Global,
@@ -56,11 +75,13 @@ pub struct Memory {
     pub pages: Pages,
     pub stores: Notes,
     pub last: usize,
-    pub window: Window,
+    pub fetch_window: Window,
+    pub data_window: Window,
     /// Whether a store since the last tick went to a device.
     pub strayed: bool,
     pub ghost apart: { AreApartBanks banks.items },
-    pub ghost seen: { IsWindow banks.items pages.table window.page window.shift },
+    pub ghost fetched: { IsWindow banks.items pages.table fetch_window.page fetch_window.shift },
+    pub ghost stored: { IsDataWindow banks.items pages.table data_window.page data_window.shift },
     pub ghost in_banks: { strayed ≡ false → lie_in_banks banks.items (noted_in stores) ≡ true },
 }
 
@@ -165,7 +186,7 @@ fn left_in(banks: &[Bank], a: u32) -> usize
 }
 
 impl Memory {
-    ghost use Rattle.std.specs.Prelude.{◌&&◌, nat_le};
+    ghost use Rattle.std.specs.Prelude.{◌&&◌, ◌*◌, nat_le};
     ghost use Rattle.arm7_bus.specs.Pieces.{IsPart, IsPiece};
     ghost use Rattle.arm7_bus.specs.Picked.{IsPicked};
     ghost use Rattle.arm7_bus.specs.Picks.{picked_bytes};
@@ -280,45 +301,139 @@ impl Memory {
         self.pages.read(a, width)
     }
 
-    /// Whether an address lies in the page of the window.
-    #[inline(always)]
-    pub fn in_window(&self, a: u32) -> bool
-        ensures { result ≡ true → self.now.window.page ≡ a / 4096 }
-    {
-        self.window.page == a / PAGE
-    }
-
-    /// The bytes of an access in the page of the window, as a number.
+    /// The bytes of an access in the page of the last fetch, as a number.
     #[inline(always)]
     #[tactic(auto, using(crate::proofs::PagingLemmas::in_page, crate::proofs::WindowLemmas::window_has, crate::proofs::WindowLemmas::window_place))]
-    pub fn read_window(&self, a: u32, width: Width) -> u32
-        requires page { self.now.window.page ≡ a / 4096 }
+    pub fn read_in_fetch_window(&self, a: u32, width: Width) -> u32
+        requires page { self.now.fetch_window.page ≡ a / 4096 }
         requires aligned { a % bytes_in width ≡ 0 }
         ensures has { bank_has (contents_of self.now).banks a (bytes_in width) ≡ true }
         ensures value { result ≡ number_of (load (contents_of self.now).memory a (bytes_in width)) }
     {
         self.pages
-            .read_from(a.wrapping_add(self.window.shift), a, width)
+            .read_from(self.fetch_window.place_of(a), a, width)
     }
 
-    /// Moves the window to the page of an address, where the bank that was used last has the whole page and it has a frame.
-    pub fn move_window(&mut self, a: u32)
-        requires { length (contents_of self.old).used ≡ 1048576 }
-        ensures { contents_of self.new ≡ contents_of self.old }
+    /// The bytes of an access in the page of the last store, as a number.
+    #[inline(always)]
+    #[tactic(auto, using(crate::proofs::PagingLemmas::in_page, crate::proofs::WindowLemmas::data_has, crate::proofs::WindowLemmas::data_place))]
+    pub fn read_in_data_window(&self, a: u32, width: Width) -> u32
+        requires page { self.now.data_window.page ≡ a / 4096 }
+        requires aligned { a % bytes_in width ≡ 0 }
+        ensures has { bank_has (contents_of self.now).banks a (bytes_in width) ≡ true }
+        ensures value { result ≡ number_of (load (contents_of self.now).memory a (bytes_in width)) }
+    {
+        self.pages.read_from(self.data_window.place_of(a), a, width)
+    }
+
+    /// The `n` bytes from an address of that page on; None where it hasn't all of them, or they aren't made yet.
+    #[inline(always)]
+    #[tactic(auto, using(crate::proofs::WindowLemmas::data_place))]
+    pub fn part_in_data_window(&self, a: u32, n: u32) -> Option<&[u8]>
+        requires page { self.now.data_window.page ≡ a / 4096 }
+        requires few { n ≤ 64 }
+        ensures { IfSome result (λ part. IsPart (contents_of self.now) a n part.now) }
+    {
+        if a % PAGE + n > PAGE {
+            return None;
+        }
+        self.pages.part_from(self.data_window.place_of(a), a, n)
+    }
+
+    /// Makes a store in that page, and notes it.
+    #[inline(always)]
+    #[tactic(auto, using(crate::proofs::PagingLemmas::in_page, crate::proofs::WindowLemmas::frames_same, crate::proofs::WindowLemmas::window_stored, crate::proofs::WindowLemmas::data_stored, crate::proofs::WindowLemmas::data_place))]
+    pub fn store_in_data_window(&mut self, a: u32, width: Width, v: u32)
+        requires page { self.old.data_window.page ≡ a / 4096 }
+        requires aligned { a % bytes_in width ≡ 0 }
+        requires few { length (contents_of self.old).stores < 16 }
+        ensures has { bank_has (contents_of self.old).banks a (bytes_in width) ≡ true }
+        ensures fault { store_fault (contents_of self.old) a (bytes_in width) ≡ None }
+        ensures after { contents_of self.new ≡ after_store (contents_of self.old) a width v }
+    {
+        self.pages
+            .put_from(self.data_window.place_of(a), a, width, v);
+        self.stores.note(a, width);
+    }
+
+    /// Stores the `n` words from an address of that page on, those of a table at the places where `list` has a 1, and notes each.
+    #[inline(always)]
+    #[tactic(auto, using(crate::proofs::WindowLemmas::frames_same, crate::proofs::WindowLemmas::window_stored, crate::proofs::WindowLemmas::data_stored, crate::proofs::WindowLemmas::data_place, crate::proofs::StoreLemmas::words_more))]
+    pub fn store_picked_in_data_window(&mut self, a: u32, words: &[u32; 16], list: u32, n: u32)
+        requires page { self.old.data_window.page ≡ a / 4096 }
+        requires within { a % 4096 + 4 * n ≤ 4096 }
+        requires aligned { a % 4 ≡ 0 }
+        requires counted { n ≡ length (registers 16 list) }
+        requires some { 1 ≤ n }
+        requires left { length (contents_of self.old).stores + n ≤ 16 }
+        ensures { IsPicked (contents_of self.old) a n (picked_bytes words.now (registers 16 list)) (contents_of self.new) }
+    {
+        self.pages
+            .put_picked_from(self.data_window.place_of(a), a, words, list);
+        self.stores.note_words(a, n);
+    }
+
+    /// A window on the page of an address; None where the bank that was used last hasn't the whole page, or it has no frame.
+    fn window_on(&self, a: u32) -> Option<Window>
+        requires { length (contents_of self.now).used ≡ 1048576 }
+        ensures page { IfSome result (λ window. window.page ≡ a / 4096) }
+        ensures window { IfSome result (λ window. IsWindow self.now.banks.items self.now.pages.table window.page window.shift) }
     {
         let first = a - a % PAGE;
         if !self.is_last(first, PAGE) {
-            return;
+            return None;
         }
         match self.pages.table.lookup((a / PAGE) as usize) {
-            Some(frame) => {
-                self.window = Window {
-                    page: a / PAGE,
-                    shift: (u32::from(frame) * PAGE).wrapping_sub(first),
-                };
-            }
+            Some(frame) => Some(Window {
+                page: a / PAGE,
+                shift: (u32::from(frame) * PAGE).wrapping_sub(first),
+            }),
+            None => None,
+        }
+    }
+
+    /// Moves the window of fetches to the page of an address, where there is one on it.
+    pub fn move_fetch_window(&mut self, a: u32)
+        requires { length (contents_of self.old).used ≡ 1048576 }
+        ensures { contents_of self.new ≡ contents_of self.old }
+    {
+        match self.window_on(a) {
+            Some(window) => self.fetch_window = window,
             None => {}
         }
+    }
+
+    /// Moves the window of data to the page of an address; false where there is none on it, or it is protected.
+    #[inline(never)]
+    pub fn move_data_window(&mut self, a: u32) -> bool
+        requires { length (contents_of self.old).used ≡ 1048576 }
+        ensures page { result ≡ true → self.new.data_window.page ≡ a / 4096 }
+        ensures last { (self.new.banks ≡ self.old.banks) × (self.new.last ≡ self.old.last) }
+        ensures same { contents_of self.new ≡ contents_of self.old }
+    {
+        if !self.last_takes(a - a % PAGE, PAGE) {
+            return false;
+        }
+        match self.window_on(a) {
+            Some(window) => {
+                self.data_window = window;
+                true
+            }
+            None => false,
+        }
+    }
+
+    /// Whether the window of data lies on the page of an address, or can be moved there.
+    #[inline(always)]
+    pub fn opens(&mut self, a: u32) -> bool
+        requires { length (contents_of self.old).used ≡ 1048576 }
+        ensures page { result ≡ true → self.new.data_window.page ≡ a / 4096 }
+        ensures same { contents_of self.new ≡ contents_of self.old }
+    {
+        if self.data_window.has(a) {
+            return true;
+        }
+        self.move_data_window(a)
     }
 
     /// The byte at an address, where a bank has it.
@@ -372,7 +487,7 @@ impl Memory {
 
     /// Makes a store that lies in the bank that was used last, and notes it.
     #[inline(always)]
-    #[tactic(auto, using(crate::proofs::WindowLemmas::window_stored))]
+    #[tactic(auto, using(crate::proofs::WindowLemmas::window_stored, crate::proofs::WindowLemmas::data_stored))]
     pub fn store(&mut self, a: u32, width: Width, v: u32) -> Result<(), BusFault>
         requires found { IsBankAt self.old.banks.items self.old.last a (bytes_in width) }
         requires started { length (contents_of self.old).used ≡ 1048576 }
@@ -391,31 +506,8 @@ impl Memory {
         Ok(())
     }
 
-    /// Stores the `n` words from an address on, those of a table at the places where `list` has a 1, and notes each; false, and
-    /// nothing changes, where the bank that was used last hasn't all of them or is protected, or no used page has them.
-    #[inline(always)]
-    #[tactic(auto, using(crate::proofs::WindowLemmas::frames_same, crate::proofs::WindowLemmas::window_stored, crate::proofs::StoreLemmas::words_more))]
-    pub fn store_picked(&mut self, a: u32, words: &[u32; 16], list: u32, n: u32) -> bool
-        requires started { length (contents_of self.old).used ≡ 1048576 }
-        requires aligned { a % 4 ≡ 0 }
-        requires counted { n ≡ length (registers 16 list) }
-        requires some { 1 ≤ n }
-        requires left { length (contents_of self.old).stores + n ≤ 16 }
-        ensures stored { result ≡ true → IsPicked (contents_of self.old) a n (picked_bytes words.now (registers 16 list)) (contents_of self.new) }
-        ensures same { result ≡ false → contents_of self.new ≡ contents_of self.old }
-    {
-        if !self.last_takes(a, 4 * n) {
-            return false;
-        }
-        if !self.pages.write_picked(a, words, list, n) {
-            return false;
-        }
-        self.stores.note_words(a, n);
-        true
-    }
-
     /// No banks.
-    #[tactic(auto, using(crate::proofs::PagingLemmas::memory_clear, crate::proofs::LookupLemmas::apart_none, crate::proofs::WindowLemmas::window_closed))]
+    #[tactic(auto, using(crate::proofs::PagingLemmas::memory_clear, crate::proofs::LookupLemmas::apart_none, crate::proofs::WindowLemmas::window_closed, crate::proofs::WindowLemmas::data_closed))]
     pub fn new(alloc: Global) -> Memory
         ensures banks { (contents_of result).banks ≡ [] }
         ensures memory { (a : ℕ) → (contents_of result).memory a ≡ 0 }
@@ -429,7 +521,8 @@ impl Memory {
             pages: Pages::none(alloc),
             stores: Notes::none(),
             last: 0,
-            window: CLOSED,
+            fetch_window: CLOSED,
+            data_window: CLOSED,
             strayed: false,
         }
     }
@@ -447,6 +540,8 @@ impl Memory {
         ensures ok { OnOk result (contents_of self.new ≡ with_bank (contents_of self.old) range) }
         ensures err { OnErr result (contents_of self.new ≡ contents_of self.old) }
     {
+        self.fetch_window = CLOSED;
+        self.data_window = CLOSED;
         self.banks.push(Bank {
             range,
             read_only: false,
@@ -458,11 +553,13 @@ impl Memory {
     pub fn protect(&mut self, r: Range32)
         ensures { contents_of self.new ≡ with_protected (contents_of self.old) r }
     {
+        self.fetch_window = CLOSED;
+        self.data_window = CLOSED;
         protect_banks(&mut self.banks, r);
     }
 
     /// Makes the pages, and frames for those that the banks touch.
-    #[tactic(auto, using(crate::proofs::WindowLemmas::window_closed))]
+    #[tactic(auto, using(crate::proofs::WindowLemmas::window_closed, crate::proofs::WindowLemmas::data_closed))]
     pub fn start(&mut self) -> Result<(), NoMemory>
         requires { length (contents_of self.old).used ≡ 0 }
         ensures ok { OnOk result (IsStart (contents_of self.old) (contents_of self.new)) }
@@ -471,7 +568,8 @@ impl Memory {
         let room = frames_for(&self.banks);
         let pages = Pages::make(self.alloc, PARTS, room)?;
         self.pages = pages;
-        self.window = CLOSED;
+        self.fetch_window = CLOSED;
+        self.data_window = CLOSED;
         Ok(())
     }
 
@@ -488,14 +586,15 @@ impl Memory {
     }
 
     /// Uses the pages of the range; false, and nothing changes, where there are fewer frames than pages would be used.
-    #[tactic(auto, using(crate::proofs::WindowLemmas::window_closed))]
+    #[tactic(auto, using(crate::proofs::WindowLemmas::window_closed, crate::proofs::WindowLemmas::data_closed))]
     pub fn claim_pages(&mut self, r: Range32) -> bool
         requires { length (contents_of self.old).used ≡ 1048576 }
         ensures answer { result ≡ nat_le (used_count (claimed (contents_of self.old).used (r.base / 4096) (pages_of r.base r.size))) (contents_of self.old).frames }
         ensures after { result ≡ true → contents_of self.new ≡ record (contents_of self.old) { used = claimed (contents_of self.old).used (r.base / 4096) (pages_of r.base r.size) } }
         ensures same { result ≡ false → contents_of self.new ≡ contents_of self.old }
     {
-        self.window = CLOSED;
+        self.fetch_window = CLOSED;
+        self.data_window = CLOSED;
         self.pages
             .claim_all((r.base / PAGE) as usize, Memory::page_count(r))
     }

@@ -1,6 +1,6 @@
 //! Memory in pages that take a frame when they are first written.
 
-ghost use Rattle.std.specs.Prelude.{◌≡◌, ℕ, ◌<◌, ◌≤◌, ◌+◌, ◌*◌, ◌/◌, ◌%◌, List, [], length, IsTrue, is_some, None, Some, IfOk, IfSome, OnOk, map, replicate, false, slice_index, slice_index_or, slice_set, true, ◌-◌, ◌||◌, nat_lt};
+ghost use Rattle.std.specs.Prelude.{◌≡◌, ℕ, ◌<◌, ◌≤◌, ◌+◌, ◌*◌, ◌/◌, ◌%◌, List, [], length, IsTrue, is_some, None, Some, IfOk, IfSome, OnOk, map, false, slice_index, slice_index_or, slice_set, true, ◌-◌, ◌||◌, nat_lt};
 ghost use Rattle.sdt_word.specs.Bytes.{bytes_of, load, number_of};
 ghost use Rattle.sdt_word.specs.Codes.{bytes_in};
 ghost use Rattle.sdt_word.specs.Numbers.{registers};
@@ -20,6 +20,15 @@ pub const PAGE: u32 = 4096;
 
 /// How many parts of the table have all 1,048,576 pages that there are addresses for.
 pub const PARTS: usize = 256;
+
+/// Where the byte of an address stands among the bytes of all frames, in this frame.
+#[inline(always)]
+fn place_in(frame: u16, a: u32) -> u32
+    ensures frame { result / 4096 ≡ frame }
+    ensures place { result % 4096 ≡ a % 4096 }
+{
+    u32::from(frame) * PAGE + a % PAGE
+}
 
 /// The frame of each page, the frames, how many of them are in use, and how many there are. The table is
 /// empty until memory is started.
@@ -44,7 +53,7 @@ impl Pages {
         ensures { result ≡ number_of (load (memory_in self.now.table self.now.frames) a (bytes_in width)) }
     {
         match self.table.lookup((a / PAGE) as usize) {
-            Some(frame) => self.frames.read(u32::from(frame) * PAGE + a % PAGE, width),
+            Some(frame) => self.read_from(place_in(frame, a), a, width),
             None => 0,
         }
     }
@@ -60,17 +69,43 @@ impl Pages {
         self.frames.read(at, width)
     }
 
-    /// Sets the bytes of an access in a page that has this frame.
+    /// The `n` bytes from an address on, from its place among the bytes of all frames; None where they aren't made yet.
     #[inline(always)]
-    fn put(&mut self, frame: u16, a: u32, width: Width, v: u32)
-        requires aligned { a % bytes_in width ≡ 0 }
-        requires frame { frame_of self.old.table (a / 4096) ≡ Some frame }
-        ensures memory { memory_in self.new.table self.new.frames ≡ store (memory_in self.old.table self.old.frames) a (bytes_of v (bytes_in width)) }
+    pub fn part_from(&self, at: u32, _a: u32, n: u32) -> Option<&[u8]>
+        requires within { _a % 4096 + n ≤ 4096 }
+        requires frame { frame_of self.now.table (_a / 4096) ≡ Some (at / 4096) }
+        requires place { at % 4096 ≡ _a % 4096 }
+        ensures { IfSome result (λ part. part.now ≡ load (memory_in self.now.table self.now.frames) _a n) }
+    {
+        self.frames.part(at, n)
+    }
+
+    /// Sets the bytes of an access, from its place among the bytes of all frames.
+    #[inline(always)]
+    pub fn put_from(&mut self, at: u32, _a: u32, width: Width, v: u32)
+        requires aligned { _a % bytes_in width ≡ 0 }
+        requires frame { frame_of self.old.table (_a / 4096) ≡ Some (at / 4096) }
+        requires place { at % 4096 ≡ _a % 4096 }
+        ensures memory { memory_in self.new.table self.new.frames ≡ store (memory_in self.old.table self.old.frames) _a (bytes_of v (bytes_in width)) }
         ensures table { self.new.table ≡ self.old.table }
         ensures counts { (self.new.used ≡ self.old.used) × (self.new.room ≡ self.old.room) }
+        ensures used { used_in self.new.table ≡ slice_set (used_in self.old.table) (_a / 4096) true }
     {
-        self.frames
-            .write(u32::from(frame) * PAGE + a % PAGE, width, v);
+        self.frames.write(at, width, v);
+    }
+
+    /// Sets the words from an address on, from its place among the bytes of all frames.
+    #[inline(always)]
+    pub fn put_picked_from(&mut self, at: u32, _a: u32, words: &[u32; 16], list: u32)
+        requires within { _a % 4096 + 4 * length (registers 16 list) ≤ 4096 }
+        requires frame { frame_of self.old.table (_a / 4096) ≡ Some (at / 4096) }
+        requires place { at % 4096 ≡ _a % 4096 }
+        ensures memory { memory_in self.new.table self.new.frames ≡ store (memory_in self.old.table self.old.frames) _a (picked_bytes words.now (registers 16 list)) }
+        ensures table { self.new.table ≡ self.old.table }
+        ensures counts { (self.new.used ≡ self.old.used) × (self.new.room ≡ self.old.room) }
+        ensures used { page_used_in (used_in self.old.table) _a ≡ true }
+    {
+        self.frames.write_picked(at, words, list);
     }
 
     /// Gives a frame to a page that has none.
@@ -92,7 +127,7 @@ impl Pages {
         ensures { result ≡ memory_in self.now.table self.now.frames a }
     {
         match self.table.lookup((a / PAGE) as usize) {
-            Some(frame) => self.frames.read_byte(u32::from(frame) * PAGE + a % PAGE),
+            Some(frame) => self.frames.read_byte(place_in(frame, a)),
             None => 0,
         }
     }
@@ -104,7 +139,7 @@ impl Pages {
         ensures some { length result.now ≡ 0 → memory_in self.now.table self.now.frames a ≡ 0 }
     {
         match self.table.lookup((a / PAGE) as usize) {
-            Some(frame) => self.frames.rest(u32::from(frame) * PAGE + a % PAGE),
+            Some(frame) => self.frames.rest(place_in(frame, a)),
             None => &[],
         }
     }
@@ -120,7 +155,7 @@ impl Pages {
             return None;
         }
         match self.table.lookup((a / PAGE) as usize) {
-            Some(frame) => self.frames.part(u32::from(frame) * PAGE + a % PAGE, n),
+            Some(frame) => self.part_from(place_in(frame, a), a, n),
             None => None,
         }
     }
@@ -156,7 +191,7 @@ impl Pages {
         }
         let frame = self.used as u16;
         self.claim((a / PAGE) as usize);
-        self.put(frame, a, width, v);
+        self.put_from(place_in(frame, a), a, width, v);
         true
     }
 
@@ -174,49 +209,10 @@ impl Pages {
     {
         match self.table.lookup((a / PAGE) as usize) {
             Some(frame) => {
-                self.put(frame, a, width, v);
+                self.put_from(place_in(frame, a), a, width, v);
                 true
             }
             None => self.put_fresh(a, width, v),
-        }
-    }
-
-    /// Sets the words from an address on, in a page that has this frame.
-    #[inline(always)]
-    fn put_picked(&mut self, frame: u16, a: u32, words: &[u32; 16], list: u32)
-        requires within { a % 4096 + 4 * length (registers 16 list) ≤ 4096 }
-        requires frame { frame_of self.old.table (a / 4096) ≡ Some frame }
-        ensures memory { memory_in self.new.table self.new.frames ≡ store (memory_in self.old.table self.old.frames) a (picked_bytes words.now (registers 16 list)) }
-        ensures table { self.new.table ≡ self.old.table }
-        ensures counts { (self.new.used ≡ self.old.used) × (self.new.room ≡ self.old.room) }
-    {
-        self.frames
-            .write_picked(u32::from(frame) * PAGE + a % PAGE, words, list);
-    }
-
-    /// Sets the `n` words from an address on to those of a table at the places where `list` has a 1; false, and nothing
-    /// changes, where one page hasn't all of them, or it has no frame.
-    #[inline(always)]
-    pub fn write_picked(&mut self, a: u32, words: &[u32; 16], list: u32, n: u32) -> bool
-        requires started { length self.old.table ≡ 1048576 }
-        requires counted { n ≡ length (registers 16 list) }
-        requires most { n ≤ 16 }
-        ensures within { result ≡ true → a % 4096 + 4 * n ≤ 4096 }
-        ensures used { result ≡ true → page_used_in (used_in self.old.table) a ≡ true }
-        ensures memory { result ≡ true → memory_in self.new.table self.new.frames ≡ store (memory_in self.old.table self.old.frames) a (picked_bytes words.now (registers 16 list)) }
-        ensures table { self.new.table ≡ self.old.table }
-        ensures room { self.new.room ≡ self.old.room }
-        ensures same { result ≡ false → self.new ≡ self.old }
-    {
-        if a % PAGE + 4 * n > PAGE {
-            return false;
-        }
-        match self.table.lookup((a / PAGE) as usize) {
-            Some(frame) => {
-                self.put_picked(frame, a, words, list);
-                true
-            }
-            None => false,
         }
     }
 

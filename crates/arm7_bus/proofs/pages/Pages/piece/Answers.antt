@@ -15,8 +15,11 @@ returns-in-Some-clause-bytes c =
     let is : frame_of c.args.self.now.table (c.args.a / 4096) ≡ Some c.in-Some.frame =
     sym c.lookup.ensures ∙ c.in-Some.is in
     let below = c.args.self.now.paging.below (c.args.a / 4096) c.in-Some.frame is in
+    let frame = c.place_in.ensures.frame in
+    let offset = c.place_in.ensures.place in
+    let place : c.place_in.result ≡ c.in-Some.frame * 4096 + c.args.a % 4096 = omega arith in
     c.rest.ensures.bytes
-    ∙ ap (λ (f : ℕ). take (length c.rest.result.now) (drop (f * 4096 + c.args.a % 4096) c.args.self.now.frames)) c.from.ensures
+    ∙ ap (λ (i : ℕ). take (length c.rest.result.now) (drop i c.args.self.now.frames)) place
     ∙ sym (load_frame c.args.self.now.table c.args.self.now.frames c.args.a (length c.rest.result.now) c.in-Some.frame (let w = c.rest.ensures.within in omega arith) is (omega arith))
 
 pub returns-in-Some-clause-some : goal.returns-in-Some-clause-some
@@ -24,6 +27,8 @@ unfolding memory_in
 returns-in-Some-clause-some c = λ none.
     let is : frame_of c.args.self.now.table (c.args.a / 4096) ≡ Some c.in-Some.frame =
     sym c.lookup.ensures ∙ c.in-Some.is in
+    let frame = c.place_in.ensures.frame in
+    let offset = c.place_in.ensures.place in
     ap (byte_of c.args.self.now.frames (c.args.a % 4096)) is ∙ ap (λ (k : ℕ). get_or c.args.self.now.frames k 0) (omega arith) ∙ c.rest.ensures.some none
 
 pub returns-in-None-clause-some : goal.returns-in-None-clause-some

@@ -2,10 +2,10 @@ use Rattle.std.proofs.Common.{◌≡◌, ◌/◌, Some, sym, ◌∙◌, arith}
 use Rattle.arm7_bus.specs.Paging.{frame_of}
 use Rattle.arm7_bus.proofs.PagingLemmas.{used_length}
 use Rattle.arm7_bus.proofs.WindowLemmas.{window_moved}
-use Rattle.arm7_bus.proofs.memory.Memory.move_window.Goals as goal
+use Rattle.arm7_bus.proofs.memory.Memory.window_on.Goals as goal
 
-pub invariant_of-self : goal.invariant_of-self
-invariant_of-self c =
+pub returns-in-Some-clause-window : goal.returns-in-Some-clause-window
+returns-in-Some-clause-window c =
     let count = used_length c.args.self.now.pages.table in
     let started = c.requires in
     let is : frame_of c.args.self.now.pages.table (c.args.a / 4096) ≡ Some c.in-Some.frame =
@@ -15,9 +15,5 @@ invariant_of-self c =
     let fits = p.fits in
     let few = p.few in
     let from = c.from.ensures in
-    record {
-      apart = c.args.self.now.apart;
-      seen = window_moved c.args.self.now.banks.items c.args.self.now.pages.table c.args.self.now.last _ _ c.args.a c.in-Some.frame
-          (c.is_last.ensures c.if-not-is_last.false) (omega arith) (omega arith) (omega arith) (omega arith) is;
-      in_banks = c.args.self.now.in_banks;
-    }
+    window_moved c.args.self.now.banks.items c.args.self.now.pages.table c.args.self.now.last _ _ c.args.a c.in-Some.frame
+    (c.is_last.ensures c.if-not-is_last.false) (omega arith) (omega arith) (omega arith) (omega arith) is
