@@ -1,10 +1,12 @@
 -- Stores that lie in banks.
-use Rattle.std.proofs.Common.{◌≡◌, ℕ, zero, suc, ◌+◌, ◌*◌, ◌^◌, ◌≤◌, Bool, true, false, ◌||◌, List, [], ◌∷◌, ◌++◌, length, map, take, drop, refl, ap, ◌∙◌, arith}
+use Rattle.std.proofs.Common.{◌≡◌, ℕ, zero, suc, ◌+◌, ◌-◌, ◌*◌, ◌^◌, ◌<◌, ◌≤◌, Bool, true, false, ◌||◌, List, [], ◌∷◌, ◌++◌, length, map, take, drop, refl, sym, ap, ◌∙◌, arith}
 use Rattle.std.specs.Prelude.{◌&&◌, if◌then◌else◌}
 use Rattle.sdt_word.specs.declared.ranges.Range32.{Range32}
 use Rattle.arm7_model.specs.Accesses.{next_word}
 use Rattle.arm7_bus.specs.declared.memory.Bank.{Bank}
-use Rattle.arm7_bus.specs.Lookups.{IsBankAt, bank_has, lie_in_banks}
+use Rattle.arm7_model.specs.Memory.{any_from}
+use Rattle.arm7_model.proofs.MemoryLemmas.{any-from}
+use Rattle.arm7_bus.specs.Lookups.{IsBankAt, bank_has, is_protected, lie_in_banks, protected_at}
 use Rattle.arm7_bus.specs.Picks.{word_places}
 use Rattle.arm7_bus.specs.Protection.{protected_bank}
 use Rattle.arm7_bus.specs.Seats.{has_access}
@@ -41,6 +43,24 @@ part_of [] a n b k low high e = e
 part_of (x ∷ bs) a n b k low high e =
     either (has_access x.range.base x.range.size a n) (bank_has bs a n) (has_access x.range.base x.range.size b k) (bank_has bs b k)
     (part_of_one x.range.base x.range.size a n b k low high) (part_of bs a n b k low high) e
+
+-- no byte of a part of an access is protected, where none of the access is
+neither : (x y : Bool) → (x || y) ≡ false → (x ≡ false) × (y ≡ false)
+neither false false e = (refl, refl)
+neither false true e = absurd cc
+neither true y e = absurd cc
+
+any_each : (p : ℕ → Bool) (a n k : ℕ) → any_from p a n ≡ false → k < n → p (a + k) ≡ false
+any_each p a zero k e lt = absurd (omega arith)
+any_each p a (suc n) zero e lt = let here : a + zero ≡ a = omega arith in ap p here ∙ (neither (p a) (any_from p (suc a) n) e).0
+any_each p a (suc n) (suc k) e lt =
+    let there : a + suc k ≡ suc a + k = omega arith in
+    ap p there ∙ any_each p (suc a) n k (neither (p a) (any_from p (suc a) n) e).1 (omega arith)
+
+pub free_part : (bs : List Bank) (a n b m : ℕ) → a ≤ b → b + m ≤ a + n → is_protected bs a n ≡ false → is_protected bs b m ≡ false
+free_part bs a n b m low high e = any-from (protected_at bs) b m (λ k lt.
+    let place : a + (b + k - a) ≡ b + k = omega arith in
+    ap (protected_at bs) (sym place) ∙ any_each (protected_at bs) a n (b + k - a) e (omega arith))
 
 words_in : (bs : List Bank) (a n : ℕ) → a + 4 * n ≤ 2 ^ 32 → bank_has bs a (4 * n) ≡ true → lie_in_banks bs (word_places a n) ≡ true
 words_in bs a zero le e = refl

@@ -1,16 +1,14 @@
--- The window: what it says of an access in its page, and what keeps it.
-use Rattle.std.proofs.Common.{◌≡◌, ℕ, zero, suc, ◌+◌, ◌-◌, ◌*◌, ◌/◌, ◌%◌, ◌^◌, ◌<◌, ◌≤◌, Bool, true, false, ◌||◌, List, set, Option, Some, None, refl, sym, ap, ◌∙◌, arith, ◌⊎◌, inl, inr, ◌≢◌}
+-- The windows: what they say of an access in their page, and what keeps them.
+use Rattle.std.proofs.Common.{◌≡◌, ℕ, ◌+◌, ◌-◌, ◌*◌, ◌/◌, ◌%◌, ◌^◌, ◌<◌, ◌≤◌, true, false, List, set, Option, Some, None, sym, ap, ◌∙◌, arith, ◌⊎◌, inl, inr, ◌≢◌}
 use Rattle.std.proofs.Math.Seq.{get_or-set_other}
 use Rattle.arm7_bus.specs.declared.memory.Bank.{Bank}
 use Rattle.arm7_bus.specs.Lookups.{IsBankAt}
 use Rattle.arm7_bus.specs.Paging.{frame_of}
-use Rattle.arm7_model.specs.Memory.{any_from}
-use Rattle.arm7_model.proofs.MemoryLemmas.{any-from}
-use Rattle.arm7_bus.specs.States.{bank_has, is_protected, protected_at}
+use Rattle.arm7_bus.specs.States.{bank_has, is_protected}
 use Rattle.arm7_bus.specs.Windows.{IsDataWindow, IsWindow, KeepsFrames}
 use Rattle.arm7_bus.proofs.LookupLemmas.{has_at}
 use Rattle.arm7_bus.proofs.PagingLemmas.{same_or_not}
-use Rattle.arm7_bus.proofs.StoreLemmas.{part_of}
+use Rattle.arm7_bus.proofs.StoreLemmas.{free_part, part_of}
 
 -- ---- an access in the window's page
 pub window_has : (bs : List Bank) (table : List (Option ℕ)) (page shift a n : ℕ) → IsWindow bs table page shift → page ≡ a / 4096 → a < 2 ^ 32 → a % 4096 + n ≤ 4096
@@ -66,23 +64,9 @@ pub data_has : (bs : List Bank) (table : List (Option ℕ)) (page shift a n : �
     → bank_has bs a n ≡ true
 data_has bs table page shift a n w e small inside = window_has bs table page shift a n w.window e small inside
 
-neither : (x y : Bool) → (x || y) ≡ false → (x ≡ false) × (y ≡ false)
-neither false false e = (refl, refl)
-neither false true e = absurd cc
-neither true y e = absurd cc
-
-any_each : (p : ℕ → Bool) (a n k : ℕ) → any_from p a n ≡ false → k < n → p (a + k) ≡ false
-any_each p a zero k e lt = absurd (omega arith)
-any_each p a (suc n) zero e lt = let here : a + zero ≡ a = omega arith in ap p here ∙ (neither (p a) (any_from p (suc a) n) e).0
-any_each p a (suc n) (suc k) e lt =
-    let there : a + suc k ≡ suc a + k = omega arith in
-    ap p there ∙ any_each p (suc a) n k (neither (p a) (any_from p (suc a) n) e).1 (omega arith)
-
 pub data_free : (bs : List Bank) (table : List (Option ℕ)) (page shift a n : ℕ) → IsDataWindow bs table page shift → page ≡ a / 4096 → a < 2 ^ 32 → a % 4096 + n ≤ 4096
     → is_protected bs a n ≡ false
-data_free bs table page shift a n w e small inside = any-from (protected_at bs) a n (λ k lt.
-    let place : 4096 * page + (a + k - 4096 * page) ≡ a + k = omega arith in
-    ap (protected_at bs) (sym place) ∙ any_each (protected_at bs) (4096 * page) 4096 (a + k - 4096 * page) (w.free (omega arith)) (omega arith))
+data_free bs table page shift a n w e small inside = free_part bs (4096 * page) 4096 a n (omega arith) (omega arith) (w.free (omega arith))
 
 pub data_place : (bs : List Bank) (table : List (Option ℕ)) (page shift a at : ℕ) → IsDataWindow bs table page shift → page ≡ a / 4096 → a < 2 ^ 32
     → at ≡ (a + shift) % 2 ^ 32 → (frame_of table (a / 4096) ≡ Some (at / 4096)) × (at % 4096 ≡ a % 4096)

@@ -28,7 +28,6 @@ pub record State : Type 0 where
   pub contents : Contents
   pub devices : List Seat
 
--- ---- banks
 -- ---- pages
 -- the used pages once the n pages from the first on are used too
 abbrev pub claimed : List Bool → ℕ → ℕ → List Bool

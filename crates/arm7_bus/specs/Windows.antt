@@ -1,15 +1,13 @@
--- A page whose bank and frame are known, and where its bytes stand. This project's.
+-- A page that one bank has whole and that has a frame, and where its bytes stand. This project's.
 use Rattle.std.specs.Prelude.{◌≡◌, ℕ, ◌+◌, ◌*◌, ◌/◌, ◌%◌, ◌^◌, ◌<◌, true, false, List, Option, Some}
-use Rattle.std.specs.List.{list_any}
 use Rattle.arm7_bus.specs.declared.memory.Bank.{Bank}
-use Rattle.arm7_bus.specs.Lookups.{is_protected}
+use Rattle.arm7_bus.specs.Lookups.{bank_has, is_protected}
 use Rattle.arm7_bus.specs.Paging.{frame_of}
-use Rattle.arm7_bus.specs.Seats.{has_access}
 
 -- where there is such a page, one bank has all its bytes, and a shift, added to an address, gives its place among the bytes
 -- of all frames
 pub record IsWindow (banks : List Bank) (table : List (Option ℕ)) (page shift : ℕ) : Type 0 where
-  pub has : page < 1048576 → list_any (λ b. has_access b.range.base b.range.size (4096 * page) 4096) banks ≡ true
+  pub has : page < 1048576 → bank_has banks (4096 * page) 4096 ≡ true
   pub frame : page < 1048576 → frame_of table page ≡ Some ((4096 * page + shift) % 2 ^ 32 / 4096)
   pub whole : shift % 4096 ≡ 0
 

@@ -1,6 +1,6 @@
 //! The bus: memory and devices.
 
-ghost use Rattle.std.specs.Prelude.{◌≡◌, ◌<◌, ◌%◌, ◌+◌, ◌-◌, [], length, map};
+ghost use Rattle.std.specs.Prelude.{◌≡◌, ◌<◌, ◌%◌, ◌+◌, ◌-◌, ◌*◌, [], length, map};
 ghost use Rattle.std.specs.Result.{result_ok};
 ghost use Rattle.sdt_word.specs.Codes.{bytes_in};
 ghost use Rattle.sdt_word.specs.Numbers.{registers};
@@ -94,7 +94,7 @@ impl Bus {
         devices::has(&self.devices, a, w.bytes())
     }
 
-    /// The bytes at an address, lowest first, or what the device there answers; mostly by the window of the last store.
+    /// The bytes at an address, lowest first, or what the device there answers; mostly by the window of data.
     #[inline(always)]
     pub fn read(&mut self, a: u32, w: Width) -> Result<u32, Absent>
         requires started { IsStarted (bus_state base size state touched self.old) }
@@ -127,7 +127,7 @@ impl Bus {
         }
     }
 
-    /// The same, mostly by the window of the last fetch.
+    /// The same, mostly by the window of fetches.
     #[inline(always)]
     pub fn fetch(&mut self, a: u32, w: Width) -> Result<u32, Absent>
         requires started { IsStarted (bus_state base size state touched self.old) }
@@ -191,9 +191,8 @@ impl Bus {
         Err(BusFault::Absent)
     }
 
-    /// Stores the `n` words from an address on, those of a table at the places where `list` has a 1, and notes each, without a
-    /// search: where one page has them all and was stored to last, or is used and lies in the bank that was used last, which
-    /// isn't protected. Elsewhere it answers false, and nothing changes.
+    /// Stores the `n` words from an address on, those of a table at the places where `list` has a 1, and notes each; false, and
+    /// nothing changes, where one page or one bank that isn't protected hasn't all of them, or the page isn't used.
     #[inline(always)]
     pub fn write_picked(&mut self, a: u32, words: &[u32; 16], list: u32, n: u32) -> bool
         requires started { IsStarted (bus_state base size state touched self.old) }
@@ -205,11 +204,36 @@ impl Bus {
         ensures devices { (bus_state base size state touched self.new).devices ≡ (bus_state base size state touched self.old).devices }
         ensures same { result ≡ false → bus_state base size state touched self.new ≡ bus_state base size state touched self.old }
     {
-        if a % PAGE + 4 * n > PAGE || !self.memory.opens(a) {
+        if a % PAGE + 4 * n > PAGE {
             return false;
         }
-        self.memory.store_picked_in_data_window(a, words, list, n);
-        true
+        if self.memory.data_window.has(a) {
+            self.memory.store_picked_in_data_window(a, words, list, n);
+            return true;
+        }
+        self.write_picked_anew(a, words, list, n)
+    }
+
+    #[inline(never)]
+    fn write_picked_anew(&mut self, a: u32, words: &[u32; 16], list: u32, n: u32) -> bool
+        requires started { IsStarted (bus_state base size state touched self.old) }
+        requires aligned { a % 4 ≡ 0 }
+        requires within { a % 4096 + 4 * n ≤ 4096 }
+        requires counted { n ≡ length (registers 16 list) }
+        requires some { 1 ≤ n }
+        requires left { length (bus_state base size state touched self.old).contents.stores + n ≤ 16 }
+        ensures stored { result ≡ true → IsPicked (bus_state base size state touched self.old).contents a n (picked_bytes words.now (registers 16 list)) (bus_state base size state touched self.new).contents }
+        ensures devices { (bus_state base size state touched self.new).devices ≡ (bus_state base size state touched self.old).devices }
+        ensures same { result ≡ false → bus_state base size state touched self.new ≡ bus_state base size state touched self.old }
+    {
+        if !self.memory.finds(a, 4 * n) {
+            return false;
+        }
+        if self.memory.move_data_window(a) {
+            self.memory.store_picked_in_data_window(a, words, list, n);
+            return true;
+        }
+        self.memory.store_picked(a, words, list, n)
     }
 
     /// The byte at an address, where a bank has it. No device is touched.
@@ -229,10 +253,10 @@ impl Bus {
         self.memory.piece(a)
     }
 
-    /// The `n` bytes from an address on, without a search; None where one page hasn't all of them, they lie neither in the page
-    /// of the last store nor in the bank that was used last, or they aren't made yet. No device is touched.
+    /// The `n` bytes from an address on; None where one bank or one page hasn't all of them, or they aren't made yet. No device
+    /// is touched.
     #[inline(always)]
-    pub fn last_part(&self, a: u32, n: u32) -> Option<&[u8]>
+    pub fn part(&self, a: u32, n: u32) -> Option<&[u8]>
         requires started { IsStarted (bus_state base size state touched self.now) }
         requires few { n ≤ 64 }
         ensures { IfSome result (λ part. IsPart (bus_state base size state touched self.now).contents a n part.now) }
@@ -240,7 +264,16 @@ impl Bus {
         if self.memory.data_window.has(a) {
             return self.memory.part_in_data_window(a, n);
         }
-        self.memory.last_part(a, n)
+        self.part_anew(a, n)
+    }
+
+    #[inline(never)]
+    fn part_anew(&self, a: u32, n: u32) -> Option<&[u8]>
+        requires started { IsStarted (bus_state base size state touched self.now) }
+        requires few { n ≤ 64 }
+        ensures { IfSome result (λ part. IsPart (bus_state base size state touched self.now).contents a n part.now) }
+    {
+        self.memory.part(a, n)
     }
 
     /// Whether a byte of the access is protected.
@@ -250,7 +283,7 @@ impl Bus {
         self.memory.is_protected(a, w.bytes())
     }
 
-    /// Whether the bank that was used last has these bytes; where it hasn't, another may have them.
+    /// Whether the bank that was found last has these bytes; where it hasn't, another may have them.
     #[inline(always)]
     pub fn last_has(&self, a: u32, n: u32) -> bool
         ensures { result ≡ true → bank_has (bus_state base size state touched self.now).contents.banks a n ≡ true }
@@ -258,7 +291,7 @@ impl Bus {
         self.memory.last_has(a, n)
     }
 
-    /// Whether the bank that was used last has these bytes and isn't protected.
+    /// Whether the bank that was found last has these bytes and isn't protected.
     #[inline(always)]
     pub fn last_takes(&self, a: u32, n: u32) -> bool
         requires { 1 ≤ n }

@@ -10,7 +10,7 @@ ghost use Rattle.arm7_bus.specs.Windows.{IsDataWindow, IsWindow};
 
 use crate::meets::{first_shared, lesser};
 use crate::notes::{Notes, Stores};
-use crate::pages::{PAGE, PARTS, Pages};
+use crate::pages::{PAGE, PARTS, Pages, place_in};
 use sdt_fault::NoMemory;
 use sdt_word::{Range32, Width};
 use std::alloc::Global;
@@ -33,8 +33,8 @@ pub enum BusFault {
     ReadOnly,
 }
 
-/// A page whose bank and frame are known, and what takes its addresses to their places among the bytes of all frames, where it
-/// is added to them and wraps.
+/// A page that one bank has whole and that has a frame, and what takes its addresses to their places among the bytes of all
+/// frames, where it is added to them and wraps.
 #[derive(Clone, Copy, Debug)]
 pub struct Window {
     pub page: u32,
@@ -52,7 +52,7 @@ impl Window {
 
     /// Where the byte of an address of the page stands among the bytes of all frames.
     #[inline(always)]
-    fn place_of(self, a: u32) -> u32
+    fn place(self, a: u32) -> u32
         ensures { result ≡ (a + self.shift) % 2 ^ 32 }
     {
         a.wrapping_add(self.shift)
@@ -65,9 +65,10 @@ const CLOSED: Window = Window {
     shift: 0,
 };
 
-/// The banks, their bytes, and the stores since the last tick. `last` is the place of the bank that was used last, with
-/// which a search begins. The window on the page of the last fetch spares a fetch the search, and that on the page of the last
-/// store, which isn't protected, loads and stores. They are no part of what memory means, and decide no answer.
+/// The banks, their bytes, and the stores since the last tick. `last` is the place of the bank that was found last, with
+/// which a search begins. The windows spare a fetch, and a load or a store of data, the search: that of fetches moves where a
+/// fetch found its bytes by a search, and that of data where a store did. They are no part of what memory means, and decide no
+/// answer.
 #[derive(Debug, Drop)]
 pub struct Memory {
     pub alloc: Global,
@@ -201,7 +202,7 @@ impl Memory {
     ghost use Rattle.arm7_bus.specs.Paging.{page_used_in, used_count};
     ghost use Rattle.arm7_bus.specs.States.{contents_of, noted, IsStart, bank_has, lie_in_banks, is_protected, store_fault, after_store, store_answer, store_leaves, peeked};
 
-    /// Whether the bank that was used last has the whole access.
+    /// Whether the bank that was found last has the whole access.
     #[inline(always)]
     fn is_last(&self, a: u32, n: u32) -> bool
         ensures { result ≡ true → IsBankAt self.now.banks.items self.now.last a n }
@@ -222,7 +223,7 @@ impl Memory {
         bank_has_access(&self.banks, u64::from(a), n)
     }
 
-    /// The same, by a search that begins with the bank that was used last. The bank that has the access becomes the last one.
+    /// The same, by a search that begins with the bank that was found last. The bank that has the access becomes the last one.
     #[inline(always)]
     pub fn finds(&mut self, a: u32, n: u32) -> bool
         ensures found { result ≡ bank_has (contents_of self.old).banks a n }
@@ -242,7 +243,7 @@ impl Memory {
         }
     }
 
-    /// Whether a byte of the access is protected. Where the bank that was used last has it, no other bank has a byte of it.
+    /// Whether a byte of the access is protected. Where the bank that was found last has it, no other bank has a byte of it.
     pub fn is_protected(&self, a: u32, n: u32) -> bool
         requires some { 1 ≤ n }
         requires few { n ≤ 4 }
@@ -260,7 +261,7 @@ impl Memory {
         false
     }
 
-    /// Whether the bank that was used last, which has the access, is protected.
+    /// Whether the bank that was found last, which has the access, is protected.
     #[inline(always)]
     fn last_protects(&self, _a: u32, _n: u32) -> bool
         requires found { IsBankAt self.now.banks.items self.now.last _a _n }
@@ -270,7 +271,7 @@ impl Memory {
         self.banks[self.last].read_only
     }
 
-    /// Whether the bank that was used last has these bytes; where it hasn't, another may have them.
+    /// Whether the bank that was found last has these bytes; where it hasn't, another may have them.
     #[inline(always)]
     pub fn last_has(&self, a: u32, n: u32) -> bool
         ensures { result ≡ true → bank_has (contents_of self.now).banks a n ≡ true }
@@ -278,7 +279,7 @@ impl Memory {
         self.is_last(a, n)
     }
 
-    /// Whether the bank that was used last has these bytes and isn't protected.
+    /// Whether the bank that was found last has these bytes and isn't protected.
     #[inline(always)]
     pub fn last_takes(&self, a: u32, n: u32) -> bool
         requires { 1 ≤ n }
@@ -301,7 +302,7 @@ impl Memory {
         self.pages.read(a, width)
     }
 
-    /// The bytes of an access in the page of the last fetch, as a number.
+    /// The bytes of an access in the page of the window of fetches, as a number.
     #[inline(always)]
     #[tactic(auto, using(crate::proofs::PagingLemmas::in_page, crate::proofs::WindowLemmas::window_has, crate::proofs::WindowLemmas::window_place))]
     pub fn read_in_fetch_window(&self, a: u32, width: Width) -> u32
@@ -310,11 +311,10 @@ impl Memory {
         ensures has { bank_has (contents_of self.now).banks a (bytes_in width) ≡ true }
         ensures value { result ≡ number_of (load (contents_of self.now).memory a (bytes_in width)) }
     {
-        self.pages
-            .read_from(self.fetch_window.place_of(a), a, width)
+        self.pages.read_from(self.fetch_window.place(a), a, width)
     }
 
-    /// The bytes of an access in the page of the last store, as a number.
+    /// The bytes of an access in the page of the window of data, as a number.
     #[inline(always)]
     #[tactic(auto, using(crate::proofs::PagingLemmas::in_page, crate::proofs::WindowLemmas::data_has, crate::proofs::WindowLemmas::data_place))]
     pub fn read_in_data_window(&self, a: u32, width: Width) -> u32
@@ -323,7 +323,7 @@ impl Memory {
         ensures has { bank_has (contents_of self.now).banks a (bytes_in width) ≡ true }
         ensures value { result ≡ number_of (load (contents_of self.now).memory a (bytes_in width)) }
     {
-        self.pages.read_from(self.data_window.place_of(a), a, width)
+        self.pages.read_from(self.data_window.place(a), a, width)
     }
 
     /// The `n` bytes from an address of that page on; None where it hasn't all of them, or they aren't made yet.
@@ -337,7 +337,7 @@ impl Memory {
         if a % PAGE + n > PAGE {
             return None;
         }
-        self.pages.part_from(self.data_window.place_of(a), a, n)
+        self.pages.part_from(self.data_window.place(a), a, n)
     }
 
     /// Makes a store in that page, and notes it.
@@ -351,8 +351,7 @@ impl Memory {
         ensures fault { store_fault (contents_of self.old) a (bytes_in width) ≡ None }
         ensures after { contents_of self.new ≡ after_store (contents_of self.old) a width v }
     {
-        self.pages
-            .put_from(self.data_window.place_of(a), a, width, v);
+        self.pages.put_from(self.data_window.place(a), a, width, v);
         self.stores.note(a, width);
     }
 
@@ -369,49 +368,51 @@ impl Memory {
         ensures { IsPicked (contents_of self.old) a n (picked_bytes words.now (registers 16 list)) (contents_of self.new) }
     {
         self.pages
-            .put_picked_from(self.data_window.place_of(a), a, words, list);
+            .put_picked_from(self.data_window.place(a), a, words, list);
         self.stores.note_words(a, n);
     }
 
-    /// A window on the page of an address; None where the bank that was used last hasn't the whole page, or it has no frame.
+    /// A window on the page of an address, which the bank that was found last has; None where it has no frame.
     fn window_on(&self, a: u32) -> Option<Window>
-        requires { length (contents_of self.now).used ≡ 1048576 }
+        requires started { length (contents_of self.now).used ≡ 1048576 }
+        requires found { IsBankAt self.now.banks.items self.now.last (a - a % 4096) 4096 }
         ensures page { IfSome result (λ window. window.page ≡ a / 4096) }
         ensures window { IfSome result (λ window. IsWindow self.now.banks.items self.now.pages.table window.page window.shift) }
     {
-        let first = a - a % PAGE;
-        if !self.is_last(first, PAGE) {
-            return None;
-        }
         match self.pages.table.lookup((a / PAGE) as usize) {
             Some(frame) => Some(Window {
                 page: a / PAGE,
-                shift: (u32::from(frame) * PAGE).wrapping_sub(first),
+                shift: (u32::from(frame) * PAGE).wrapping_sub(a - a % PAGE),
             }),
             None => None,
         }
     }
 
-    /// Moves the window of fetches to the page of an address, where there is one on it.
+    /// Moves the window of fetches to the page of an address, where the bank that was found last has it and it has a frame.
     pub fn move_fetch_window(&mut self, a: u32)
         requires { length (contents_of self.old).used ≡ 1048576 }
         ensures { contents_of self.new ≡ contents_of self.old }
     {
+        if !self.is_last(a - a % PAGE, PAGE) {
+            return;
+        }
         match self.window_on(a) {
             Some(window) => self.fetch_window = window,
             None => {}
         }
     }
 
-    /// Moves the window of data to the page of an address; false where there is none on it, or it is protected.
-    #[inline(never)]
+    /// Moves the window of data to the page of an address; false where the bank that was found last hasn't the whole page or is
+    /// protected, or the page has no frame.
+    #[inline(always)]
     pub fn move_data_window(&mut self, a: u32) -> bool
         requires { length (contents_of self.old).used ≡ 1048576 }
         ensures page { result ≡ true → self.new.data_window.page ≡ a / 4096 }
         ensures last { (self.new.banks ≡ self.old.banks) × (self.new.last ≡ self.old.last) }
         ensures same { contents_of self.new ≡ contents_of self.old }
     {
-        if !self.last_takes(a - a % PAGE, PAGE) {
+        let first = a - a % PAGE;
+        if !self.is_last(first, PAGE) || self.last_protects(first, PAGE) {
             return false;
         }
         match self.window_on(a) {
@@ -421,19 +422,6 @@ impl Memory {
             }
             None => false,
         }
-    }
-
-    /// Whether the window of data lies on the page of an address, or can be moved there.
-    #[inline(always)]
-    pub fn opens(&mut self, a: u32) -> bool
-        requires { length (contents_of self.old).used ≡ 1048576 }
-        ensures page { result ≡ true → self.new.data_window.page ≡ a / 4096 }
-        ensures same { contents_of self.new ≡ contents_of self.old }
-    {
-        if self.data_window.has(a) {
-            return true;
-        }
-        self.move_data_window(a)
     }
 
     /// The byte at an address, where a bank has it.
@@ -458,15 +446,13 @@ impl Memory {
         &bytes[..bytes.len().min(count)]
     }
 
-    /// The `n` bytes from an address on; None where the bank that was used last or one page hasn't all of them, or they aren't
-    /// made yet.
-    #[inline(always)]
-    pub fn last_part(&self, a: u32, n: u32) -> Option<&[u8]>
+    /// The `n` bytes from an address on; None where one bank or one page hasn't all of them, or they aren't made yet.
+    pub fn part(&self, a: u32, n: u32) -> Option<&[u8]>
         requires started { length (contents_of self.now).used ≡ 1048576 }
         requires few { n ≤ 64 }
         ensures { IfSome result (λ part. IsPart (contents_of self.now) a n part.now) }
     {
-        if !self.last_has(a, n) {
+        if !self.holds(a, n) {
             return None;
         }
         self.pages.part(a, n)
@@ -485,7 +471,7 @@ impl Memory {
         self.pages.left()
     }
 
-    /// Makes a store that lies in the bank that was used last, and notes it.
+    /// Makes a store that lies in the bank that was found last, and notes it.
     #[inline(always)]
     #[tactic(auto, using(crate::proofs::WindowLemmas::window_stored, crate::proofs::WindowLemmas::data_stored))]
     pub fn store(&mut self, a: u32, width: Width, v: u32) -> Result<(), BusFault>
@@ -504,6 +490,34 @@ impl Memory {
         }
         self.stores.note(a, width);
         Ok(())
+    }
+
+    /// Stores the `n` words from an address on, which lie in the bank that was found last and in one page, those of a table at the
+    /// places where `list` has a 1, and notes each; false, and nothing changes, where the bank is protected or the page isn't used.
+    #[tactic(auto, using(crate::proofs::WindowLemmas::frames_same, crate::proofs::WindowLemmas::window_stored, crate::proofs::WindowLemmas::data_stored, crate::proofs::StoreLemmas::words_more))]
+    pub fn store_picked(&mut self, a: u32, words: &[u32; 16], list: u32, n: u32) -> bool
+        requires found { IsBankAt self.old.banks.items self.old.last a (4 * n) }
+        requires started { length (contents_of self.old).used ≡ 1048576 }
+        requires within { a % 4096 + 4 * n ≤ 4096 }
+        requires aligned { a % 4 ≡ 0 }
+        requires counted { n ≡ length (registers 16 list) }
+        requires some { 1 ≤ n }
+        requires left { length (contents_of self.old).stores + n ≤ 16 }
+        ensures stored { result ≡ true → IsPicked (contents_of self.old) a n (picked_bytes words.now (registers 16 list)) (contents_of self.new) }
+        ensures same { result ≡ false → contents_of self.new ≡ contents_of self.old }
+    {
+        if self.last_protects(a, 4 * n) {
+            return false;
+        }
+        match self.pages.table.lookup((a / PAGE) as usize) {
+            Some(frame) => {
+                self.pages
+                    .put_picked_from(place_in(frame, a), a, words, list);
+                self.stores.note_words(a, n);
+                true
+            }
+            None => false,
+        }
     }
 
     /// No banks.

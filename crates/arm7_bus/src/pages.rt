@@ -23,7 +23,7 @@ pub const PARTS: usize = 256;
 
 /// Where the byte of an address stands among the bytes of all frames, in this frame.
 #[inline(always)]
-fn place_in(frame: u16, a: u32) -> u32
+pub fn place_in(frame: u16, a: u32) -> u32
     ensures frame { result / 4096 ≡ frame }
     ensures place { result % 4096 ≡ a % 4096 }
 {

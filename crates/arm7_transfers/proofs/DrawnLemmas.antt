@@ -12,12 +12,13 @@ use Rattle.arm7_bus.specs.Lookups.{HasFrom}
 use Rattle.arm7_bus.specs.Pieces.{IsPart, IsPiece}
 use Rattle.arm7_bus.specs.States.{Contents, State, bank_has}
 use Rattle.arm7_bus.proofs.PartLemmas.{four_parts}
+use Rattle.arm7_bus.proofs.StoreLemmas.{part_of}
 use Rattle.arm7_transfers.specs.BlockAccesses.{drawn, loads_of, taken}
 use Rattle.arm7_transfers.specs.Boards.{board_of}
 use Rattle.arm7_transfers.specs.Ready.{IsReady}
 use Rattle.arm7_transfers.specs.Served.{served, value_at}
 use Rattle.arm7_transfers.proofs.BoardLemmas.{bank-whole}
-use Rattle.arm7_transfers.proofs.SpanLemmas.{bank-part, there-each}
+use Rattle.arm7_transfers.proofs.SpanLemmas.{there-each}
 
 -- ---- four parts of a list
 
@@ -67,7 +68,7 @@ part-bytes c a n bytes lt p =
     let within = p.within in
     record {
       are = p.are ∙ ap (load c.memory a) (sym size);
-      held = record { each = λ k less. bank-part c.banks a n (a + k) 1 p.held (omega arith) (omega arith) };
+      held = record { each = λ k less. part_of c.banks a n (a + k) 1 (omega arith) (omega arith) p.held };
       within = omega arith;
     }
 

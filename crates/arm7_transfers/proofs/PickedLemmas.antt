@@ -19,6 +19,7 @@ use Rattle.arm7_bus.specs.Picks.{picked_bytes, word_places}
 use Rattle.arm7_bus.specs.Seats.{Seat}
 use Rattle.arm7_bus.specs.States.{Contents, State, bank_has, is_protected}
 use Rattle.arm7_bus.proofs.PickLemmas.{count_picked, low_picked}
+use Rattle.arm7_bus.proofs.StoreLemmas.{free_part, part_of}
 use Rattle.arm7_transfers.specs.BlockAccesses.{stores_of, words_in}
 use Rattle.arm7_transfers.specs.Boards.{board_of}
 use Rattle.arm7_transfers.specs.Frames.{Fits, used_with}
@@ -26,7 +27,7 @@ use Rattle.arm7_transfers.specs.Ready.{IsReady}
 use Rattle.arm7_transfers.specs.Served.{served}
 use Rattle.arm7_transfers.proofs.BlockSteps.{sixteen}
 use Rattle.arm7_transfers.proofs.ReadyLemmas.{ready-same, set-used}
-use Rattle.arm7_transfers.proofs.SpanLemmas.{bank-part, free-part, may-each}
+use Rattle.arm7_transfers.proofs.SpanLemmas.{may-each}
 use Rattle.arm7_transfers.proofs.StoreLemmas.{low-bytes}
 
 -- ---- a list without pc
@@ -124,8 +125,8 @@ module _ (banks : List Bank) (used : List Bool) (base size : ℕ) (has : bank_ha
       let here = h (omega arith) in
       let low = here.0 in
       let high = here.1 in
-      let there : bank_has s.contents.banks a 4 ≡ true = ap (λ (bs : List Bank). bank_has bs a 4) b ∙ bank-part banks base size a 4 has low (omega arith) in
-      let unlocked : is_protected s.contents.banks a 4 ≡ false = ap (λ (bs : List Bank). is_protected bs a 4) b ∙ free-part banks base size a free low (omega arith) in
+      let there : bank_has s.contents.banks a 4 ≡ true = ap (λ (bs : List Bank). bank_has bs a 4) b ∙ part_of banks base size a 4 low (omega arith) has in
+      let unlocked : is_protected s.contents.banks a 4 ≡ false = ap (λ (bs : List Bank). is_protected bs a 4) b ∙ free_part banks base size a 4 low (omega arith) free in
       let held : page_used_in s.contents.used a ≡ true = ap (λ (us : List Bool). page_used_in us a) u ∙ page-at a low (omega arith) in
       let bytes : bytes_of (listed_at false core k % 256 ^ 4) 4 ≡ bytes_of (get_or core.r k 0) 4 = low-bytes (listed_at false core k) Word ∙ ap (λ (v : ℕ). bytes_of v 4) (stored-plain core k p.0) in
       let step = write-word s a (listed_at false core k % 256 ^ 4) there unlocked held
@@ -140,7 +141,7 @@ module _ (banks : List Bank) (used : List Bool) (base size : ℕ) (has : bank_ha
       let here = h (omega arith) in
       let low = here.0 in
       let high = here.1 in
-      let there : bank_has banks a 4 ≡ true = bank-part banks base size a 4 has low (omega arith) in
+      let there : bank_has banks a 4 ≡ true = part_of banks base size a 4 low (omega arith) has in
       rw there (ap (λ (us : List Bool). used_with us (words_in banks ks (next_word a))) (set-used used (a / 4096) (page-at a low (omega arith))) ∙ used-same ks (next_word a) (lies-next k a ks h))
 
 -- ---- what the call of the bus gave
@@ -156,8 +157,8 @@ module _ (s : State) (core : ArmState) (list n a : ℕ) (r : IsReady s) (count :
   pub picked_may : a % 4 ≡ 0 → all_may_store (board_of s) (registers 16 list) a ≡ true
   picked_may whole =
       may-each s (registers 16 list) a r whole small
-      (λ j lt. subst (λ (x : ℕ). bank_has s.contents.banks x 4 ≡ true) (sym (at-place j lt)) (bank-part s.contents.banks a (4 * n) (a + 4 * j) 4 p.has (omega arith) (omega arith)))
-      (λ j lt. subst (λ (x : ℕ). is_protected s.contents.banks x 4 ≡ false) (sym (at-place j lt)) (free-part s.contents.banks a (4 * n) (a + 4 * j) p.free (omega arith) (omega arith)))
+      (λ j lt. subst (λ (x : ℕ). bank_has s.contents.banks x 4 ≡ true) (sym (at-place j lt)) (part_of s.contents.banks a (4 * n) (a + 4 * j) 4 (omega arith) (omega arith) p.has))
+      (λ j lt. subst (λ (x : ℕ). is_protected s.contents.banks x 4 ≡ false) (sym (at-place j lt)) (free_part s.contents.banks a (4 * n) (a + 4 * j) 4 (omega arith) (omega arith) p.free))
 
   pub picked_fits : Fits s (words_in s.contents.banks (registers 16 list) a)
   picked_fits =

@@ -88,7 +88,7 @@ fn all_may_store(bus: &Bus, list: u32, k: u8, a: u32) -> bool
     all_may_store(bus, list, k + 1, next_word(a))
 }
 
-/// Whether each word of a list is there. Mostly the bank that was used last has them all.
+/// Whether each word of a list is there. Mostly the bank that was found last has them all.
 fn are_there(bus: &Bus, list: u32, a: u32) -> bool
     requires ready { IsReady (state_of base size state touched bus.now) }
     requires aligned { a % 4 ≡ 0 }
@@ -102,7 +102,7 @@ fn are_there(bus: &Bus, list: u32, a: u32) -> bool
     all_there(bus, list, 0, a)
 }
 
-/// Whether each word of a list may be stored. Mostly the bank that was used last takes them all.
+/// Whether each word of a list may be stored. Mostly the bank that was found last takes them all.
 fn are_storable(bus: &Bus, list: u32, a: u32) -> bool
     requires ready { IsReady (state_of base size state touched bus.now) }
     requires aligned { a % 4 ≡ 0 }
@@ -254,7 +254,7 @@ fn taken_of_piece(
     true
 }
 
-/// The same, mostly without a search: the bank that was used last has the words.
+/// The same, mostly at once: one bank and one page have the words, and they are made.
 #[inline(always)]
 fn taken_at_once(
     core: &mut ArmState,
@@ -272,7 +272,7 @@ fn taken_at_once(
     ensures same { result ≡ false → core.new ≡ core.old }
 {
     let n = count(list);
-    let Some(part) = bus.last_part(a, 4 * n) else {
+    let Some(part) = bus.part(a, 4 * n) else {
         return taken_of_piece(core, bus, write_back, rn, list, a, end);
     };
     set_block_base(core, write_back, rn, end);

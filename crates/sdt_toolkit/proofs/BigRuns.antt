@@ -1,5 +1,5 @@
 -- The run of the image of a generated source in the default bank: what refuses it, and how it ends.
-use Rattle.std.proofs.Common.{◌≡◌, inl, ℕ, ◌+◌, ◌-◌, ◌*◌, ◌/◌, ◌%◌, ◌<◌, ◌≤◌, ◌==◌, Bool, true, false, cond, List, [], ◌∷◌, length, Some, refl, sym, ap, ◌∙◌, subst, arith, nat_lt}
+use Rattle.std.proofs.Common.{◌≡◌, inl, ℕ, ◌+◌, ◌-◌, ◌*◌, ◌/◌, ◌%◌, ◌<◌, ◌≤◌, ◌==◌, Bool, true, false, cond, List, [], ◌∷◌, length, Option, Some, refl, sym, ap, ◌∙◌, subst, arith, nat_lt}
 use Rattle.std.specs.List.{AllByRecursion}
 use Rattle.std.proofs.lemmas.Bool.{lt-ltb}
 use Rattle.sdt_word.specs.Numbers.{flag}
@@ -8,16 +8,18 @@ use Rattle.sdt_fault.specs.declared.answer.Stop.TheVariants as stop
 use Rattle.sdt_fault.specs.declared.refusal.Refusal.{Refusal}
 use Rattle.sdt_fault.specs.declared.refusal.Refusal.TheVariants.{BankOverlap, NoRoom, TooLarge}
 use Rattle.sdt_outside.specs.Counts.{Rose}
+use Rattle.arm7_model.specs.declared.state.ArmState.{ArmState}
 use Rattle.arm7_model.specs.declared.event.Event.TheVariants as event
 use Rattle.arm7_model.specs.Memory.{Board}
 use Rattle.arm7_model.specs.Outcomes.{Stepped}
-use Rattle.arm7_model.specs.Registers.{State as Whole}
+use Rattle.arm7_model.specs.Registers.{State as Whole, register}
+use Rattle.arm7_core.specs.Resets.{IsReset}
 use Rattle.arm7_model.specs.Runs.{accesses_of}
 use Rattle.arm7_bus.specs.Meets.{IsLeast}
 use Rattle.arm7_bus.specs.Seats.{Seat}
 use Rattle.arm7_bus.specs.States.{State}
 use Rattle.arm7_bus.specs.WholeWords.{AreWholeSeats}
-use Rattle.arm7_run.specs.Runs.{Runs}
+use Rattle.arm7_run.specs.Runs.{Runs, RunsInto}
 use Rattle.arm7_transfers.specs.Boards.{board_of, over}
 use Rattle.arm7_transfers.specs.Ready.{IsReady}
 use Rattle.boot_code.specs.Boots.{AreOrdinary, BootSteps, BootsIn, ByteMap, CanStart}
@@ -44,6 +46,36 @@ use Rattle.sdt_toolkit.proofs.RunBooting.{map_can}
 use Rattle.sdt_toolkit.proofs.RunOpened.{IsOpened, can_start, opened, valid}
 use Rattle.sdt_toolkit.proofs.RunStartup.{each_used, exact_startup}
 use Rattle.sdt_toolkit.proofs.RunSteps.{starts}
+
+-- ---- what a run says that prints to nothing
+
+quiet : (most made : ℕ) (core : ArmState) (begin : State) (why : Stop) (core' : ArmState) (end : State) (before after : Option (List ℕ))
+    → RunsInto most core begin why made core' end before after (Rose 0 0) → (text : List ℕ) × Runs most core begin why made text core' end
+quiet most made core begin stop.Exit core' end before after (text, runs, got) = (text, runs)
+quiet most made core begin stop.Budget core' end before after (text, runs, got) = (text, runs)
+quiet most made core begin (stop.Unpredictable a w) core' end before after (text, runs, got) = (text, runs)
+quiet most made core begin (stop.BadString a) core' end before after (text, runs, got) = (text, runs)
+quiet most made core begin (stop.NoFrame a) core' end before after (text, runs, got) = (text, runs)
+quiet most made core begin stop.Sink core' end before after c = absurd (let rose = c.chokes.counted in omega arith)
+
+pub has_ended : (start n most : ℕ) (core : ArmState) (begin : State) (why : Stop) (made : ℕ) (core' : ArmState) (end : State) (before after : Option (List ℕ))
+    (steps sum words : ℕ) (left : List Seat)
+    → IsReset start false core → most ≡ 5 * n + 51 → RunsInto most core begin why made core' end before after (Rose 0 0)
+    → words ≡ big_startup n → steps ≡ made - words → sum ≡ register core' 4 → left ≡ end.devices → HasEnded start n begin why steps sum left
+has_ended start n most core begin why made core' end before after steps sum words left reset bound runs_into startup counted added devices =
+    let (text, runs) = quiet most made core begin why core' end before after runs_into in
+    record {
+      core = core;
+      reset = reset;
+      made = made;
+      text = text;
+      core' = core';
+      end = end;
+      runs = subst (λ (x : ℕ). Runs x core begin why made text core' end) bound runs;
+      counted = counted ∙ ap (λ (x : ℕ). made - x) startup;
+      added = added;
+      devices = devices;
+    }
 
 -- ---- what refuses it
 
