@@ -24,10 +24,10 @@ names_told s before repeated second had o e f g h =
     ∙ ap (λ (b : Bool). told_kind (kind_if (is_repeated (names_behind before) (names_in s) || b) DuplicateName)) (f ∙ ap (λ (b : Bool). is_entry s.what && b) g)
 
 pub line_told : (settled : List (List ℕ)) (all : List Statement) (s : Statement) (area : Option ℕ) (thumb thumb_area : Bool) (x : Result ℕ LineKind)
-    (circular : Bool)
+    (circular again : Bool)
     (l : LaidLine) (before : List LaidLine)
     (old : Checks) (contents : Option Contents) (here attributes defined state own : Option LineKind) (nowhere allowed repeated unsettled : Option LineKind)
-    → IsChecked before old → IsLine s area thumb thumb_area x circular settled all l before
+    → IsChecked before old → IsLine s area thumb thumb_area x circular again settled all l before
     → contents ≡ contents_from s.what old.contents
     → nowhere ≡ told_kind (no_area_kinds area (defined_by s) s.what)
     → allowed ≡ told_kind (contents_kinds contents thumb s.what)
@@ -37,7 +37,7 @@ pub line_told : (settled : List (List ℕ)) (all : List Statement) (s : Statemen
     → here ≡ first_told nowhere allowed → defined ≡ first_told repeated unsettled → state ≡ told_kind (state_kinds area thumb s.what all)
     → own ≡ told_kind (own_kinds s)
     → first_told (first_told (first_told here (first_told attributes defined)) state) own ≡ told_kind (checked_kinds settled all l before)
-line_told settled all s area thumb thumb_area x circular l before old contents here attributes defined state own nowhere allowed repeated unsettled k i inside a
+line_told settled all s area thumb thumb_area x circular again l before old contents here attributes defined state own nowhere allowed repeated unsettled k i inside a
     b c d e f g h j =
     rw (i.said, i.stands, i.state, h, j)
     (told_of_seven here attributes defined

@@ -10,11 +10,10 @@ use Rattle.asm_model.specs.Kinds.{told_kind}
 use Rattle.asm_model.specs.Labels.{defined_by}
 use Rattle.asm_model.specs.Laid.{LaidLine, statements_of}
 use Rattle.asm_model.specs.LayoutKinds.{is_entry, no_area_kinds, contents_kinds, contents_behind, area_kinds, name_kinds}
-use Rattle.asm_model.specs.LayoutKinds.{names_behind, first_equal, settled_kinds, in_thumb_area, state_kinds}
+use Rattle.asm_model.specs.LayoutKinds.{names_behind, names_in, is_repeated, first_equal, settled_kinds, in_thumb_area, state_kinds}
 use Rattle.asm_model.specs.OwnKinds.{own_kinds}
 use Rattle.asm_checks.specs.declared.checks.Checks.{Checks}
 use Rattle.asm_checks.specs.Areas.{AreAreasOf, IsExponent}
-use Rattle.asm_sets.specs.Sets.{HaveSame}
 
 -- the kinds of a line behind others that need no values but an exponent, where these names are settled and the source has
 -- these statements
@@ -31,7 +30,6 @@ checked_kinds settled all l before =
 pub record IsChecked (before : List LaidLine) (c : Checks) : Type 0 where
   pub contents : c.contents ≡ contents_behind (statements_of before)
   pub areas : AreAreasOf before c.areas
-  pub names : HaveSame c.names (names_behind (statements_of before))
   pub entry : c.has_entry ≡ list_any (λ (s : Statement). is_entry s.what) (statements_of before)
 
 -- whether a name for an expression, where a statement is the first that defines it, isn't among these
@@ -40,7 +38,7 @@ IsCircular settled [] b = b ≡ false
 IsCircular settled (e ∷ es) b = b ≡ not (list_any (same e.0) settled)
 
 -- what is known of a line before it is checked
-pub record IsLine (s : Statement) (area : Option ℕ) (thumb thumb_area : Bool) (x : Result ℕ LineKind) (circular : Bool)
+pub record IsLine (s : Statement) (area : Option ℕ) (thumb thumb_area : Bool) (x : Result ℕ LineKind) (circular repeated : Bool)
     (settled : List (List ℕ)) (all : List Statement) (l : LaidLine) (before : List LaidLine) : Type 0 where
   pub said : l.statement ≡ s
   pub stands : l.area ≡ area
@@ -48,6 +46,7 @@ pub record IsLine (s : Statement) (area : Option ℕ) (thumb thumb_area : Bool) 
   pub within : thumb_area ≡ in_thumb_area area all
   pub aligned : IsExponent l.seen s.what x
   pub known : IsCircular settled (first_equal (defined_by s) (statements_of before)) circular
+  pub named : repeated ≡ is_repeated (names_behind (statements_of before)) (names_in s)
 
 abbrev pub Line : Type 1
 Line = List (List ℕ) → List Statement → LaidLine → List LaidLine → Type 0

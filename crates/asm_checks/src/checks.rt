@@ -11,12 +11,11 @@ ghost use Rattle.asm_model.specs.LayoutKinds as layout;
 ghost use Rattle.asm_checks.specs.Checked.{IsChecked, IsCircular, IsLine, Keeps, Tells};
 
 use crate::areas::{AreaMarks, area_kind};
-use crate::names::is_repeated;
 use crate::own::own_kind;
 use crate::places::{contents_from, contents_kind, is_entry, no_area_kind, state_kind};
 use asm_expr::told::{first_told, kind_if};
 use asm_model::{Contents, Statement, What};
-use asm_sets::{NameMap, NameSet};
+use asm_sets::NameMap;
 use sdt_fault::NoMemory;
 use sdt_fault::kinds::LineKind;
 use std::alloc::Global;
@@ -29,8 +28,6 @@ pub struct Checks {
     contents: Option<Contents>,
     /// The attributes of each area.
     areas: NameMap<AreaMarks>,
-    /// The names that are defined or imported.
-    names: NameSet,
     has_entry: bool,
 }
 
@@ -75,15 +72,14 @@ impl Checks {
             alloc,
             contents: None,
             areas: NameMap::new(alloc),
-            names: NameSet::new(alloc),
             has_entry: false,
         }
     }
 
     /// The fault of the next line that is told, of those that need no values but the exponent of an area. Where a
     /// statement is no AREA its `exponent` isn't looked at; `circular` tells whether it is the first that defines a name
-    /// which depends on itself; whether its area is one of Thumb code counts for ENTRY. Behind a line with a fault, or an
-    /// `Err`, nothing more can be checked.
+    /// which depends on itself, and `repeated` whether it defines a name that is defined before it; whether its area is one
+    /// of Thumb code counts for ENTRY. Behind a line with a fault, or an `Err`, nothing more can be checked.
     pub fn check(
         &mut self,
         statement: &Statement,
@@ -92,12 +88,13 @@ impl Checks {
         thumb_area: bool,
         exponent: Result<u32, LineKind>,
         circular: bool,
+        repeated: bool,
     ) -> Result<Option<LineKind>, NoMemory>
         ensures told { IfOk result
-            (λ told. Tells (IsLine statement.now area thumb thumb_area exponent circular) self.old
+            (λ told. Tells (IsLine statement.now area thumb thumb_area exponent circular repeated) self.old
             told) }
         ensures behind { IfOk result
-            (λ told. Keeps (IsLine statement.now area thumb thumb_area exponent circular) self.old
+            (λ told. Keeps (IsLine statement.now area thumb thumb_area exponent circular repeated) self.old
             self.new told) }
     {
         self.contents = contents_from(&statement.what, self.contents);
@@ -106,7 +103,6 @@ impl Checks {
             contents_kind(self.contents, thumb, &statement.what),
         );
         let attributes = area_kind(self.alloc, &mut self.areas, &statement.what, exponent)?;
-        let repeated = is_repeated(self.alloc, &mut self.names, statement)?;
         let second = is_second_entry(&mut self.has_entry, &statement.what);
         let defined = first_told(name_kind(repeated, second), circular_kind(circular));
         let found = first_told(here, first_told(attributes, defined));

@@ -2,11 +2,10 @@
 
 ghost use Rattle.std.specs.Prelude.{◌≡◌, ℕ, List};
 ghost use Rattle.std.specs.List.{list_any};
-ghost use Rattle.std.specs.Option.{option_copied};
 ghost use Rattle.asm_model.specs.Labels as defined;
 ghost use Rattle.asm_model.specs.LayoutKinds as layout;
 
-use asm_model::{DirectiveLine, Expr, ExprItem, SharedText, Statement, What};
+use asm_model::{DirectiveLine, Expr, ExprItem, Statement, What};
 
 /// Whether a label on a directive is one of its place.
 fn is_place(line: &DirectiveLine) -> bool
@@ -49,18 +48,6 @@ pub fn has_place(statement: &Statement) -> bool
         (None, _) => false,
         (Some(_), What::Directive(line)) => is_place(line),
         (Some(_), What::Nothing | What::Arm(_) | What::Thumb(_) | What::Pseudo(_)) => true,
-    }
-}
-
-/// The name that a statement defines.
-pub fn own_name(statement: &Statement) -> Option<&SharedText>
-    ensures { layout.listed (option_copied result)
-        ≡ layout.own_name (defined.defined_by statement.now) }
-{
-    match (&statement.label, &statement.what) {
-        (None, _) => None,
-        (Some(_), What::Directive(DirectiveLine::Rout)) => None,
-        (Some(label), _) => Some(label),
     }
 }
 

@@ -11,7 +11,6 @@ pub mod checks;
 mod labels;
 mod large;
 mod late;
-mod names;
 mod own;
 mod places;
 mod starts;

@@ -1,5 +1,6 @@
 -- Places of names in a list and in its index.
-use Rattle.std.proofs.Common.{◌≡◌, ℕ, ◌+◌, Bool, true, false, cond, List, [], ◌∷◌, ◌++◌, length, Option, Some, None, refl, sym, ap, ◌∙◌, add-one}
+use Rattle.std.proofs.Common.{◌≡◌, ℕ, ◌+◌, Bool, true, false, cond, List, [], ◌∷◌, ◌++◌, length, not, Option, Some, None, refl, sym, ap, ◌∙◌, add-one}
+use Rattle.std.specs.Option.{is_some}
 use Rattle.std.specs.Str.{bytes_eq}
 use Rattle.std.specs.Ordering.{nat_cmp}
 use Rattle.std.specs.Cmp.Lexicographic.{slice_cmp}
@@ -11,7 +12,7 @@ use Rattle.asm_model.specs.declared.names.LaidName.{LaidName}
 use Rattle.asm_model.specs.Forms.{same}
 use Rattle.asm_model.specs.Meaning.{named_in}
 use Rattle.asm_model.proofs.WordLemmas.{same_refl, same_true}
-use Rattle.asm_expr.specs.Places.{entry, number_in, or_number, one_later, place_of}
+use Rattle.asm_expr.specs.Places.{entry, number_in, or_number, one_later, place_of, names_of, AreFirst}
 
 -- the two tests of words
 pub tests : (a b : List ℕ) → bytes_eq a b ≡ same a b
@@ -63,16 +64,60 @@ added old new name number more list x index at named q =
     more q ∙ ap (λ o. or_number o name number q) (index q) ∙ ap (λ k. or_number (place_of q list) name k q) (sym at)
     ∙ ap (λ w. or_number (place_of q list) w (length list) q) (sym named) ∙ sym (place_push q list x)
 
--- the entry at the place of a name
-pub entry_there : (name : List ℕ) (list : List LaidName) → entry list (place_of name list) ≡ named_in name list
-entry_there name [] = refl
-entry_there name (n ∷ ns) = by_test (same n.name name) (entry_there name ns)
+-- the entry at the place of a name, of names or of the first of them
+pub entry_first : (name : List ℕ) (first ns : List LaidName) → AreFirst first ns → entry first (place_of name ns) ≡ named_in name first
+entry_first name [] ns h = nothing (place_of name ns)
   where
-    later : (o : Option ℕ) → entry (n ∷ ns) (one_later o) ≡ entry ns o
+    nothing : (o : Option ℕ) → entry [] o ≡ None
+    nothing None = refl
+    nothing (Some i) = refl
+entry_first name (f ∷ fs) [] h = absurd (cc)
+entry_first name (f ∷ fs) (n ∷ ns) h =
+    let heads : f.name ≡ n.name = cc in
+    let tails : AreFirst fs ns = cc in
+    ap (λ (w : List ℕ). entry (f ∷ fs) (cond (same w name) (Some 0) (one_later (place_of name ns)))) (sym heads)
+    ∙ by_test (same f.name name) (entry_first name fs ns tails)
+  where
+    later : (o : Option ℕ) → entry (f ∷ fs) (one_later o) ≡ entry fs o
     later None = refl
     later (Some i) = rw add-one refl
 
-    by_test : (b : Bool) → entry ns (place_of name ns) ≡ named_in name ns → entry (n ∷ ns) (cond b (Some 0) (one_later (place_of name ns))) ≡ cond b (Some n)
-        (named_in name ns)
+    by_test : (b : Bool) → entry fs (place_of name ns) ≡ named_in name fs → entry (f ∷ fs) (cond b (Some 0) (one_later (place_of name ns))) ≡ cond b (Some f)
+        (named_in name fs)
     by_test true h = refl
     by_test false h = later (place_of name ns) ∙ h
+
+all_first : (ns : List LaidName) → AreFirst ns ns
+all_first [] = refl
+all_first (n ∷ ns) = ap (λ l. n.name ∷ l) (all_first ns)
+
+pub entry_there : (name : List ℕ) (list : List LaidName) → entry list (place_of name list) ≡ named_in name list
+entry_there name list = entry_first name list list (all_first list)
+
+place_is : (name : List ℕ) (list : List LaidName) → is_some (place_of name list) ≡ is_some (named_in name list)
+place_is name [] = refl
+place_is name (n ∷ ns) = by_test (same n.name name) (place_is name ns)
+  where
+    later : (o : Option ℕ) → is_some (one_later o) ≡ is_some o
+    later None = refl
+    later (Some i) = refl
+
+    by_test : (b : Bool) → is_some (place_of name ns) ≡ is_some (named_in name ns)
+        → is_some (cond b (Some 0) (one_later (place_of name ns))) ≡ is_some (cond b (Some n) (named_in name ns))
+    by_test true h = refl
+    by_test false h = later (place_of name ns) ∙ h
+
+-- a name has no place where no entry has it
+pub is_new : (name : List ℕ) (list : List LaidName) (o : Option ℕ) → o ≡ place_of name list → not (is_some o) ≡ not (is_some (named_in name list))
+is_new name list o e = ap (λ (p : Option ℕ). not (is_some p)) e ∙ ap not (place_is name list)
+
+-- entries of the same names stand at the same places
+pub same_places : (name : List ℕ) (xs ys : List LaidName) → names_of xs ≡ names_of ys → place_of name xs ≡ place_of name ys
+same_places name [] [] h = refl
+same_places name [] (y ∷ ys) h = absurd (cc)
+same_places name (x ∷ xs) [] h = absurd (cc)
+same_places name (x ∷ xs) (y ∷ ys) h =
+    let heads : x.name ≡ y.name = cc in
+    let tails : names_of xs ≡ names_of ys = cc in
+    ap (λ (w : List ℕ). cond (same w name) (Some 0) (one_later (place_of name xs))) heads
+    ∙ ap (λ (o : Option ℕ). cond (same y.name name) (Some 0) (one_later o)) (same_places name xs ys tails)

@@ -1,5 +1,5 @@
 -- Places of names in a list, and a map from names to numbers. This project's.
-use Rattle.std.specs.Prelude.{ℕ, ◌+◌, List, [], ◌∷◌, Option, Some, None, if◌then◌else◌}
+use Rattle.std.specs.Prelude.{◌≡◌, ℕ, ◌+◌, List, [], ◌∷◌, length, map, take, Option, Some, None, if◌then◌else◌}
 use Rattle.std.specs.List.{slice_get}
 use Rattle.std.specs.Ordering.{nat_cmp}
 use Rattle.std.specs.Cmp.Lexicographic.{slice_cmp}
@@ -25,6 +25,13 @@ abbrev pub place_of : List ℕ → List LaidName → Option ℕ
 place_of name [] = None
 place_of name (n ∷ ns) = if same n.name name then Some 0 else one_later (place_of name ns)
 
+abbrev pub names_of : List LaidName → List (List ℕ)
+names_of ns = map (λ (n : LaidName). n.name) ns
+
+-- entries of the first of these names
+abbrev pub AreFirst : List LaidName → List LaidName → Type 0
+AreFirst first ns = names_of first ≡ take (length first) (names_of ns)
+
 -- the entry at a place of the list
 abbrev pub entry : List LaidName → Option ℕ → Option LaidName
 entry list None = None
@@ -33,3 +40,7 @@ entry list (Some i) = slice_get list i
 abbrev pub one_entry : Option LaidName → List LaidName
 one_entry None = []
 one_entry (Some n) = n ∷ []
+
+abbrev pub listed : Option (List LaidName) → List LaidName
+listed None = []
+listed (Some list) = list

@@ -4,7 +4,7 @@ ghost use Rattle.std.specs.Prelude.{◌≡◌, IfOk};
 ghost use Rattle.asm_model.specs.Meaning.{Evaluates};
 
 use crate::known::{KnownNames, add_entry};
-use crate::names::Seen;
+use crate::seen::Seen;
 use crate::value::value_seen;
 use asm_model::{EvalFault, Expr, LaidName, Meaning, Names, Value};
 use sdt_fault::NoMemory;
@@ -59,8 +59,8 @@ pub fn evaluate(alloc: Global, e: &Expr, names: &Names) -> Result<Value, EvalFau
     let known = indexed(alloc, names.list.as_slice())?;
     let seen = Seen {
         names: &known,
+        first: None,
         own: None,
-        later: None,
         area: names.area,
         offset: names.offset,
         map: names.map,

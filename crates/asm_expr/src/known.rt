@@ -1,13 +1,15 @@
 //! Names with an index.
 
-ghost use Rattle.std.specs.Prelude.{◌≡◌, ◌∷◌, ◌++◌, ◌-◌, ◌<◌, ◌^◌, [], ℕ, List, length, IfOk, OnOk, OnErr};
+ghost use Rattle.std.specs.Prelude.{◌≡◌, ◌∷◌, ◌++◌, ◌-◌, ◌<◌, ◌^◌, [], ℕ, List, length, not, is_some, IfOk, OnOk, OnErr};
 ghost use Rattle.std.specs.Option.{option_copied};
+ghost use Rattle.indexmap.specs.Entry.{entry_value};
 ghost use Rattle.asm_model.specs.Meaning.{named_in};
 ghost use Rattle.asm_expr.specs.Known.{place_in};
-ghost use Rattle.asm_expr.specs.Places.{entry as entry_at, one_entry, or_number};
+ghost use Rattle.asm_expr.specs.Places.{entry as entry_at, names_of, one_entry, or_number, place_of};
 
 use asm_model::{LaidName, SharedText};
 use indexmap::IndexMap;
+use indexmap::map::Entry;
 use sdt_fault::NoMemory;
 use std::alloc::Global;
 use std::marker::Model;
@@ -32,28 +34,42 @@ impl Model for KnownNames {
     ghost invariant = { λ a. IsIndexed a.entries.items a.places };
 }
 
-/// Notes the place of a name that has none yet. An `Err` changes nothing.
+/// Whether a name has no place yet.
+fn is_new(entry: &Entry<'_, SharedText, u32>) -> bool
+    ensures { result ≡ not (is_some (entry_value entry.now)) }
+{
+    match entry {
+        Entry::Occupied(_) => false,
+        Entry::Vacant(_) => true,
+    }
+}
+
+/// Notes the place of a name that has none yet, and tells whether it had none. An `Err` changes nothing.
 fn note(
     places: &mut IndexMap<SharedText, u32>,
     name: SharedText,
     place: u32,
-) -> Result<(), NoMemory>
+) -> Result<bool, NoMemory>
     ensures ok { OnOk result ((q : List ℕ) → place_in places.new q
         ≡ or_number (place_in places.old q) name place q) }
+    ensures new { IfOk result (λ new. new ≡ not (is_some (place_in places.old name))) }
     ensures err { OnErr result ((q : List ℕ) → place_in places.new q ≡ place_in places.old q) }
 {
-    places.entry(name)?.or_insert(place);
-    Ok(())
+    let entry = places.entry(name)?;
+    let new = is_new(&entry);
+    entry.or_insert(place);
+    Ok(new)
 }
 
-/// One entry more, with its place. An `Err` changes nothing.
+/// One entry more, with its place, and whether its name is new. An `Err` changes nothing.
 fn put(
     alloc: Global,
     entries: &mut Vec<LaidName>,
     places: &mut IndexMap<SharedText, u32>,
     entry: LaidName,
     place: u32,
-) -> Result<(), NoMemory>
+) -> Result<bool, NoMemory>
+    ensures new { IfOk result (λ new. new ≡ not (is_some (place_in places.old entry.name))) }
     ensures more { OnOk result (entries.new.items ≡ entries.old.items ++ entry ∷ []) }
     ensures noted { OnOk result ((q : List ℕ) → place_in places.new q
         ≡ or_number (place_in places.old q) entry.name place q) }
@@ -63,15 +79,17 @@ fn put(
 {
     let name = entry.name.share()?;
     entries.push(entry)?;
-    if note(places, name, place).is_err() {
-        entries.pop();
-        return Err(NoMemory);
+    match note(places, name, place) {
+        Ok(new) => Ok(new),
+        Err(e) => {
+            entries.pop();
+            Err(e)
+        }
     }
-    Ok(())
 }
 
 /// The entry at a place.
-fn entry_in(entries: &[LaidName], place: Option<u32>) -> Option<&LaidName>
+pub(crate) fn entry_in(entries: &[LaidName], place: Option<u32>) -> Option<&LaidName>
     ensures { option_copied result ≡ entry_at entries.now place }
 {
     match place {
@@ -101,16 +119,33 @@ impl KnownNames {
         })
     }
 
-    /// One entry more, behind the others. An `Err` changes nothing.
-    pub fn add(&mut self, alloc: Global, entry: LaidName) -> Result<(), NoMemory>
+    /// One entry more, behind the others, and whether its name is new. An `Err` changes nothing.
+    pub fn add(&mut self, alloc: Global, entry: LaidName) -> Result<bool, NoMemory>
         requires { length self.old < 2 ^ 32 - 1 }
         ensures ok { OnOk result (self.new ≡ self.old ++ entry ∷ []) }
+        ensures new { IfOk result (λ new. new ≡ not (is_some (named_in entry.name self.old))) }
         ensures err { OnErr result (self.new ≡ self.old) }
     {
         let place = self.entries.len() as u32;
         let entries = &mut self.entries;
-        put(alloc, entries, &mut self.places, entry, place)?;
-        Ok(())
+        let new = put(alloc, entries, &mut self.places, entry, place)?;
+        Ok(new)
+    }
+
+    /// The place of the first entry with the name.
+    pub(crate) fn place_of(&self, name: &SharedText) -> Option<u32>
+        ensures { result ≡ place_of name.now self.now }
+    {
+        self.places.get(name).copied()
+    }
+
+    /// The same names with other entries, found by the same index.
+    pub fn with_entries(self, entries: Vec<LaidName>) -> KnownNames
+        requires { names_of entries.items ≡ names_of self }
+        ensures { result ≡ entries.items }
+    {
+        let KnownNames { places, .. } = self;
+        KnownNames { entries, places }
     }
 
     /// The first entry with the name.
@@ -144,7 +179,18 @@ impl KnownNames {
     }
 }
 
-/// One entry more, where there is one. No more entries than numbers count as want of memory.
+/// One entry more, and whether its name is new. No more entries than numbers count as want of memory.
+pub fn add_new(alloc: Global, names: &mut KnownNames, entry: LaidName) -> Result<bool, NoMemory>
+    ensures more { OnOk result (names.new ≡ names.old ++ entry ∷ []) }
+    ensures new { IfOk result (λ new. new ≡ not (is_some (named_in entry.name names.old))) }
+{
+    if names.len() >= 0xFFFF_FFFF {
+        return Err(NoMemory);
+    }
+    names.add(alloc, entry)
+}
+
+/// One entry more, where there is one.
 pub fn add_entry(
     alloc: Global,
     names: &mut KnownNames,
@@ -155,8 +201,6 @@ pub fn add_entry(
     let Some(entry) = entry else {
         return Ok(());
     };
-    if names.len() >= 0xFFFF_FFFF {
-        return Err(NoMemory);
-    }
-    names.add(alloc, entry)
+    add_new(alloc, names, entry)?;
+    Ok(())
 }

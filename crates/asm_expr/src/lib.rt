@@ -21,14 +21,15 @@ pub mod readings;
 pub mod registers;
 pub mod rows;
 pub mod says;
+pub mod seen;
 pub mod slots;
 pub mod told;
 pub mod value;
 
 pub use crate::evaluating::evaluate;
 pub use crate::known::KnownNames;
-pub use crate::names::Seen;
 pub use crate::read::parse_expr;
 pub use crate::registers::register_named;
 pub use crate::says::parse_directive;
+pub use crate::seen::Seen;
 pub use crate::value::value_seen;

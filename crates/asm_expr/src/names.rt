@@ -4,29 +4,12 @@ ghost use Rattle.std.specs.Prelude.{◌≡◌, ◌++◌};
 ghost use Rattle.std.specs.Option.{option_copied};
 ghost use Rattle.asm_model.specs.Forms.{same};
 ghost use Rattle.asm_model.specs.Meaning.{named_in};
-ghost use Rattle.asm_expr.specs.Places.{one_entry};
-ghost use Rattle.asm_expr.specs.Seeing.{listed, seen_names};
+ghost use Rattle.asm_expr.specs.Places.{one_entry, AreFirst};
+ghost use Rattle.asm_expr.specs.Seeing.{seen_names};
 
-use crate::known::KnownNames;
+use crate::known::entry_in;
+use crate::seen::Seen;
 use asm_model::{LaidName, SharedText};
-
-/// What an expression is evaluated with.
-#[derive(Clone, Copy, Debug)]
-pub struct Seen<'a> {
-    /// The names, with what they mean.
-    pub names: &'a KnownNames,
-    /// One name more, which stands behind these.
-    pub own: Option<&'a LaidName>,
-    /// All names of the source, which mean something later and stand behind the others; None where all are known.
-    pub later: Option<&'a KnownNames>,
-    /// The statement's area, counted from 0; None before the first.
-    pub area: Option<u32>,
-    /// The statement's offset in its area.
-    pub offset: u32,
-    /// The storage map.
-    pub map: u32,
-    pub thumb: bool,
-}
 
 /// Whether two slices are equal.
 fn is(a: &[u8], b: &[u8]) -> bool
@@ -50,17 +33,7 @@ fn own_named<'a>(own: Option<&'a LaidName>, name: &SharedText) -> Option<&'a Lai
     }
 }
 
-/// The first entry with the name among names that may be there.
-fn later_named<'a>(later: Option<&'a KnownNames>, name: &SharedText) -> Option<&'a LaidName>
-    ensures { option_copied result ≡ named_in name.now (listed (option_copied later.entry)) }
-{
-    match later {
-        None => None,
-        Some(names) => names.find(name),
-    }
-}
-
-/// The first entry with the name among the known ones.
+/// The first entry with the name, where all names are known.
 fn known_named<'a>(seen: &Seen<'a>, name: &SharedText) -> Option<&'a LaidName>
     ensures { option_copied result
         ≡ named_in name.now (seen.now.names.now ++ one_entry (option_copied seen.now.own)) }
@@ -72,12 +45,33 @@ fn known_named<'a>(seen: &Seen<'a>, name: &SharedText) -> Option<&'a LaidName>
     own_named(seen.own, name)
 }
 
+/// The first entry with the name, where the first names are known. One place serves these and all.
+fn first_named<'a>(
+    seen: &Seen<'a>,
+    first: &'a [LaidName],
+    name: &SharedText,
+) -> Option<&'a LaidName>
+    requires { AreFirst first.now seen.now.names.now }
+    ensures { option_copied result ≡ named_in name.now
+        (first.now ++ one_entry (option_copied seen.now.own) ++ seen.now.names.now) }
+{
+    let names = seen.names;
+    let place = names.place_of(name);
+    if let Some(entry) = entry_in(first, place) {
+        return Some(entry);
+    }
+    if let Some(entry) = own_named(seen.own, name) {
+        return Some(entry);
+    }
+    entry_in(names.list(), place)
+}
+
 /// The first entry with the name.
 pub fn entry_named<'a>(seen: &Seen<'a>, name: &SharedText) -> Option<&'a LaidName>
     ensures { option_copied result ≡ named_in name.now (seen_names seen.now).list }
 {
-    if let Some(entry) = known_named(seen, name) {
-        return Some(entry);
+    match seen.first {
+        None => known_named(seen, name),
+        Some(first) => first_named(seen, first, name),
     }
-    later_named(seen.later, name)
 }

@@ -12,8 +12,9 @@ ghost use Rattle.std.specs.Cmp.Lexicographic.{slice_cmp};
 ghost use Rattle.asm_model.specs.Meaning as meaning;
 ghost use Rattle.asm_model.specs.declared.exprs.BinaryOp.TheVariants as op;
 
-use crate::names::{Seen, entry_named};
+use crate::names::entry_named;
 use crate::or_kind;
+use crate::seen::Seen;
 use asm_model::{BinaryOp, LaidName, SharedText, UnaryOp, Value};
 use sdt_fault::kinds::LineKind;
 use sdt_fault::{Bytes, NoMemory};

@@ -8,9 +8,10 @@ ghost use Rattle.asm_expr.specs.Evaluating as evaluating;
 ghost use Rattle.asm_expr.specs.Seeing.{seen_names};
 
 use crate::kinds::both;
-use crate::names::{Seen, entry_named};
+use crate::names::entry_named;
 use crate::operators::{binary, unary};
 use crate::or_kind;
+use crate::seen::Seen;
 use crate::slots::{Slot, known, slot_of};
 use asm_model::{
     BinaryOp, EvalFault, Expr, ExprItem, LaidName, Meaning, SharedText, UnaryOp, Value,

@@ -52,7 +52,7 @@ pub reaches : (d : List LaidName) (s : Statement) (before : List LaidLine) (old 
     → IsLaying d before old
     → next ≡ stepped s.what old.behind → new.behind ≡ next → Enters (area_named s.what) old.areas new.areas
     → ((pieces : List Piece) → IsBehind pieces new.areas.ends → offset ≡ aligned_end new.areas.current pieces old.behind.thumb s.what)
-    → new.map ≡ old.map → new.names ≡ old.names → new.all_known ≡ old.all_known → label ≡ (old.behind.thumb && next.code)
+    → new.map ≡ old.map → new.names.items ≡ old.names.items → new.all_known ≡ old.all_known → label ≡ (old.behind.thumb && next.code)
     → Reaches d s before new (record { area = new.areas.current; offset = offset; map = old.map; thumb = old.behind.thumb; thumb_label = label })
 reaches d s before old new next offset label h steps standing enters starts map names known thumbed =
     let area = area_behind (s ∷ statements_of before) in

@@ -246,7 +246,7 @@ pub lays : (d : List LaidName) (t : Bor Statement) (before : List LaidLine) (old
     → IsPlaced location.area (extent_of_code x) (pieces_of before) new.areas.ends p → length new.areas.ends ≡ length old.areas.ends
     → new.behind ≡ old.behind → new.map ≡ map → new.areas.numbers ≡ old.areas.numbers → new.areas.count ≡ old.areas.count
     → new.areas.current ≡ old.areas.current
-    → new.names ≡ old.names ++ one_entry (own_entry (defined_by t.now) location.area location.offset (Some p.size) location.thumb_label location.map)
+    → new.names.items ≡ old.names.items ++ one_entry (own_entry (defined_by t.now) location.area location.offset (Some p.size) location.thumb_label location.map)
     ++ one_entry equal.entry ++ imported_entries (imported_in t.now.what)
     → new.all_known ≡ (old.all_known && equal.known)
     → (strings : List Bool) → strings ≡ string_marks (names_behind d t.now before) t.now.what

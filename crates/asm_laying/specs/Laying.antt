@@ -1,6 +1,7 @@
 -- The state behind the lines of a source so far, and what a statement more gives. SDT 2.50 Reference Guide, chapter on the
 -- assembler. Lines are listed with the nearest first.
 use Rattle.std.specs.Prelude.{◌≡◌, ℕ, ◌+◌, ◌<◌, List, [], ◌∷◌, ◌++◌, length, nat_lt, Bool, true, Option, Some, None, Result, Ok, Err, IfOk}
+use Rattle.std.specs.Global.{Vec}
 use Rattle.sdt_fault.specs.declared.NoMemory.{NoMemory}
 use Rattle.sdt_fault.specs.declared.kinds.LineKind.{LineKind}
 use Rattle.sdt_fault.specs.declared.kinds.LineKind.TheVariants.{TooMany}
@@ -15,6 +16,7 @@ use Rattle.asm_model.specs.Labels.{Defined, Equal, defined_by, imported_in, impo
 use Rattle.asm_model.specs.Laid.{LaidLine, statements_of, lines_of, taken, pieces_of, map_behind, offset_behind, names_behind, laid_behind, tree_equated}
 use Rattle.asm_model.specs.Trees.{tree_of}
 use Rattle.asm_model.specs.LayoutKinds.{fault_kinds, map_kinds, area_bytes}
+use Rattle.asm_expr.specs.Places.{AreFirst}
 use Rattle.asm_names.specs.Defining.{own_entry}
 use Rattle.asm_names.specs.PlacedLines.{IsLine}
 use Rattle.asm_names.specs.Steps.{one_entry}
@@ -40,7 +42,7 @@ pub record IsLaying (declared : List LaidName) (before : List LaidLine) (state :
   pub standing : state.behind ≡ behind (statements_of before)
   pub areas : AreNumbered (areas_behind (statements_of before)) (area_behind (statements_of before)) (pieces_of before) state.areas
   pub map : state.map ≡ map_behind before
-  pub names : state.names ≡ seen_behind declared (lines_of before)
+  pub names : state.names.items ≡ seen_behind declared (lines_of before)
   pub known : state.all_known ≡ true → AreEqualsKnown before
 
 -- lines of a source were laid, and there may be one more
@@ -48,15 +50,17 @@ pub record MayLay (declared : List LaidName) (state : Laying) : Type 0 where
   pub before : List LaidLine
   pub laying : IsLaying declared before state
   pub few : length before < most_statements
+  -- the names that they know are the first of the source's
+  pub first : AreFirst state.names.items declared
 
 pub record MayStep (state : Laying) : Type 0 where
   pub declared : List LaidName
   pub may : MayLay declared state
 
 -- names that are known behind lines, where each line's name for an expression is known there
-abbrev pub AreKnownNames : List LaidName → List LaidLine → Option (List LaidName) → Type 0
+abbrev pub AreKnownNames : List LaidName → List LaidLine → Option (Vec LaidName) → Type 0
 AreKnownNames declared before None = Unit {0}
-AreKnownNames declared before (Some names) = AreEqualsKnown before × (names ≡ seen_behind declared (lines_of before))
+AreKnownNames declared before (Some names) = AreEqualsKnown before × (names.items ≡ seen_behind declared (lines_of before))
 
 -- what lines leave behind the last of them
 pub record IsEnded (declared : List LaidName) (before : List LaidLine) (e : Ended) : Type 0 where
@@ -81,7 +85,7 @@ pub record IsAt (declared : List LaidName) (s : Statement) (before : List LaidLi
   pub standing : state.behind ≡ behind (s ∷ statements_of before)
   pub areas : AreNumbered (areas_behind (s ∷ statements_of before)) (area_behind (s ∷ statements_of before)) (pieces_of before) state.areas
   pub map : state.map ≡ map_behind before
-  pub names : state.names ≡ seen_behind declared (lines_of before)
+  pub names : state.names.items ≡ seen_behind declared (lines_of before)
   pub known : state.all_known ≡ true → AreEqualsKnown before
 
 pub record Reaches (declared : List LaidName) (s : Statement) (before : List LaidLine) (state : Laying) (p : StatementPlace) : Type 0 where

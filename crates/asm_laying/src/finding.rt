@@ -2,6 +2,7 @@
 
 ghost use Rattle.std.specs.Prelude.{◌≡◌, Some, IfOk};
 ghost use Rattle.std.specs.Option.{option_copied};
+ghost use Rattle.asm_expr.specs.Places.{AreFirst};
 ghost use Rattle.asm_expr.specs.Seeing.{seen_names};
 ghost use Rattle.asm_model.specs.AtLine.{is_value};
 ghost use Rattle.asm_model.specs.Entries.{equal_entry as entry_of_equal};
@@ -118,21 +119,22 @@ pub fn unsized_entry(
 /// What a statement at a location needs, behind the lines that define these names.
 pub fn find(
     alloc: Global,
-    names: &KnownNames,
+    names: &[LaidName],
     declared: &KnownNames,
     own: Option<&LaidName>,
     location: &StatementPlace,
     statement: &Statement,
 ) -> Result<StatementValues, NoMemory>
-    requires { IsSaid statement.now }
+    requires first { AreFirst names.now declared.now }
+    requires said { IsSaid statement.now }
     ensures { IfOk result
         (λ found. Finds declared.now names.now
         (option_copied own.entry) location.now statement.now found) }
 {
     let seen = Seen {
-        names,
+        names: declared,
+        first: Some(names),
         own,
-        later: Some(declared),
         area: location.area,
         offset: location.offset,
         map: location.map,

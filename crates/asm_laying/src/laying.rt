@@ -5,7 +5,6 @@ ghost use Rattle.asm_model.specs.declared.names.LaidName.{LaidName};
 ghost use Rattle.asm_model.specs.Labels as labels;
 ghost use Rattle.asm_model.specs.Laid.{laid_behind, names_behind, LaidLine};
 ghost use Rattle.asm_model.specs.Said.{IsSaid};
-ghost use Rattle.asm_names.specs.Defining.{own_entry};
 ghost use Rattle.asm_names.specs.Steps.{one_entry};
 ghost use Rattle.asm_offsets.specs.Coded.{extent_of_code, IsExtent};
 ghost use Rattle.asm_offsets.specs.Running.{IsThere};
@@ -18,7 +17,7 @@ use crate::declarations::is_thumb_label;
 use crate::finding::{Equated, StatementValues, find, unsized_entry};
 use asm_model::{LaidName, Statement};
 use asm_names::defining::{Defines, defined_by};
-use asm_names::listing::{add_entry, add_imported};
+use asm_names::listing::imported_entry_of;
 use asm_names::{KnownNames, PlacedLine, StatementPlace};
 use asm_offsets::{Ends, Extent, TooLarge, extents_are_placeable};
 use sdt_fault::kinds::LineKind;
@@ -54,8 +53,8 @@ pub struct Laying {
     behind: CarriedState,
     areas: Areas,
     map: u32,
-    /// The names that are known.
-    names: KnownNames,
+    /// The names that are known, the first of those that the source declares.
+    names: Vec<LaidName>,
     /// Whether the value of each name for an expression was known at its line.
     all_known: bool,
 }
@@ -66,7 +65,7 @@ pub struct Ended {
     /// Where each area ends.
     pub ends: Ends,
     /// The names, where the value of each name for an expression was known at its line.
-    pub names: Option<KnownNames>,
+    pub names: Option<Vec<LaidName>>,
 }
 
 /// Gives the entry of a statement's own name its size: the statement's where it is a label.
@@ -89,7 +88,7 @@ fn still_known(all_known: bool, known: bool) -> bool
     all_known && known
 }
 
-fn names_if(all_known: bool, names: KnownNames) -> Option<KnownNames>
+fn names_if(all_known: bool, names: Vec<LaidName>) -> Option<Vec<LaidName>>
     ensures { result ≡ (if all_known then Some names else None) }
 {
     if all_known {
@@ -98,48 +97,40 @@ fn names_if(all_known: bool, names: KnownNames) -> Option<KnownNames>
     None
 }
 
+/// One entry more, where there is one. Most statements have none, and of an entry that isn't there nothing is moved.
+fn add_optional(names: &mut Vec<LaidName>, entry: Option<LaidName>) -> Result<(), NoMemory>
+    ensures { OnOk result (names.new.items ≡ names.old.items ++ one_entry entry) }
+{
+    if let Some(entry) = entry {
+        names.push(entry)?;
+    }
+    Ok(())
+}
+
 /// The entry of a statement's own name, which is taken, where it has one.
-fn add_own(
-    alloc: Global,
-    names: &mut KnownNames,
-    own: &mut Option<LaidName>,
-) -> Result<(), NoMemory>
-    ensures { OnOk result (names.new ≡ names.old ++ one_entry own.old) }
+fn add_own(names: &mut Vec<LaidName>, own: &mut Option<LaidName>) -> Result<(), NoMemory>
+    ensures { OnOk result (names.new.items ≡ names.old.items ++ one_entry own.old) }
 {
     if own.is_none() {
         return Ok(());
     }
-    add_entry(alloc, names, own.take())
-}
-
-/// One entry more, where there is one. Most statements have none, and of an entry that isn't there nothing is moved.
-fn add_optional(
-    alloc: Global,
-    names: &mut KnownNames,
-    entry: Option<LaidName>,
-) -> Result<(), NoMemory>
-    ensures { OnOk result (names.new ≡ names.old ++ one_entry entry) }
-{
-    match entry {
-        None => Ok(()),
-        Some(entry) => add_entry(alloc, names, Some(entry)),
-    }
+    add_optional(names, own.take())
 }
 
 /// The names that a statement adds to those that are known.
 fn add_names(
-    names: &mut KnownNames,
+    names: &mut Vec<LaidName>,
     alloc: Global,
     statement: &Statement,
     own: &mut Option<LaidName>,
     equal: Option<LaidName>,
 ) -> Result<(), NoMemory>
     ensures { OnOk result
-        (names.new ≡ laying.with_entries names.old own.old equal statement.now) }
+        (names.new.items ≡ laying.with_entries names.old.items own.old equal statement.now) }
 {
-    add_own(alloc, names, own)?;
-    add_optional(alloc, names, equal)?;
-    add_imported(alloc, names, &statement.what)
+    add_own(names, own)?;
+    add_optional(names, equal)?;
+    add_optional(names, imported_entry_of(alloc, &statement.what)?)
 }
 
 impl Laying {
@@ -152,7 +143,7 @@ impl Laying {
             behind: START,
             areas: Areas::new(alloc),
             map: 0,
-            names: KnownNames::with_capacity(alloc, names)?,
+            names: Vec::with_capacity(alloc, names)?,
             all_known: true,
         })
     }
@@ -298,7 +289,7 @@ impl Laying {
         let mut own = unsized_entry(alloc, statement, &location)?;
         let found = find(
             alloc,
-            &self.names,
+            self.names.as_slice(),
             declared,
             own.as_ref(),
             &location,

@@ -3,7 +3,6 @@ use Rattle.std.proofs.Common.{◌≡◌, ℕ, List, [], ◌∷◌, ◌++◌, Opt
 use Rattle.sdt_fault.specs.declared.kinds.LineKind.{LineKind}
 use Rattle.asm_checks.specs.Late.{AreWhole}
 use Rattle.asm_checks.specs.Starts.{AreStarts}
-use Rattle.asm_names.specs.Source.{IsReadDefined, AreRead}
 use Rattle.asm_model.specs.declared.directives.DirectiveLine.{DirectiveLine}
 use Rattle.asm_model.specs.declared.directives.DirectiveLine.TheVariants as line
 use Rattle.asm_model.specs.declared.statements.Statement.{Statement}
@@ -30,31 +29,13 @@ use Rattle.asm_laying.specs.Laying.{AreKnownNames}
 use Rattle.asm_laying.specs.declared.laying.LaidStatement.{LaidStatement}
 use Rattle.asm_layout.specs.declared.outline.Outline.{Outline}
 use Rattle.asm_layout.specs.declared.walking.Walk.{Walk}
-use Rattle.asm_layout.specs.Finishing.{IsNamed, IsWhole}
+use Rattle.asm_layout.specs.Finishing.{IsNamed, IsWhole, AreAllNames}
+use Rattle.asm_layout.proofs.SeenLemmas.{names_kept}
+use Rattle.asm_layout.proofs.WalkLemmas.{all_read}
+use Rattle.asm_expr.specs.Places.{names_of}
+use Rattle.std.specs.Global.{Vec}
 use Rattle.asm_layout.proofs.ToldLemmas.{none_parts}
 use Rattle.asm_model.proofs.SaidLemmas.{are_plain as all_plain}
-
--- ---- statements as lines say them
-
-pub said_reversed : (ss acc : List Statement) → AllSaid ss → AllSaid acc → AllSaid (reversed ss acc)
-said_reversed [] acc h k = k
-said_reversed (s ∷ ss) acc h k = said_reversed ss (s ∷ acc) h.1 (h.0, k)
-
-read_directive : (name : List ℕ) (d : DirectiveLine) → WhatSaid (what.Directive d) → IsReadDefined (directive_defines name d)
-read_directive name (line.Equ e) h = (h.parts, h.tree, h.spelled, h.items)
-read_directive name _ h = tt
-
-read_what : (name : List ℕ) (w : What) → WhatSaid w → IsReadDefined (what_defines name w)
-read_what name (what.Directive d) h = read_directive name d h
-read_what name _ h = tt
-
-read_field : (label : Option (List ℕ)) (w : What) → WhatSaid w → IsReadDefined (field_defines label w)
-read_field None w h = tt
-read_field (Some name) w h = read_what name w h
-
-all_read : (ss : List Statement) → AllSaid ss → AreRead ss
-all_read [] h = tt
-all_read (s ∷ ss) h = (read_field s.label s.what h.0.read, all_read ss h.1)
 
 -- ---- a source without faults at its lines
 
@@ -110,9 +91,17 @@ named_is statements o w h = record {
   found = λ q. ap (named_in q) h.outlined.names;
 }
 
-pub names_are : KnownNamesAreFinal → (statements : List Statement) (xs : List LaidStatement) (declared names : List LaidName) → IsNamed statements xs declared
-    → AreKnownNames (declared_names statements) (laid statements) (Some names) → names ≡ final_names (laid statements)
+pub names_are : KnownNamesAreFinal → (statements : List Statement) (xs : List LaidStatement) (declared : List LaidName) (names : Vec LaidName)
+    → IsNamed statements xs declared
+    → AreKnownNames (declared_names statements) (laid statements) (Some names) → names.items ≡ final_names (laid statements)
 names_are law statements xs declared names h k = k.1 ∙ law statements h.sound h.plain k.0
+
+-- names that its lines know
+pub all_named : (statements : List Statement) (o : Outline) (w : Walk) (known : Option (Vec LaidName)) → IsWhole statements o w
+    → AreKnownNames (declared_names statements) (laid statements) known → AreAllNames known o.names
+all_named statements o w None h k = tt
+all_named statements o w (Some names) h k =
+    ap names_of k.1 ∙ names_kept (declared_names statements) statements (all_read statements h.said) ∙ ap names_of (sym h.outlined.names)
 
 pub faults_are : (statements : List Statement) (o : Outline) (w : Walk) → IsWhole statements o w
     → layout_faults statements ≡ first_late (laid statements) [] (reversed (laid statements) [])

@@ -1,5 +1,5 @@
 -- What laying a line needs to know of the whole source.
-use Rattle.std.proofs.Common.{◌≡◌, ℕ, List, [], ◌∷◌, ◌++◌, ◌||◌, Bool, true, false, not, cond, map, Option, Some, None, refl, sym, ap, ◌∙◌, append_assoc, append-nil}
+use Rattle.std.proofs.Common.{◌≡◌, ℕ, List, [], ◌∷◌, ◌++◌, ◌||◌, ◌&&◌, Bool, true, false, not, cond, map, Option, Some, None, refl, sym, ap, ◌∙◌, append_assoc, append-nil}
 use Rattle.std.specs.List.{list_any}
 use Rattle.std.specs.Borrow.{Bor}
 use Rattle.std.specs.Option.{is_some, option_copied}
@@ -12,14 +12,17 @@ use Rattle.asm_model.specs.Directives.{or_else}
 use Rattle.asm_model.specs.Entries.{later_entry}
 use Rattle.asm_model.specs.Forms.{same}
 use Rattle.asm_model.specs.Meaning.{named_in}
-use Rattle.asm_model.specs.Before.{is_thumb_label}
+use Rattle.asm_model.specs.Before.{is_thumb_label, thumb_behind, code_from, code_behind}
 use Rattle.asm_model.specs.Labels.{Defined, Unnamed, Label, Equal, MapField, RegisterName, defined_by, imported_in, declared_entries, declared_imports, declared_names}
-use Rattle.asm_model.specs.LayoutKinds.{own_name, listed, names_behind, first_equal, equals_in, settled}
+use Rattle.asm_model.specs.LayoutKinds.{own_name, listed, names_in, names_behind, is_repeated, first_equal, equals_in, settled}
 use Rattle.asm_model.proofs.SharedLemmas.{same_back}
 use Rattle.layout_laws.proofs.RoundLemmas.{named_joined}
 use Rattle.asm_names.specs.declared.equals.Equal.{Equal as Code}
 use Rattle.asm_names.specs.Equals.{pairs_of}
 use Rattle.asm_names.specs.Order.{is_settled}
+use Rattle.asm_expr.specs.Places.{names_of}
+use Rattle.asm_names.specs.Steps.{one_entry}
+use Rattle.asm_laying.specs.Declaring.{declared_again, declared_entry}
 use Rattle.asm_layout.specs.declared.outline.Listed.{Listed}
 use Rattle.asm_layout.specs.Outline.{IsListed, pair_if, first_of, firsts_in, circle_of, circles_in, marks_of, settled_marks}
 
@@ -32,10 +35,10 @@ any_named q xs ys = ap is_some (named_joined q xs ys) ∙ some_or (named_in q xs
     some_or None p = refl
     some_or (Some n) p = refl
 
-one_named : (q name : List ℕ) (thumb : Bool) → is_some (named_in q (later_entry name thumb ∷ [])) ≡ list_any (same q) (name ∷ [])
-one_named q name thumb = by_test (same name q) (same q name) (same_back name q)
+one_named : (q : List ℕ) (n : LaidName) → is_some (named_in q (n ∷ [])) ≡ list_any (same q) (n.name ∷ [])
+one_named q n = by_test (same n.name q) (same q n.name) (same_back n.name q)
   where
-    by_test : (a b : Bool) → a ≡ b → is_some (cond a (Some (later_entry name thumb)) None) ≡ (b || false)
+    by_test : (a b : Bool) → a ≡ b → is_some (cond a (Some n) None) ≡ (b || false)
     by_test true true e = refl
     by_test false false e = refl
     by_test true false e = absurd (cc)
@@ -44,14 +47,14 @@ one_named q name thumb = by_test (same name q) (same q name) (same_back name q)
 own_named : (q : List ℕ) (x : Defined) (s : Statement) (before : List Statement)
     → is_some (named_in q (declared_entries x s before)) ≡ list_any (same q) (own_name x)
 own_named q Unnamed s before = refl
-own_named q (Label name) s before = one_named q name (is_thumb_label s before)
-own_named q (Equal name e) s before = one_named q name false
-own_named q (MapField name) s before = one_named q name false
-own_named q (RegisterName name r) s before = one_named q name false
+own_named q (Label name) s before = one_named q (later_entry name (is_thumb_label s before))
+own_named q (Equal name e) s before = one_named q (later_entry name false)
+own_named q (MapField name) s before = one_named q (later_entry name false)
+own_named q (RegisterName name r) s before = one_named q (later_entry name false)
 
 import_named : (q : List ℕ) (o : Option (List ℕ)) → is_some (named_in q (declared_imports o)) ≡ list_any (same q) (listed o)
 import_named q None = refl
-import_named q (Some name) = one_named q name false
+import_named q (Some name) = one_named q (later_entry name false)
 
 -- a name is declared by statements that define it
 pub is_named : (q : List ℕ) (ss : List Statement) → is_some (named_in q (declared_names ss)) ≡ list_any (same q) (names_behind ss)
@@ -69,6 +72,53 @@ is_named q (s ∷ ss) =
     (any_named q (declared_names ss) own)
     ∙ turned
     ∙ sym (list_any-append (same q) (own_name x ++ listed i) (names_behind ss) ∙ ap (λ (t : Bool). t || a) (list_any-append (same q) (own_name x) (listed i)))
+
+-- ---- names that are declared again
+
+names_declared : (x : Defined) (o : Option (List ℕ)) (s : Statement) (before : List Statement)
+    → names_of (declared_entries x s before ++ declared_imports o) ≡ own_name x ++ listed o
+names_declared Unnamed None s before = refl
+names_declared Unnamed (Some i) s before = refl
+names_declared (Label name) None s before = refl
+names_declared (Label name) (Some i) s before = refl
+names_declared (Equal name e) None s before = refl
+names_declared (Equal name e) (Some i) s before = refl
+names_declared (MapField name) None s before = refl
+names_declared (MapField name) (Some i) s before = refl
+names_declared (RegisterName name r) None s before = refl
+names_declared (RegisterName name r) (Some i) s before = refl
+
+again_is : (old : List LaidName) (names : List (List ℕ)) (ns : List LaidName) → ((q : List ℕ) → is_some (named_in q old) ≡ list_any (same q) names)
+    → declared_again old ns ≡ is_repeated names (names_of ns)
+again_is old names [] h = refl
+again_is old names (n ∷ ns) h =
+    let more : (q : List ℕ) → is_some (named_in q (old ++ n ∷ [])) ≡ list_any (same q) (n.name ∷ names) =
+    λ q. any_named q old (n ∷ []) ∙ rw (h q, one_named q n) (turned (list_any (same q) names) (same q n.name)) in
+    rw (h n.name, again_is (old ++ n ∷ []) (n.name ∷ names) ns more) refl
+  where
+    turned : (a b : Bool) → (a || (b || false)) ≡ (b || a)
+    turned true true = refl
+    turned true false = refl
+    turned false true = refl
+    turned false false = refl
+
+-- a statement declares its names by what stands before it
+pub declared_is : (x : Defined) (s : Statement) (before : List Statement)
+    → one_entry (declared_entry x (thumb_behind before && code_from s.what (code_behind before))) ≡ declared_entries x s before
+declared_is Unnamed s before = refl
+declared_is (Label name) s before = refl
+declared_is (Equal name e) s before = refl
+declared_is (MapField name) s before = refl
+declared_is (RegisterName name r) s before = refl
+
+-- a statement declares a name again where it defines one that statements before it define
+pub repeats_is : (s : Statement) (before : List Statement)
+    → declared_again (declared_names before) (declared_entries (defined_by s) s before ++ declared_imports (imported_in s.what))
+    ≡ is_repeated (names_behind before) (names_in s)
+repeats_is s before =
+    again_is (declared_names before) (names_behind before) (declared_entries (defined_by s) s before ++ declared_imports (imported_in s.what))
+    (λ q. is_named q before)
+    ∙ ap (is_repeated (names_behind before)) (names_declared (defined_by s) (imported_in s.what) s before)
 
 pub copied_some : (o : Option (Bor LaidName)) → is_some o ≡ is_some (option_copied o)
 copied_some None = refl

@@ -1,5 +1,5 @@
 -- A line more.
-use Rattle.std.proofs.Common.{◌≡◌, ◌≤◌, ℕ, ◌+◌, ◌||◌, Bool, true, false, not, cond, List, [], ◌∷◌, ◌++◌, length, Option, Some, None, Result, Ok, Err, refl, sym, ap, ◌∙◌, subst, arith}
+use Rattle.std.proofs.Common.{◌≡◌, ◌≤◌, ℕ, ◌+◌, ◌||◌, Bool, true, false, not, cond, List, [], ◌∷◌, ◌++◌, length, Option, Some, None, Result, Ok, Err, refl, sym, ap, ◌∙◌, subst, arith, length-append}
 use Rattle.std.specs.Prelude.{nat_lt}
 use Rattle.std.specs.List.{list_any}
 use Rattle.sdt_fault.specs.declared.kinds.LineKind.{LineKind}
@@ -37,10 +37,16 @@ use Rattle.asm_model.specs.Forms.{same}
 use Rattle.source_model.specs.Registers.{register_kinds}
 use Rattle.asm_layout.specs.declared.walking.CheckedLine.{CheckedLine}
 use Rattle.asm_layout.specs.declared.walking.Walk.{Walk}
-use Rattle.asm_layout.specs.Layout.{IsTold}
+use Rattle.asm_layout.specs.Layout.{AreStatements, IsTold}
 use Rattle.asm_layout.specs.Outline.{circle_of}
 use Rattle.asm_layout.specs.Walking.{IsMark, HasMark, IsCounted, one_more, or_false, IsWalking, IsCheckedLine, Keeps, told_by}
 use Rattle.asm_layout.proofs.ToldLemmas.{none_first, none_parts, told_parts}
+
+-- ---- how many lines there are
+
+pub lines_long : (before : List LaidLine) (xs : List LaidStatement) → AreStatements before xs → length xs ≡ length before
+lines_long [] xs h = ap length h
+lines_long (l ∷ before) xs h = ap length h.2 ∙ length-append h.0 (h.1 ∷ []) ∙ ap (λ (n : ℕ). n + 1) (lines_long before h.0 h.4) ∙ omega arith
 
 -- ---- the number that checks ask for
 

@@ -1,10 +1,12 @@
 -- A source whose lines have no fault of their own. This project's.
-use Rattle.std.specs.Prelude.{◌≡◌, ℕ, List, Option, Result, Ok}
+use Rattle.std.specs.Prelude.{◌≡◌, ℕ, List, Option, Some, None, Result, Ok}
+use Rattle.std.specs.Global.{Vec}
 use Rattle.sdt_fault.specs.declared.answer.Fault.{Fault}
 use Rattle.asm_model.specs.declared.names.LaidName.{LaidName}
 use Rattle.asm_model.specs.declared.statements.Statement.{Statement}
 use Rattle.asm_model.specs.Meaning.{named_in}
 use Rattle.asm_laying.specs.declared.laying.LaidStatement.{LaidStatement}
+use Rattle.asm_expr.specs.Places.{names_of}
 use Rattle.asm_names.specs.Source.{AreRead}
 use Rattle.asm_model.specs.Sound.{IsSound, ArePlain}
 use Rattle.asm_model.specs.Labels.{declared_names}
@@ -31,16 +33,25 @@ abbrev pub AreNames : List LaidStatement → List LaidName → List LaidName →
 AreNames xs declared names = (statements : List Statement) → IsNamed statements xs declared → names ≡ final_names (laid statements)
 
 -- or of those whose lines know these
-abbrev pub AreNamesOf : List LaidStatement → List LaidName → Option (List LaidName) → List LaidName → Type 0
+abbrev pub AreNamesOf : List LaidStatement → List LaidName → Option (Vec LaidName) → List LaidName → Type 0
 AreNamesOf xs declared known names =
     (statements : List Statement) → IsNamed statements xs declared → AreKnownNames (declared_names statements) (laid statements) known
     → names ≡ final_names (laid statements)
+
+-- names that lines know, where they know all, are of the names that a source declares
+abbrev pub AreAllNames : Option (Vec LaidName) → List LaidName → Type 0
+AreAllNames None declared = Unit {0}
+AreAllNames (Some known) declared = names_of known.items ≡ names_of declared
 
 -- a source whose lines are laid
 pub record IsWhole (statements : List Statement) (o : Outline) (w : Walk) : Type 0 where
   pub said : AllSaid statements
   pub outlined : IsOutline statements o
   pub walked : IsWalked statements (Ok w)
+
+pub record MayFinish (o : Outline) (w : Walk) : Type 0 where
+  pub statements : List Statement
+  pub whole : IsWhole statements o w
 
 abbrev pub Finishes : Outline → Walk → Result Layout Fault → Type 0
 Finishes o w r = (statements : List Statement) → IsWhole statements o w → IsOutcome statements r

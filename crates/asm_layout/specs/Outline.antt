@@ -5,7 +5,7 @@ use Rattle.asm_model.specs.declared.exprs.Expr.{Expr}
 use Rattle.asm_model.specs.declared.statements.Statement.{Statement}
 use Rattle.asm_model.specs.Forms.{same}
 use Rattle.asm_model.specs.Labels.{Defined, Equal, defined_by, declared_names}
-use Rattle.asm_model.specs.LayoutKinds.{names_behind, first_equal, equals_in, settled}
+use Rattle.asm_model.specs.LayoutKinds.{names_in, names_behind, is_repeated, first_equal, equals_in, settled}
 use Rattle.asm_model.specs.Laid.{reversed}
 use Rattle.asm_checks.specs.States.{AreStates}
 use Rattle.asm_laying.specs.declared.carried.CarriedState.{CarriedState}
@@ -50,6 +50,13 @@ abbrev pub IsMarked : Bool → List Bool → ℕ → Bool → ℕ → Type 0
 IsMarked first settled taken mark next =
     (rest : List Bool) → marks_of (first ∷ rest) (drop taken settled) ≡ mark ∷ marks_of rest (drop next settled)
 
+-- ---- names that are defined again
+
+-- whether a statement defines a name that one before it defines, or one name twice; of each
+abbrev pub repeats_in : List Statement → List Bool
+repeats_in [] = []
+repeats_in (s ∷ before) = repeats_in before ++ is_repeated (names_behind before) (names_in s) ∷ []
+
 -- ---- lists of code
 
 -- whether each of the names is settled
@@ -66,6 +73,7 @@ pub record IsListed (statements : List Statement) (l : Listed) : Type 0 where
   pub names : l.names ≡ declared_names statements
   pub equals : pairs_of l.equals.items ≡ equals_in statements
   pub firsts : l.firsts.items ≡ firsts_in statements
+  pub repeats : l.repeated.items ≡ repeats_in statements
 
 -- what is listed of statements of which these are left
 pub record IsListing (statements left : List Statement) (b : CarriedState) (l : Listed) : Type 0 where
@@ -78,6 +86,7 @@ pub record IsListing (statements left : List Statement) (b : CarriedState) (l : 
 -- what is listed of a statement more, but for its names
 pub record Lists (s : Statement) (old new : Listed) : Type 0 where
   pub names : new.names ≡ old.names
+  pub repeats : new.repeated ≡ old.repeated
   pub equals : (before : List Statement) → old.names ≡ declared_names before
       → pairs_of new.equals.items ≡ pairs_of old.equals.items ++ first_equal (defined_by s) before
   pub firsts : (before : List Statement) → old.names ≡ declared_names before
@@ -87,3 +96,4 @@ pub record IsOutline (statements : List Statement) (o : Outline) : Type 0 where
   pub names : o.names ≡ declared_names statements
   pub states : AreStates statements o.states
   pub marks : o.circular.items ≡ circles_in (settled (equals_in statements)) statements
+  pub repeats : o.repeated.items ≡ repeats_in statements

@@ -16,7 +16,7 @@ use Rattle.asm_model.specs.declared.names.LaidName.{LaidName}
 use Rattle.asm_model.specs.Labels.{Defined, Equal, defined_by, declared_names}
 use Rattle.asm_model.specs.Laid.{LaidLine, statements_of, names_behind, laid, laid_behind, laid_of, reversed}
 use Rattle.asm_model.specs.Meaning.{named_in}
-use Rattle.asm_model.specs.LayoutKinds.{layout_kinds, equals_in, settled, in_thumb_area, told_at}
+use Rattle.asm_model.specs.LayoutKinds.{layout_kinds, equals_in, settled, in_thumb_area, told_at, is_repeated, names_in, names_behind as source_names}
 use Rattle.source_model.specs.Registers.{register_names, register_kinds}
 use Rattle.source_model.specs.SourceFaults.{first_laid}
 use Rattle.asm_layout.specs.declared.outline.Outline.{Outline}
@@ -53,12 +53,13 @@ abbrev pub HasMark : List Bool → ℕ → List Bool → Type 0
 HasMark marks n [] = Unit {0}
 HasMark marks n (b ∷ bs) = slice_get marks n ≡ Some b
 
--- what an outline with these names and marks says of a statement behind lines: whether its name depends on itself; and names
--- that its line knows are among the outline's
-pub record IsOutlined (d : List LaidName) (settled : List (List ℕ)) (marks : List Bool) (s : Statement) (before : List LaidLine) : Type
+-- what an outline with these names and marks says of a statement behind lines: whether its name depends on itself, and whether it
+-- defines a name again; and names that its line knows are among the outline's
+pub record IsOutlined (d : List LaidName) (settled : List (List ℕ)) (marks repeats : List Bool) (s : Statement) (before : List LaidLine) : Type
     0 where
   pub mark : HasMark marks (length (circles_in settled (statements_of before))) (circle_of settled (defined_by s) (statements_of before))
   pub names : (q : List ℕ) → is_some (named_in q (names_behind d s before).list) ≡ is_some (named_in q d)
+  pub repeated : slice_get repeats (length before) ≡ Some (is_repeated (source_names (statements_of before)) (names_in s))
 
 -- ---- lines so far
 
@@ -96,7 +97,7 @@ pub record IsCheckedLine (d : List LaidName) (names settled : List (List ℕ)) (
 abbrev pub ChecksLine : Outline → Statement → Walk → Walk → CheckedLine → Type 0
 ChecksLine o s old new j =
     (names settled : List (List ℕ)) (all : List Statement) (before : List LaidLine) → AreStates all o.states
-    → IsWalking o.names names settled all before old → IsOutlined o.names settled o.circular.items s before
+    → IsWalking o.names names settled all before old → IsOutlined o.names settled o.circular.items o.repeated.items s before
     → IsCheckedLine o.names names settled all (laid_behind o.names s before) before old new j
 
 -- a line without a fault is kept
@@ -129,7 +130,7 @@ KeepsOrTells s j old new r =
 abbrev pub StepsOn : Outline → Statement → Walk → Walk → Result (Unit {0}) Fault → Type 0
 StepsOn o s old new r =
     (names settled : List (List ℕ)) (all : List Statement) (before : List LaidLine) → AreStates all o.states
-    → IsWalking o.names names settled all before old → IsOutlined o.names settled o.circular.items s before
+    → IsWalking o.names names settled all before old → IsOutlined o.names settled o.circular.items o.repeated.items s before
     → Steps o.names names settled all (laid_behind o.names s before) before new r
 
 -- ---- all lines

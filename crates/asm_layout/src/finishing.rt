@@ -2,7 +2,7 @@
 
 ghost use Rattle.std.specs.Prelude.{IfOk};
 ghost use Rattle.asm_layout.specs.Areas.{AreAreasOf};
-ghost use Rattle.asm_layout.specs.Finishing.{AreNames, AreNamesOf, Finishes};
+ghost use Rattle.asm_layout.specs.Finishing.{AreAllNames, AreNames, AreNamesOf, Finishes, MayFinish};
 
 use crate::areas::areas_of;
 use crate::laid::{LaidArea, Layout};
@@ -12,6 +12,7 @@ use crate::placed_lines::lines_of;
 use crate::walking::Walk;
 use asm_checks::AreaStart;
 use asm_laying::laying::{Ended, LaidStatement};
+use asm_model::LaidName;
 use asm_names::{KnownNames, final_names};
 use asm_offsets::{LaidPools, extents_are_placeable};
 use layout_laws::laws::known_names_are_final;
@@ -37,15 +38,16 @@ fn made_names(
 fn names_of(
     alloc: Global,
     laid: &[LaidStatement<'_>],
-    declared: &KnownNames,
-    known: Option<KnownNames>,
+    declared: KnownNames,
+    known: Option<Vec<LaidName>>,
 ) -> Result<KnownNames, NoMemory>
-    ensures { IfOk result (λ names. AreNamesOf laid.now declared.now known names) }
+    requires { AreAllNames known declared }
+    ensures { IfOk result (λ names. AreNamesOf laid.now declared known names) }
 {
     known_names_are_final();
     match known {
-        Some(names) => Ok(names),
-        None => made_names(alloc, laid, declared),
+        Some(entries) => Ok(declared.with_entries(entries)),
+        None => made_names(alloc, laid, &declared),
     }
 }
 
@@ -53,12 +55,13 @@ fn names_of(
 fn names_and_areas(
     alloc: Global,
     laid: &[LaidStatement<'_>],
-    declared: &KnownNames,
-    known: Option<KnownNames>,
+    declared: KnownNames,
+    known: Option<Vec<LaidName>>,
     starts: Vec<AreaStart>,
     pools: Vec<LaidPools>,
 ) -> Result<(KnownNames, Vec<LaidArea>), NoMemory>
-    ensures names { IfOk result (λ both. AreNamesOf laid.now declared.now known both.0) }
+    requires { AreAllNames known declared }
+    ensures names { IfOk result (λ both. AreNamesOf laid.now declared known both.0) }
     ensures areas { IfOk result (λ both. AreAreasOf starts.items pools.items both.1.items) }
 {
     let names = match names_of(alloc, laid, declared, known) {
@@ -78,8 +81,9 @@ fn names_and_areas(
 }
 
 /// The layout, or the refusal of the first line with a fault that needs the whole layout.
-pub fn finished<'a>(alloc: Global, outline: &Outline, walk: Walk<'a>) -> Result<Layout<'a>, Fault>
-    ensures { Finishes outline.now walk.entry result }
+pub fn finished<'a>(alloc: Global, outline: Outline, walk: Walk<'a>) -> Result<Layout<'a>, Fault>
+    requires { MayFinish outline walk }
+    ensures { Finishes outline walk.entry result }
 {
     extents_are_placeable();
     let Walk {
@@ -90,22 +94,28 @@ pub fn finished<'a>(alloc: Global, outline: &Outline, walk: Walk<'a>) -> Result<
         lines,
         ..
     } = walk;
-    drop((checks, registers));
+    let Outline {
+        names: declared,
+        circular,
+        repeated,
+        states,
+    } = outline;
+    drop((checks, registers, circular, repeated, states));
     let Ended { ends, names } = laying.end();
     let pools = match ends.finish() {
         Ok(pools) => pools,
         Err(e) => {
-            drop((starts, lines, names));
+            drop((starts, lines, names, declared));
             return Err(Fault::from(e));
         }
     };
     if let Err(fault) = cleared(alloc, lines.as_slice(), pools.as_slice()) {
-        drop((starts, lines, names, pools));
+        drop((starts, lines, names, declared, pools));
         return Err(fault);
     }
     let starts = starts.into_vec();
     let laid = lines.as_slice();
-    match names_and_areas(alloc, laid, &outline.names, names, starts, pools) {
+    match names_and_areas(alloc, laid, declared, names, starts, pools) {
         Ok((names, areas)) => Ok(Layout {
             areas: Listed::from_vec(areas),
             statements: Listed::from_vec(lines),

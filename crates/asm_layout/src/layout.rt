@@ -18,16 +18,21 @@ use std::alloc::Global;
 /// Lays out statements that this is known of.
 fn laid_out<'a>(
     alloc: Global,
-    outline: &Outline,
+    outline: Outline,
     statements: &'a [Statement],
 ) -> Result<Layout<'a>, Fault>
-    requires outline { IsOutline (reversed statements.now []) outline.now }
+    requires outline { IsOutline (reversed statements.now []) outline }
     requires few { length statements.now < most_statements + 1 }
     requires said { AllSaid statements.now }
     ensures { IsOutcome (reversed statements.now []) result }
 {
-    let walk = walked(alloc, outline, statements)?;
-    finished(alloc, outline, walk)
+    match walked(alloc, &outline, statements) {
+        Ok(walk) => finished(alloc, outline, walk),
+        Err(fault) => {
+            drop(outline);
+            Err(fault)
+        }
+    }
 }
 
 /// Lays out statements in the order of their source. A refusal is BadLine at the first line with a fault, of those that need
@@ -39,7 +44,5 @@ pub fn lay_out(alloc: Global, statements: &[Statement]) -> Result<Layout<'_>, Fa
     ensures { IsOutcome (reversed statements.now []) result }
 {
     let outline = outline_of(alloc, statements)?;
-    let laid = laid_out(alloc, &outline, statements);
-    drop(outline);
-    laid
+    laid_out(alloc, outline, statements)
 }

@@ -9,7 +9,7 @@ ghost use Rattle.asm_layout.specs.Outline.{marks_of, settled_marks, pair_if, IsO
 use crate::states::states_of;
 use asm_checks::States;
 use asm_laying::carried::START;
-use asm_laying::declarations::declare_one;
+use asm_laying::declarations::{Declared, declare_one};
 use asm_model::{Expr, SharedText, Statement};
 use asm_names::defining::{Defines, defined_by};
 use asm_names::{Equal, KnownNames, order_of};
@@ -24,6 +24,8 @@ pub struct Outline {
     /// For each statement with a name for an expression, in the order of the source, whether it is the first that defines
     /// the name, and the name depends on itself or on one that does.
     pub circular: Vec<bool>,
+    /// For each statement, in the order of the source, whether it defines a name that is defined before it.
+    pub repeated: Vec<bool>,
     /// The states of the areas.
     pub states: States,
 }
@@ -36,6 +38,8 @@ struct Listed<'a> {
     equals: Vec<Equal<'a>>,
     /// For each statement with a name for an expression whether it is the first that defines the name.
     firsts: Vec<bool>,
+    /// For each statement whether it defines a name that is defined before it.
+    repeated: Vec<bool>,
 }
 
 /// Notes a name with its expression, where this is the first that defines the name.
@@ -82,7 +86,12 @@ fn list_each<'a>(
             [] => return Ok(()),
             [statement, rest @ ..] => {
                 list_equal(listed, statement)?;
-                behind = declare_one(alloc, &mut listed.names, behind, statement)?;
+                let Declared {
+                    behind: next,
+                    repeated,
+                } = declare_one(alloc, &mut listed.names, behind, statement)?;
+                listed.repeated.push(repeated)?;
+                behind = next;
                 left = rest;
             }
         }
@@ -94,9 +103,10 @@ fn list_all<'a>(alloc: Global, statements: &'a [Statement]) -> Result<Listed<'a>
     ensures { IfOk result (λ l. IsListed (reversed statements.now []) l) }
 {
     let mut listed = Listed {
-        names: KnownNames::new(alloc),
+        names: KnownNames::with_capacity(alloc, statements.len())?,
         equals: Vec::new(alloc),
         firsts: Vec::new(alloc),
+        repeated: Vec::new(alloc),
     };
     match list_each(alloc, &mut listed, statements) {
         Ok(()) => Ok(listed),
@@ -162,6 +172,7 @@ pub fn outline_of(alloc: Global, statements: &[Statement]) -> Result<Outline, No
         names,
         equals,
         firsts,
+        repeated,
     } = list_all(alloc, statements)?;
     let marks = circular_in(alloc, equals.as_slice(), firsts.as_slice());
     drop(equals);
@@ -169,7 +180,7 @@ pub fn outline_of(alloc: Global, statements: &[Statement]) -> Result<Outline, No
     let circular = match marks {
         Ok(circular) => circular,
         Err(e) => {
-            drop(names);
+            drop((names, repeated));
             return Err(e);
         }
     };
@@ -177,10 +188,11 @@ pub fn outline_of(alloc: Global, statements: &[Statement]) -> Result<Outline, No
         Ok(states) => Ok(Outline {
             names,
             circular,
+            repeated,
             states,
         }),
         Err(e) => {
-            drop((names, circular));
+            drop((names, circular, repeated));
             Err(e)
         }
     }

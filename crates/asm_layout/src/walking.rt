@@ -1,6 +1,6 @@
 //! The lines of a source, laid and checked one behind the other.
 
-ghost use Rattle.std.specs.Prelude.{◌≡◌, ◌+◌, ◌<◌, [], length, take, IfOk, OnOk};
+ghost use Rattle.std.specs.Prelude.{◌≡◌, ◌+◌, ◌<◌, [], length, slice_get, take, IfOk, OnOk};
 ghost use Rattle.asm_model.specs.Labels as labels;
 ghost use Rattle.asm_model.specs.Laid.{reversed};
 ghost use Rattle.asm_model.specs.Said.{AllSaid, IsSaid};
@@ -73,6 +73,16 @@ fn next_mark(equals: &mut usize, circular: &[bool]) -> bool
     }
 }
 
+/// The mark of a statement, counted from 0.
+fn mark_of(marks: &[bool], number: usize) -> bool
+    ensures { result ≡ walking.or_false (slice_get marks.now number) }
+{
+    match marks.get(number) {
+        None => false,
+        Some(mark) => *mark,
+    }
+}
+
 /// The first statements, `count` of them or all.
 fn front_of(statements: &[Statement], count: usize) -> &[Statement]
     ensures { result.now ≡ take count statements.now }
@@ -132,6 +142,7 @@ impl<'a> Walk<'a> {
     {
         let laid = self.laying.lay(self.alloc, &outline.names, statement)?;
         let circular = take_mark(&mut self.equals, outline.circular.as_slice(), statement);
+        let repeated = mark_of(outline.repeated.as_slice(), self.lines.len());
         let thumb_area = outline.states.is_thumb(laid.area);
         let checked = self.checks.check(
             statement,
@@ -140,6 +151,7 @@ impl<'a> Walk<'a> {
             thumb_area,
             laid.number,
             circular,
+            repeated,
         )?;
         let named = self
             .registers

@@ -21,8 +21,8 @@ pub fn final_value(
 {
     let seen = Seen {
         names,
+        first: None,
         own: None,
-        later: None,
         area: line.place.area,
         offset: line.place.offset,
         map: line.place.map,

@@ -55,15 +55,12 @@ fn entry_in(
 }
 
 /// The entry of the name that a statement imports.
-pub fn add_imported(alloc: Global, names: &mut KnownNames, what: &What) -> Result<(), NoMemory>
-    ensures { OnOk result (names.new ≡ names.old ++ imported_entries (import_in what.now)) }
+pub fn imported_entry_of(alloc: Global, what: &What) -> Result<Option<LaidName>, NoMemory>
+    ensures { IfOk result (λ entry. one_entry entry ≡ imported_entries (import_in what.now)) }
 {
     match imported_name(what) {
-        None => Ok(()),
-        Some(name) => {
-            let entry = imported_entry(alloc, name)?;
-            add_entry(alloc, names, Some(entry))
-        }
+        None => Ok(None),
+        Some(name) => Ok(Some(imported_entry(alloc, name)?)),
     }
 }
 
@@ -77,7 +74,8 @@ fn add_line(
 {
     let own = entry_in(alloc, known, line)?;
     add_entry(alloc, names, own)?;
-    add_imported(alloc, names, &line.statement.what)
+    let imported = imported_entry_of(alloc, &line.statement.what)?;
+    add_entry(alloc, names, imported)
 }
 
 /// The entries of lines, where names for expressions have those that are known.

@@ -258,8 +258,8 @@ fn seen_among(entries: &Entries, thumb: bool) -> Seen<'_>
 {
     Seen {
         names: &entries.names,
+        first: None,
         own: entries.last.as_ref(),
-        later: None,
         area: None,
         offset: 0,
         map: 0,

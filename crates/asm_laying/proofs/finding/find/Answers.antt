@@ -9,7 +9,7 @@ use Rattle.asm_laying.proofs.finding.find.Goals as goal
 pub equal_there-requires : goal.equal_there-requires
 equal_there-requires c =
     subst (λ (x : Defined). DefinedRead x) (sym c.defined_by-defines.ensures)
-    (defined_read c.args.statement.now.label c.args.statement.now.what c.requires.read)
+    (defined_read c.args.statement.now.label c.args.statement.now.what c.requires.said.read)
 
 pub returns : goal.returns
 returns c = λ before at known owned.

@@ -1,11 +1,21 @@
 use Rattle.std.proofs.Common.{[]}
 use Rattle.asm_model.specs.Laid.{reversed}
-use Rattle.asm_layout.proofs.FinishLemmas.{said_reversed}
+use Rattle.asm_layout.proofs.WalkLemmas.{said_reversed}
 use Rattle.asm_layout.proofs.layout.laid_out.Goals as goal
 
-pub returns : goal.returns
-returns c = c.finished.ensures (reversed c.args.statements.now []) (record {
+pub finished-requires : goal.finished-requires
+finished-requires c = record {
+  statements = reversed c.args.statements.now [];
+  whole = record {
+    said = said_reversed c.args.statements.now [] c.requires.said tt;
+    outlined = c.requires.outline;
+    walked = c.in-Ok.ensures;
+  };
+}
+
+pub returns-in-Ok : goal.returns-in-Ok
+returns-in-Ok c = c.finished.ensures (reversed c.args.statements.now []) (record {
   said = said_reversed c.args.statements.now [] c.requires.said tt;
   outlined = c.requires.outline;
-  walked = c.in_ok-walk.ensures;
+  walked = c.in-Ok.ensures;
 })

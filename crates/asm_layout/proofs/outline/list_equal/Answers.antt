@@ -20,6 +20,7 @@ returns-in_ok-push c =
     λ before names. are_listed x name e c.is_none-first.result old before is test names in
     record {
       names = refl;
+      repeats = refl;
       equals = λ before names. c.in_ok-push_first.ensures ∙ ap (λ es. pairs_of c.args.listed.now.equals.items ++ es) (are before names).equal;
       firsts = λ before names. c.in_ok-push.ensures.items ∙ ap (λ bs. c.args.listed.now.firsts.items ++ bs) (are before names).mark;
     }

@@ -29,7 +29,7 @@ step-requires-clause-may c =
     let x = c.statement-item.result in
     let more = take (length left - 1) (drop 1 left) in
     may_lay c.args.statements.now c.statements.invariant.walked x (more ++ behind) (left ++ behind) c.args.outline.now c.statements.walk
-    c.requires.outline c.requires.few
+    c.requires.outline c.requires.few c.requires.said
     (next_is c.args.statements.now c.args.count x more left (rest_of left x c.in-len1-up.len_at_least c.statement-item.is)) c.statements.invariant.along
 
 pub step-requires-clause-said : goal.step-requires-clause-said

@@ -27,7 +27,7 @@ returns-in_ok-add_names-in-Ok c = λ d before reach found marked owned.
     (subst (λ (r : Result PlacedExtent TooLarge). Keeps c.args.self.now.areas.ends c.place.new.self (Ok r)) c.in-Ok.is c.in_ok-placed.ensures.keeps)
     refl refl refl refl refl
     (c.in_ok-add_names-in-Ok.ensures
-    ∙ ap (λ (o : Option LaidName). c.args.self.now.names ++ one_entry o ++ one_entry c.args.equal.entry
+    ∙ ap (λ (o : Option LaidName). c.args.self.now.names.items ++ one_entry o ++ one_entry c.args.equal.entry
     ++ imported_entries (imported_in c.args.statement.now.what))
     (c.set_size.ensures c.args.location.now.area c.args.location.now.offset c.args.location.now.map c.args.location.now.thumb_label owned))
     c.still_known-self.ensures c.args.strings marked

@@ -1,4 +1,5 @@
-use Rattle.std.proofs.Common.{ℕ, ◌+◌, Option, length, refl, sym, ap, ◌∙◌, subst, length-append}
+use Rattle.std.proofs.Common.{◌≡◌, ℕ, ◌+◌, Bool, List, Option, length, refl, sym, ap, ◌∙◌, subst, arith, length-append}
+use Rattle.std.specs.List.{slice_get}
 use Rattle.asm_checks.specs.Checked.{IsLine as IsChecksLine}
 use Rattle.asm_laying.specs.Laying.{Tells}
 use Rattle.asm_registers.specs.Kept.{IsLine as IsRegistersLine}
@@ -6,8 +7,8 @@ use Rattle.asm_model.specs.Labels.{defined_by}
 use Rattle.asm_model.specs.Laid.{LaidLine, laid_behind, statements_of}
 use Rattle.asm_model.specs.LayoutKinds.{in_thumb_area}
 use Rattle.asm_layout.specs.Outline.{circle_of, circles_in}
-use Rattle.asm_layout.specs.Walking.{HasMark}
-use Rattle.asm_layout.proofs.StepLemmas.{numbers, mark_is, count_is}
+use Rattle.asm_layout.specs.Walking.{HasMark, or_false}
+use Rattle.asm_layout.proofs.StepLemmas.{numbers, lines_long, mark_is, count_is}
 use Rattle.asm_layout.proofs.ToldLemmas.{none_first, none_second}
 use Rattle.asm_layout.proofs.walking.Walk.check_line.Goals as goal
 
@@ -19,10 +20,11 @@ returns c = λ names settled all before states h m.
     let marks = c.args.outline.now.circular.items in
     let circle = circle_of settled (defined_by s) (statements_of before) in
     let t : Tells d l before c.lay.new.self c.in_ok-laid.laid = c.in_ok-laid.ensures before h.lays in
+    let long : c.len.result ≡ length c.args.self.now.lines.items = omega arith in
     let n = numbers s.what l c.in_ok-laid.laid.number t.number in
     let marked : HasMark marks c.args.self.now.equals circle = subst (λ k. HasMark marks k circle) (sym h.counted) m.mark in
     let checks_line : IsChecksLine s c.in_ok-laid.laid.area c.in_ok-laid.laid.thumb c.is_thumb-thumb_area.result c.in_ok-laid.laid.number
-    c.take_mark-circular.result settled all l before = record {
+    c.take_mark-circular.result c.mark_of-repeated.result settled all l before = record {
       said = refl;
       stands = sym t.area;
       state = sym t.thumb;
@@ -30,6 +32,10 @@ returns c = λ names settled all before states h m.
       aligned = n.exponent_is;
       known = mark_is settled marks c.args.self.now.equals (defined_by s) (statements_of before) c.take_mark-circular.result
           (rw c.as_slice.ensures.value at c.take_mark-circular.ensures.mark) marked;
+      named = c.mark_of-repeated.ensures
+          ∙ ap (λ (bs : List Bool). or_false (slice_get bs c.len.result)) c.as_slice-2.ensures.value
+          ∙ ap (λ k. or_false (slice_get c.args.outline.now.repeated.items k)) (long ∙ lines_long before c.args.self.now.lines.items h.kept)
+          ∙ ap or_false m.repeated;
     } in
     let registers_line : IsRegistersLine s c.in_ok-laid.laid.thumb c.in_ok-laid.laid.number c.args.outline.now.names l = record {
       said = refl;
