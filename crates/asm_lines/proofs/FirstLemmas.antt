@@ -7,7 +7,7 @@ use Rattle.std.proofs.lemmas.Bool.Decides.{nat_tests}
 use Rattle.asm_model.specs.declared.tokens.TokenKind.{TokenKind}
 use Rattle.asm_model.specs.declared.tokens.TokenKind.TheVariants.{Name, Barred, Number, Quoted, Character, Braced, Local, Sign}
 use Rattle.asm_model.specs.Forms.{is_letter, is_digit, is_word, signs, braced_words}
-use Rattle.asm_lines.specs.Lengths.{longer, best_of, form_at, byte_signs, name_len, barred_len, number_len, quoted_len, character_len, local_len, word_len, words_len, one_of_len}
+use Rattle.asm_lines.specs.Lengths.{longer, best_of, form_at, other_of, is_alone, byte_signs, name_len, barred_len, number_len, quoted_len, character_len, local_len, word_len, words_len, one_of_len}
 
 differs : (q : ℕ → Bool) (c d : ℕ) → q c ≡ true → q d ≡ false → (c == d) ≡ false
 differs q c d p r = false_from_ne_true (c == d) (λ e. let i = eqb-true c d e in absurd (cc))
@@ -144,8 +144,7 @@ found c cs a b x y z w =
     cond a (Barred, barred_len (c ∷ cs)) (cond b (Quoted, quoted_len (c ∷ cs)) (cond x (Character, character_len (c ∷ cs))
     (cond y (Braced, one_of_len braced_words (c ∷ cs)) (cond z (Local, local_len (c ∷ cs)) (cond w (Number, number_len (c ∷ cs)) (Name, 0))))))
 
-at_other : (c : ℕ) (cs : List ℕ) → is_letter c ≡ false → is_digit c ≡ false
-    → best_of (c ∷ cs) ≡ longer (longer (Name, 0) (form_at c (c ∷ cs)).0 (form_at c (c ∷ cs)).1) Sign (one_of_len signs (c ∷ cs))
+at_other : (c : ℕ) (cs : List ℕ) → is_letter c ≡ false → is_digit c ≡ false → best_of (c ∷ cs) ≡ other_of c (c ∷ cs)
 unfolding best_of
 at_other c cs l d =
     ap (λ b. longer b Sign (one_of_len signs (c ∷ cs))) (chosen (c == 124) (c == 34) (c == 39) (c == 123) (c == 37) (c == 38) refl refl refl refl refl refl)
@@ -206,6 +205,41 @@ pub digit_best_of : (rest : List ℕ) (c : ℕ) (cs : List ℕ) (n : ℕ) (r : T
     → n ≡ number_len rest → r ≡ longer (Name, 0) Number n → r ≡ best_of rest
 digit_best_of rest c cs n r e l d h i = i ∙ rw (h, e) (sym (at_digit c cs l d))
 
-pub other_best_of : (rest : List ℕ) (c : ℕ) (cs : List ℕ) (n : ℕ) (f q r : TokenKind × ℕ) → rest ≡ c ∷ cs → is_letter c ≡ false → is_digit c ≡ false
-    → f ≡ form_at c rest → q ≡ longer (Name, 0) f.0 f.1 → n ≡ one_of_len signs rest → r ≡ longer q Sign n → r ≡ best_of rest
-other_best_of rest c cs n f q r e l d hf hq hn hr = hr ∙ rw (hq, hf, hn, e) (sym (at_other c cs l d))
+pub other_best_of : (rest : List ℕ) (c : ℕ) (cs : List ℕ) (r : TokenKind × ℕ) → rest ≡ c ∷ cs → is_letter c ≡ false → is_digit c ≡ false
+    → r ≡ other_of c rest → r ≡ best_of rest
+other_best_of rest c cs r e l d h = h ∙ rw e (sym (at_other c cs l d))
+
+alone_sign : (c : ℕ) → is_alone c ≡ true → list_any (λ d. d == c) byte_signs ≡ true
+alone_sign c e = grind (arith, nat_tests)
+
+-- none of the other forms begins with the byte
+alone_form : (c : ℕ) (rest : List ℕ) → is_alone c ≡ true → form_at c rest ≡ (Name, 0)
+alone_form c rest e =
+    rw (
+      differs is_alone c 124 e refl,
+      differs is_alone c 34 e refl,
+      differs is_alone c 39 e refl,
+      differs is_alone c 123 e refl,
+      differs is_alone c 37 e refl,
+      differs is_alone c 38 e refl,
+    ) refl
+
+alone_len : (c : ℕ) (cs : List ℕ) → is_alone c ≡ true → one_of_len signs (c ∷ cs) ≡ 1
+alone_len c cs e =
+    byte_sign c cs (differs is_alone c 58 e refl) (differs is_alone c 61 e refl) (differs is_alone c 47 e refl) (differs is_alone c 60 e refl)
+    (differs is_alone c 62 e refl)
+    ∙ cond-true _ 1 0 (alone_sign c e)
+
+alone_no_letter : (c : ℕ) → is_alone c ≡ true → is_letter c ≡ false
+alone_no_letter c e = grind (arith, nat_tests)
+
+alone_no_digit : (c : ℕ) → is_alone c ≡ true → is_digit c ≡ false
+alone_no_digit c e = grind (arith, nat_tests)
+
+signed : (f : TokenKind × ℕ) (n : ℕ) → f ≡ (Name, 0) → n ≡ 1 → (Sign, 1) ≡ longer (longer (Name, 0) f.0 f.1) Sign n
+signed f n e h = rw (e, h) refl
+
+pub alone_best_of : (rest : List ℕ) (c : ℕ) (cs : List ℕ) → rest ≡ c ∷ cs → is_alone c ≡ true → (Sign, 1) ≡ best_of rest
+alone_best_of rest c cs e a =
+    other_best_of rest c cs (Sign, 1) e (alone_no_letter c a) (alone_no_digit c a)
+    (signed (form_at c rest) (one_of_len signs rest) (alone_form c rest a) (ap (one_of_len signs) e ∙ alone_len c cs a))

@@ -1,8 +1,8 @@
 -- The token at the front of a rest.
-use Rattle.std.proofs.Common.{◌≡◌, ℕ, ◌≤◌, ◌+◌, List, [], ◌∷◌, ◌++◌, length, take, drop, Bool, true, false, refl, sym, ◌∙◌, ap, arith, Option, Some, None, zero, suc, append-nil, append_assoc, length-drop, add_assoc}
-use Rattle.std.specs.Prelude.{MatchBool}
+use Rattle.std.proofs.Common.{◌≡◌, ℕ, ◌≤◌, ◌+◌, List, [], ◌∷◌, ◌<◌, ◌++◌, length, take, drop, Bool, true, false, cond, refl, sym, ◌∙◌, ap, arith, Option, Some, None, zero, suc, append-nil, append_assoc, length-drop, add_assoc}
+use Rattle.std.specs.Prelude.{MatchBool, ◌==◌}
 use Rattle.std.proofs.lemmas.List.{drop-drop}
-use Rattle.std.proofs.lemmas.Bool.{eqb-true}
+use Rattle.std.proofs.lemmas.Bool.{eqb-true, cond-false, ne_eqb}
 use Rattle.asm_model.specs.declared.tokens.Due.{Due}
 use Rattle.asm_model.specs.declared.tokens.Due.TheVariants.{Label, Operation, Operands, Nothing}
 use Rattle.asm_model.specs.declared.tokens.Token.{Token}
@@ -10,8 +10,9 @@ use Rattle.asm_model.specs.declared.tokens.TokenKind.{TokenKind}
 use Rattle.asm_model.specs.declared.tokens.TokenKind.TheVariants.{Sign}
 use Rattle.asm_model.specs.Forms.{form_of}
 use Rattle.asm_model.specs.Tokens.{IsLongest, IsTokenAt, is_operation_sign, blanks, is_end, due_behind, TokensFrom, Tokens, NoTokens, begins_comment, OneScan, first_due}
-use Rattle.asm_lines.specs.Steps.{IsTheToken, ends_at}
-use Rattle.asm_lines.proofs.KindLemmas.{one_longest, some_longest}
+use Rattle.asm_lines.specs.Steps.{IsTheToken, some_token, ends_at}
+use Rattle.asm_lines.specs.Lengths.{best_of}
+use Rattle.asm_lines.proofs.KindLemmas.{one_longest, some_longest, best_longest, best_none}
 
 -- a longest token is the one
 pub longest_is_the : (rest : List ℕ) (k : TokenKind) (n : ℕ) → IsLongest k n rest → IsTheToken Operands rest (Some (k, n))
@@ -19,6 +20,18 @@ longest_is_the rest k n p = (p, λ j m q. one_longest j k m n rest q p, some_lon
 
 pub none_is_the : (rest : List ℕ) → ((m : ℕ) → m ≤ length rest → form_of (take m rest) ≡ None) → IsTheToken Operands rest None
 none_is_the rest none k n p = let a = p.form in let b = none n p.within in cc
+
+-- the best of the kinds is the one, where it has a length
+pub best_is_the : (rest : List ℕ) (best : TokenKind × ℕ) → best ≡ best_of rest → IsTheToken Operands rest (some_token best)
+best_is_the rest best e = chosen (best.1 == 0) refl
+  where
+    positive : (n : ℕ) → (n == 0) ≡ false → 0 < n
+    positive zero z = absurd (cc)
+    positive (suc n) z = omega arith
+
+    chosen : (b : Bool) → (best.1 == 0) ≡ b → IsTheToken Operands rest (cond b None (Some best))
+    chosen true z = none_is_the rest (best_none rest (ap (λ (b : TokenKind × ℕ). b.1) (sym e) ∙ eqb-true best.1 0 z))
+    chosen false z = rw e (longest_is_the rest (best_of rest).0 (best_of rest).1 (best_longest rest (rw e at (positive best.1 z))))
 
 pub any_is_the : (rest : List ℕ) (o : Option (TokenKind × ℕ)) → is_operation_sign rest ≡ false → IsTheToken Operands rest o → IsTheToken Operation rest o
 any_is_the rest None e h = λ k n p. h k n (let P : Bool → Type 0 = λ b. MatchBool b ((k ≡ Sign) × (n ≡ 1)) (IsLongest k n rest) in rw e at p)
@@ -31,6 +44,13 @@ sign_is_the (c ∷ cs) e = (rw e (refl, refl), λ k n p. rw e at p, omega arith,
 pub label_is_the : (rest : List ℕ) (o : Option (TokenKind × ℕ)) → IsTheToken Operands rest o → IsTheToken Label rest o
 label_is_the rest None h = h
 label_is_the rest (Some t) h = h
+
+-- the same where a label is due, and where operands are
+pub label_token : (due : Due) (rest : List ℕ) (best : TokenKind × ℕ) → due ≡ Label → best ≡ best_of rest → IsTheToken due rest (some_token best)
+label_token due rest best d e = rw d (label_is_the rest (some_token best) (best_is_the rest best e))
+
+pub operand_token : (due : Due) (rest : List ℕ) (best : TokenKind × ℕ) → due ≡ Operands → best ≡ best_of rest → IsTheToken due rest (some_token best)
+operand_token due rest best d e = rw d (best_is_the rest best e)
 
 -- a scan at a place: what it has so far, and what the rest of the line has, is what the line has
 pub record IsScan (text : List ℕ) (list : List Token) (due : Due) (place : ℕ) : Type 0 where
@@ -95,6 +115,12 @@ module _ (text : List ℕ) (list : List Token) (due : Due) (place : ℕ) (scan :
             rw (← behind n) (moved ts n p.0 (place + blanks (drop place text) + n) t.end u.1 end_is p.4),
           )
 
+none_shown : (t : TokenKind × ℕ) → t.1 ≡ 0 → some_token t ≡ None
+none_shown t z = rw z refl
+
+some_shown : (t : TokenKind × ℕ) → 0 < t.1 → some_token t ≡ Some (t.0, t.1)
+some_shown t some = cond-false (t.1 == 0) None (Some t) (ne_eqb t.1 0 (λ e. omega arith))
+
 end_at : (due : Due) (rest : List ℕ) → is_end due rest ≡ ends_at due (drop (blanks rest) rest)
 end_at Label rest = refl
 end_at Operation rest = refl
@@ -111,20 +137,18 @@ module _ (text : List ℕ) (list : List Token) (due : Due) (place : ℕ) (rest :
   pub at_end : b ≡ true → Tokens text list
   at_end e = ended text list due place scan (end_is ∙ e)
 
-  module _ (more : b ≡ false) (o : Option (TokenKind × ℕ)) (the : IsTheToken due front o) where
-    the_at : IsTheToken due (drop (blanks (drop place text)) (drop place text)) o
+  module _ (more : b ≡ false) (t : TokenKind × ℕ) (the : IsTheToken due front (some_token t)) where
+    the_at : IsTheToken due (drop (blanks (drop place text)) (drop place text)) (some_token t)
     the_at = rw (front_is, count_is, rest_is) at the
 
-    pub at_nothing : o ≡ None → NoTokens text
-    at_nothing e = let h = the_at in stuck text list due place scan (end_is ∙ more) (rw e at h)
+    pub at_nothing : t.1 ≡ 0 → NoTokens text
+    at_nothing z = let h = the_at in stuck text list due place scan (end_is ∙ more) (rw (none_shown t z) at h)
 
-    pub at_token : (kind : TokenKind) (n : ℕ) (word : List ℕ) (after : Due) (items : List Token) → o ≡ Some (kind, n)
-        → word ≡ take n front → after ≡ due_behind due word
-        → items ≡ list ++ record { kind = kind; start = place + count; end = place + count + n } ∷ []
-        → IsScan text items after (place + count + n)
-    at_token kind n word after items e w d i =
+    pub at_token : (word : List ℕ) (after : Due) (items : List Token) → 0 < t.1 → word ≡ take t.1 front → after ≡ due_behind due word
+        → items ≡ list ++ record { kind = t.0; start = place + count; end = place + count + t.1 } ∷ [] → IsScan text items after (place + count + t.1)
+    at_token word after items some w d i =
         let h = the_at in
-        let s = advanced text list due place scan kind n (end_is ∙ more) (rw e at h) in
+        let s = advanced text list due place scan t.0 t.1 (end_is ∙ more) (rw (some_shown t some) at h) in
         rw (i, d, w, front_is, count_is, rest_is) s
 
 -- no token begins a comment

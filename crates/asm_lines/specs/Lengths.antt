@@ -53,8 +53,12 @@ zero_x_len rest = behind_len (λ c. c == 48) (behind_len (λ c. c == 120) (prefi
 abbrev pub ampersand_len : List ℕ → ℕ
 ampersand_len rest = behind_len (λ c. c == 38) (prefix_len is_hex_digit) rest
 
+-- the longest number, of which the decimal one has a length
+abbrev pub other_number_len : ℕ → List ℕ → ℕ
+other_number_len decimal rest = max (max decimal (max (zero_x_len rest) (ampersand_len rest))) (based_len rest)
+
 abbrev pub number_len : List ℕ → ℕ
-number_len rest = max (max (prefix_len is_digit rest) (max (zero_x_len rest) (ampersand_len rest))) (based_len rest)
+number_len rest = other_number_len (prefix_len is_digit rest) rest
 
 abbrev pub string_len : List ℕ → ℕ
 string_len [] = 0
@@ -121,3 +125,11 @@ form_at c rest =
     else if c == 37 then (Local, local_len rest)
     else if c == 38 then (Number, number_len rest)
     else (Name, 0)
+
+-- the longest prefix with a form that begins with a byte, but for names and decimal numbers
+abbrev pub other_of : ℕ → List ℕ → TokenKind × ℕ
+other_of c rest = longer (longer (Name, 0) (form_at c rest).0 (form_at c rest).1) Sign (one_of_len signs rest)
+
+-- a sign of one byte with which no other token begins; one of those that stand most often
+abbrev pub is_alone : ℕ → Bool
+is_alone c = (nat_le 40 c && nat_le c 46) || c == 35 || c == 91 || c == 93

@@ -1,5 +1,5 @@
 -- Steps of the code. This project's.
-use Rattle.std.specs.Prelude.{◌≡◌, ℕ, ◌<◌, ◌≤◌, List, [], ◌∷◌, length, ◌==◌, Bool, true, Option, None, Some}
+use Rattle.std.specs.Prelude.{◌≡◌, ℕ, ◌<◌, ◌≤◌, List, [], ◌∷◌, length, ◌==◌, Bool, true, if◌then◌else◌, Option, None, Some}
 use Rattle.std.specs.List.{slice_split}
 use Rattle.asm_model.specs.declared.tokens.Due.{Due}
 use Rattle.asm_model.specs.declared.tokens.Due.TheVariants.{Label, Operation, Operands, Nothing}
@@ -20,6 +20,10 @@ IsTheToken due rest (Some t) =
     × ((kind : TokenKind) (n : ℕ) → IsTokenAt due kind n rest → (kind ≡ t.0) × (n ≡ t.1))
     × (0 < t.1)
     × (t.1 ≤ length rest)
+
+-- a token and its length, or None where the length is 0
+abbrev pub some_token : TokenKind × ℕ → Option (TokenKind × ℕ)
+some_token t = if t.1 == 0 then None else Some t
 
 -- whether a line may end behind the blanks before these bytes
 abbrev pub ends_at : Due → List ℕ → Bool

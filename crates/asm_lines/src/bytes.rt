@@ -32,11 +32,18 @@ pub fn is_of(class: Class, c: u8) -> bool
 {
     match class {
         Class::Blank => c == b' ' || c == b'\t',
-        Class::Word => is_letter(c) || is_digit(c),
+        Class::Word => is_word(c),
         Class::Digit => is_digit(c),
         Class::HexDigit => is_hex_digit(c),
         Class::DigitOf(base) => b'0' <= c && c - b'0' < base,
     }
+}
+
+/// A byte of a name.
+fn is_word(c: u8) -> bool
+    ensures { result ≡ forms.is_word c }
+{
+    (b'a' <= c && c <= b'z') || (b'A' <= c && c <= b'Z') || is_digit(c) || c == b'_'
 }
 
 /// A letter, or `_`.

@@ -159,14 +159,27 @@ fn ampersand_len(rest: &[u8]) -> usize
     0
 }
 
+/// A number that does not begin with two digits, of which `decimal` is the length as a decimal one.
+#[inline(never)]
+fn other_number_len(rest: &[u8], decimal: usize) -> usize
+    requires { decimal ≤ length rest.now }
+    ensures value { result ≡ lengths.other_number_len decimal rest.now }
+    ensures within { result ≤ length rest.now }
+{
+    let hexadecimal = zero_x_len(rest).max(ampersand_len(rest));
+    decimal.max(hexadecimal).max(based_len(rest))
+}
+
 /// A number.
 pub fn number_len(rest: &[u8]) -> usize
     ensures value { result ≡ lengths.number_len rest.now }
     ensures within { result ≤ length rest.now }
 {
     let decimal = run_len(rest, Class::Digit);
-    let hexadecimal = zero_x_len(rest).max(ampersand_len(rest));
-    decimal.max(hexadecimal).max(based_len(rest))
+    if decimal > 1 {
+        return decimal;
+    }
+    other_number_len(rest, decimal)
 }
 
 /// The rest of a string behind its first quote.

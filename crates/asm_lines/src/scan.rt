@@ -5,7 +5,7 @@ ghost use Rattle.std.specs.List.{list_any};
 ghost use Rattle.asm_model.specs.Tokens as model;
 ghost use Rattle.asm_model.specs.declared.tokens.Due.TheVariants as due;
 ghost use Rattle.asm_lines.specs.Lengths as lengths;
-ghost use Rattle.asm_lines.specs.Steps.{IsTheToken, ends_at};
+ghost use Rattle.asm_lines.specs.Steps.{IsTheToken, some_token, ends_at};
 
 use crate::bytes::{Class, is_digit, is_letter, run_len};
 use crate::forms::{
@@ -43,24 +43,47 @@ fn form_at(first: u8, rest: &[u8]) -> (TokenKind, usize)
     }
 }
 
+/// Whether the byte is a sign with which no other token begins; one of those that stand most often.
+fn is_alone(c: u8) -> bool
+    ensures { result ≡ lengths.is_alone c }
+{
+    (b'(' <= c && c <= b'.') || c == b'#' || c == b'[' || c == b']'
+}
+
+/// The kind and the length of the longest prefix with a form, where no name and no decimal number begins with the first
+/// byte.
+#[inline(never)]
+fn other_of(first: u8, rest: &[u8]) -> (TokenKind, usize)
+    ensures { result ≡ lengths.other_of first rest.now }
+{
+    let (kind, len) = form_at(first, rest);
+    longer(
+        longer((TokenKind::Name, 0), kind, len),
+        TokenKind::Sign,
+        sign_len(rest),
+    )
+}
+
 /// The kind and the length of the longest prefix with a form; the length is 0 where none has one. The first byte
 /// tells which forms it can have.
+#[inline(always)]
 fn best_of(rest: &[u8]) -> (TokenKind, usize)
     ensures value { result ≡ lengths.best_of rest.now }
     ensures within { result.1 ≤ length rest.now }
 {
-    let none = (TokenKind::Name, 0);
     let Some((first, _)) = rest.split_first() else {
-        return none;
+        return (TokenKind::Name, 0);
     };
     if is_letter(*first) {
         return (TokenKind::Name, run_len(rest, Class::Word));
     }
-    if is_digit(*first) {
-        return longer(none, TokenKind::Number, number_len(rest));
+    if is_alone(*first) {
+        return (TokenKind::Sign, 1);
     }
-    let (kind, len) = form_at(*first, rest);
-    longer(longer(none, kind, len), TokenKind::Sign, sign_len(rest))
+    if is_digit(*first) {
+        return longer((TokenKind::Name, 0), TokenKind::Number, number_len(rest));
+    }
+    other_of(*first, rest)
 }
 
 /// The kind and the length of the longest prefix with a form; None where none has one.
@@ -74,32 +97,28 @@ pub fn longest_token(rest: &[u8]) -> Option<(TokenKind, usize)>
     Some(best)
 }
 
-/// The kind and the length of the token at the front of a label's place.
-fn label_at(rest: &[u8]) -> Option<(TokenKind, usize)>
-    ensures { IsTheToken due.Label rest.now result }
-{
-    longest_token(rest)
-}
-
 /// The kind and the length of the token at the front of an operation's place.
-fn operation_at(rest: &[u8]) -> Option<(TokenKind, usize)>
-    ensures { IsTheToken due.Operation rest.now result }
+fn operation_at(rest: &[u8]) -> (TokenKind, usize)
+    ensures the { IsTheToken due.Operation rest.now (some_token result) }
+    ensures within { result.1 ≤ length rest.now }
 {
     if starts_operation(rest) {
-        return Some((TokenKind::Sign, 1));
+        return (TokenKind::Sign, 1);
     }
-    longest_token(rest)
+    best_of(rest)
 }
 
-/// The kind and the length of the token at the front, where something is due.
-fn token_at(due: Due, rest: &[u8]) -> Option<(TokenKind, usize)>
-    ensures { IsTheToken due rest.now result }
+/// The kind and the length of the token at the front, where something is due; the length is 0 where none stands there.
+#[inline(always)]
+fn token_at(due: Due, rest: &[u8]) -> (TokenKind, usize)
+    ensures the { IsTheToken due rest.now (some_token result) }
+    ensures within { result.1 ≤ length rest.now }
 {
     match due {
-        Due::Label => label_at(rest),
+        Due::Label => best_of(rest),
         Due::Operation => operation_at(rest),
-        Due::Operands => longest_token(rest),
-        Due::Nothing => None,
+        Due::Operands => best_of(rest),
+        Due::Nothing => (TokenKind::Name, 0),
     }
 }
 
@@ -113,21 +132,27 @@ pub fn starts_operation(rest: &[u8]) -> bool
     *first == b'&' || *first == b'=' || *first == b'%'
 }
 
+/// What is due behind an operation.
+#[inline(never)]
+fn behind_operation(word: &[u8]) -> Due
+    ensures { result ≡ model.due_behind due.Operation word.now }
+{
+    if is_called(b"TTL", word) {
+        return Due::Nothing;
+    }
+    if is_called(b"SUBT", word) {
+        return Due::Nothing;
+    }
+    Due::Operands
+}
+
 /// What is due behind a token.
 fn due_behind(due: Due, word: &[u8]) -> Due
     ensures { result ≡ model.due_behind due word.now }
 {
     match due {
         Due::Label => Due::Operation,
-        Due::Operation => {
-            if is_called(b"TTL", word) {
-                return Due::Nothing;
-            }
-            if is_called(b"SUBT", word) {
-                return Due::Nothing;
-            }
-            Due::Operands
-        }
+        Due::Operation => behind_operation(word),
         Due::Operands => Due::Operands,
         Due::Nothing => Due::Nothing,
     }
@@ -201,9 +226,10 @@ pub fn scan_into(tokens: &mut Vec<Token>, text: &[u8]) -> Result<bool, NoMemory>
         if is_end(due, front) {
             return Ok(true);
         }
-        let Some((kind, len)) = token_at(due, front) else {
+        let (kind, len) = token_at(due, front);
+        if len == 0 {
             return Ok(false);
-        };
+        }
         let start = place + blanks;
         let end = start + len;
         tokens.push(Token {
