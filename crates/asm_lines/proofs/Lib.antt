@@ -4,3 +4,4 @@ pub mod KindLemmas
 pub mod LineLemmas
 pub mod ScanLemmas
 pub mod StringLemmas
+pub mod TableLemmas

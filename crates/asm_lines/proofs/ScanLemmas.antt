@@ -10,7 +10,7 @@ use Rattle.asm_model.specs.declared.tokens.TokenKind.{TokenKind}
 use Rattle.asm_model.specs.declared.tokens.TokenKind.TheVariants.{Sign}
 use Rattle.asm_model.specs.Forms.{form_of}
 use Rattle.asm_model.specs.Tokens.{IsLongest, IsTokenAt, is_operation_sign, blanks, is_end, due_behind, TokensFrom, Tokens, NoTokens, begins_comment, OneScan, first_due}
-use Rattle.asm_lines.specs.Steps.{IsTheToken, some_token, ends_at}
+use Rattle.asm_lines.specs.Steps.{IsTheToken, is_sign_due, some_token, ends_at}
 use Rattle.asm_lines.specs.Lengths.{best_of}
 use Rattle.asm_lines.proofs.KindLemmas.{one_longest, some_longest, best_longest, best_none}
 
@@ -45,12 +45,20 @@ pub label_is_the : (rest : List ℕ) (o : Option (TokenKind × ℕ)) → IsTheTo
 label_is_the rest None h = h
 label_is_the rest (Some t) h = h
 
--- the same where a label is due, and where operands are
-pub label_token : (due : Due) (rest : List ℕ) (best : TokenKind × ℕ) → due ≡ Label → best ≡ best_of rest → IsTheToken due rest (some_token best)
-label_token due rest best d e = rw d (label_is_the rest (some_token best) (best_is_the rest best e))
+-- the same where a token is due, and no sign by itself
+pub token_is_the : (due : Due) (rest : List ℕ) (best : TokenKind × ℕ) → ends_at due rest ≡ false → is_sign_due due rest ≡ false
+    → best ≡ best_of rest
+    → IsTheToken due rest (some_token best)
+token_is_the Label rest best n s e = label_is_the rest (some_token best) (best_is_the rest best e)
+token_is_the Operation rest best n s e = any_is_the rest (some_token best) s (best_is_the rest best e)
+token_is_the Operands rest best n s e = best_is_the rest best e
+token_is_the Nothing rest best n s e = absurd (cc)
 
-pub operand_token : (due : Due) (rest : List ℕ) (best : TokenKind × ℕ) → due ≡ Operands → best ≡ best_of rest → IsTheToken due rest (some_token best)
-operand_token due rest best d e = rw d (best_is_the rest best e)
+pub lone_is_the : (due : Due) (rest : List ℕ) → is_sign_due due rest ≡ true → IsTheToken due rest (some_token (Sign, 1))
+lone_is_the Label rest s = absurd (cc)
+lone_is_the Operation rest s = sign_is_the rest s
+lone_is_the Operands rest s = absurd (cc)
+lone_is_the Nothing rest s = absurd (cc)
 
 -- a scan at a place: what it has so far, and what the rest of the line has, is what the line has
 pub record IsScan (text : List ℕ) (list : List Token) (due : Due) (place : ℕ) : Type 0 where

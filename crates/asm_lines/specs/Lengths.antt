@@ -133,3 +133,7 @@ other_of c rest = longer (longer (Name, 0) (form_at c rest).0 (form_at c rest).1
 -- a sign of one byte with which no other token begins; one of those that stand most often
 abbrev pub is_alone : ℕ → Bool
 is_alone c = (nat_le 40 c && nat_le c 46) || c == 35 || c == 91 || c == 93
+
+-- what a byte is: a letter or '_' (l), a digit (d), a sign that stands alone (,) or another (.)
+abbrev pub kind_of : ℕ → ℕ
+kind_of c = if is_letter c then 108 else if is_digit c then 100 else if is_alone c then 44 else 46

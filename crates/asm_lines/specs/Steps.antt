@@ -1,10 +1,10 @@
 -- Steps of the code. This project's.
-use Rattle.std.specs.Prelude.{◌≡◌, ℕ, ◌<◌, ◌≤◌, List, [], ◌∷◌, length, ◌==◌, Bool, true, if◌then◌else◌, Option, None, Some}
+use Rattle.std.specs.Prelude.{◌≡◌, ℕ, ◌<◌, ◌≤◌, List, [], ◌∷◌, length, ◌==◌, Bool, true, false, if◌then◌else◌, Option, None, Some}
 use Rattle.std.specs.List.{slice_split}
 use Rattle.asm_model.specs.declared.tokens.Due.{Due}
 use Rattle.asm_model.specs.declared.tokens.Due.TheVariants.{Label, Operation, Operands, Nothing}
 use Rattle.asm_model.specs.declared.tokens.TokenKind.{TokenKind}
-use Rattle.asm_model.specs.Tokens.{IsTokenAt, begins_comment}
+use Rattle.asm_model.specs.Tokens.{IsTokenAt, begins_comment, is_operation_sign}
 
 -- the first word of a text with spaces between its words, and the text of the others
 abbrev pub Cuts : List ℕ → List ℕ → Option (List ℕ) → Type 0
@@ -24,6 +24,13 @@ IsTheToken due rest (Some t) =
 -- a token and its length, or None where the length is 0
 abbrev pub some_token : TokenKind × ℕ → Option (TokenKind × ℕ)
 some_token t = if t.1 == 0 then None else Some t
+
+-- whether an operation is due, and its first byte is one by itself
+abbrev pub is_sign_due : Due → List ℕ → Bool
+is_sign_due Label rest = false
+is_sign_due Operation rest = is_operation_sign rest
+is_sign_due Operands rest = false
+is_sign_due Nothing rest = false
 
 -- whether a line may end behind the blanks before these bytes
 abbrev pub ends_at : Due → List ℕ → Bool

@@ -3,7 +3,21 @@
 ghost use Rattle.std.specs.Prelude.{◌≡◌, ◌≤◌, length};
 ghost use Rattle.std.specs.List.{prefix_len};
 ghost use Rattle.asm_model.specs.Forms as forms;
-ghost use Rattle.asm_lines.specs.Lengths.{passes};
+ghost use Rattle.asm_lines.specs.Lengths.{passes, is_alone, kind_of};
+
+/// What each byte is: a letter or `_` (l), a digit (d), a sign that stands alone (,) or another (.).
+const KINDS: &[u8] = b"\
+    ...................................,....,,,,,,,.dddddddddd......\
+    .llllllllllllllllllllllllll,.,.l.llllllllllllllllllllllllll.....\
+    ................................................................\
+    ................................................................";
+
+/// What the byte is, as `KINDS` has it.
+fn kind_of(c: u8) -> u8
+    ensures { result ≡ kind_of c }
+{
+    KINDS[c as usize]
+}
 
 /// A class of bytes.
 #[derive(Clone, Copy, Debug)]
@@ -43,14 +57,21 @@ pub fn is_of(class: Class, c: u8) -> bool
 fn is_word(c: u8) -> bool
     ensures { result ≡ forms.is_word c }
 {
-    (b'a' <= c && c <= b'z') || (b'A' <= c && c <= b'Z') || is_digit(c) || c == b'_'
+    kind_of(c) >= b'd'
 }
 
 /// A letter, or `_`.
 pub fn is_letter(c: u8) -> bool
     ensures { result ≡ forms.is_letter c }
 {
-    (b'A' <= c && c <= b'Z') || (b'a' <= c && c <= b'z') || c == b'_'
+    kind_of(c) == b'l'
+}
+
+/// A sign with which no other token begins; one of those that stand most often.
+pub fn is_alone(c: u8) -> bool
+    ensures { result ≡ is_alone c }
+{
+    kind_of(c) == b','
 }
 
 pub fn is_digit(c: u8) -> bool

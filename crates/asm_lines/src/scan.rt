@@ -5,9 +5,9 @@ ghost use Rattle.std.specs.List.{list_any};
 ghost use Rattle.asm_model.specs.Tokens as model;
 ghost use Rattle.asm_model.specs.declared.tokens.Due.TheVariants as due;
 ghost use Rattle.asm_lines.specs.Lengths as lengths;
-ghost use Rattle.asm_lines.specs.Steps.{IsTheToken, some_token, ends_at};
+ghost use Rattle.asm_lines.specs.Steps.{IsTheToken, is_sign_due, some_token, ends_at};
 
-use crate::bytes::{Class, is_digit, is_letter, run_len};
+use crate::bytes::{Class, is_alone, is_digit, is_letter, run_len};
 use crate::forms::{
     BRACED_WORDS, barred_len, character_len, local_len, number_len, one_of_len, quoted_len,
     sign_len,
@@ -41,13 +41,6 @@ fn form_at(first: u8, rest: &[u8]) -> (TokenKind, usize)
         b'&' => (TokenKind::Number, number_len(rest)),
         _ => (TokenKind::Name, 0),
     }
-}
-
-/// Whether the byte is a sign with which no other token begins; one of those that stand most often.
-fn is_alone(c: u8) -> bool
-    ensures { result ≡ lengths.is_alone c }
-{
-    (b'(' <= c && c <= b'.') || c == b'#' || c == b'[' || c == b']'
 }
 
 /// The kind and the length of the longest prefix with a form, where no name and no decimal number begins with the first
@@ -97,29 +90,28 @@ pub fn longest_token(rest: &[u8]) -> Option<(TokenKind, usize)>
     Some(best)
 }
 
-/// The kind and the length of the token at the front of an operation's place.
-fn operation_at(rest: &[u8]) -> (TokenKind, usize)
-    ensures the { IsTheToken due.Operation rest.now (some_token result) }
-    ensures within { result.1 ≤ length rest.now }
+/// Whether an operation is due, and its first byte is one by itself.
+fn is_sign_due(due: Due, rest: &[u8]) -> bool
+    ensures { result ≡ is_sign_due due rest.now }
 {
-    if starts_operation(rest) {
-        return (TokenKind::Sign, 1);
+    match due {
+        Due::Operation => starts_operation(rest),
+        _ => false,
     }
-    best_of(rest)
 }
 
-/// The kind and the length of the token at the front, where something is due; the length is 0 where none stands there.
+/// The kind and the length of the token at the front, where the line does not end; the length is 0 where none stands
+/// there.
 #[inline(always)]
 fn token_at(due: Due, rest: &[u8]) -> (TokenKind, usize)
+    requires { ends_at due rest.now ≡ false }
     ensures the { IsTheToken due rest.now (some_token result) }
     ensures within { result.1 ≤ length rest.now }
 {
-    match due {
-        Due::Label => best_of(rest),
-        Due::Operation => operation_at(rest),
-        Due::Operands => best_of(rest),
-        Due::Nothing => (TokenKind::Name, 0),
+    if is_sign_due(due, rest) {
+        return (TokenKind::Sign, 1);
     }
+    best_of(rest)
 }
 
 /// Whether the first byte is an operation by itself.

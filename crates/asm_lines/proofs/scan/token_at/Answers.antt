@@ -1,9 +1,10 @@
-use Rattle.asm_lines.proofs.ScanLemmas.{label_token, operand_token}
+use Rattle.std.proofs.Common.{sym, ◌∙◌}
+use Rattle.asm_lines.proofs.ScanLemmas.{token_is_the, lone_is_the}
 use Rattle.asm_lines.proofs.scan.token_at.Goals as goal
 
-pub returns-in-Label-clause-the : goal.returns-in-Label-clause-the
-returns-in-Label-clause-the c = label_token c.args.due c.args.rest.now c.best_of.result c.in-Label.is c.best_of.ensures.value
+pub returns-then-is_sign_due-clause-the : goal.returns-then-is_sign_due-clause-the
+returns-then-is_sign_due-clause-the c = lone_is_the c.args.due c.args.rest.now (sym c.is_sign_due.ensures ∙ c.if-is_sign_due.true)
 
-pub returns-in-Operands-clause-the : goal.returns-in-Operands-clause-the
-returns-in-Operands-clause-the c =
-    operand_token c.args.due c.args.rest.now c.best_of-in-Operands.result c.in-Operands.is c.best_of-in-Operands.ensures.value
+pub returns-clause-the : goal.returns-clause-the
+returns-clause-the c =
+    token_is_the c.args.due c.args.rest.now c.best_of.result c.requires (sym c.is_sign_due.ensures ∙ c.if-is_sign_due.false) c.best_of.ensures.value
