@@ -1,12 +1,14 @@
 -- The first line of a text.
-use Rattle.std.proofs.Common.{◌≡◌, ℕ, ◌+◌, ◌-◌, ◌<◌, ◌≤◌, List, [], ◌∷◌, length, take, drop, Bool, true, false, cond, Some, None, refl, ◌∙◌, ap, arith, ◌==◌, length-drop}
+use Rattle.std.proofs.Common.{◌≡◌, ℕ, ◌+◌, ◌-◌, ◌<◌, ◌≤◌, List, [], ◌∷◌, length, take, drop, Bool, true, false, cond, Option, Some, None, inl, inr, refl, ◌∙◌, ap, arith, ◌==◌, length-drop}
 use Rattle.std.specs.Prelude.{position}
-use Rattle.std.specs.List.{slice_split, position_or_len, before_first, after_first, onto_first}
+use Rattle.std.specs.List.{slice_split, slice_index, position_or_len, before_first, after_first, onto_first}
 use Rattle.std.specs.Str.Lines.{lines, lines_of_parts, strip_carriage_return}
 use Rattle.std.proofs.lemmas.List.{drop-drop, drop_all, take-take, take_rest}
 use Rattle.std.proofs.lemmas.List.Splits.{slice_split_none, slice_split_first}
 use Rattle.std.proofs.lemmas.List.Sums.{fails_before_first}
-use Rattle.std.proofs.lemmas.Bool.{ltb-true, ltb-false, ne_eqb, cond-false}
+use Rattle.std.proofs.lemmas.Bool.{ltb-true, ltb-false, ne_eqb, cond-false, cases_order}
+use Rattle.std.proofs.lemmas.List.Quantifiers.{position-Some}
+use Rattle.memchr.specs.Find.{IsFirstByte}
 
 picked : (b : Bool) (n i : ℕ) → cond b (Some n) None ≡ Some i → (b ≡ true) × (n ≡ i)
 picked true n i e = (refl, cc)
@@ -79,3 +81,27 @@ first_from xs i j k found le stripped =
 -- no line is left at the end
 pub no_lines : (xs : List ℕ) (i : ℕ) → length xs ≤ i → lines (drop i xs) ≡ []
 no_lines xs i h = rw (drop_all i xs h) refl
+
+-- where there is no first place, the test fails everywhere
+fails_all : (p : ℕ → Bool) (xs : List ℕ) → position p xs ≡ None → (k : ℕ) → k < length xs → p (slice_index xs k) ≡ false
+fails_all p xs none k h =
+    let whole : length xs ≤ position_or_len p xs = ltb-false (position_or_len p xs) (length xs) (unpicked _ _ none) in
+    fails_before_first p xs k 0 (omega arith)
+
+-- the first place where a test passes is what `position` gives
+pub first_place : (p : ℕ → Bool) (xs : List ℕ) (r : Option ℕ) → IsFirstByte p xs r → r ≡ position p xs
+first_place p xs r h = chosen r (position p xs) h refl
+  where
+    chosen : (r q : Option ℕ) → IsFirstByte p xs r → position p xs ≡ q → r ≡ q
+    chosen None None h e = refl
+    chosen None (Some i) h e = let s = position-Some p xs i 0 e in absurd (h i (omega arith) s.0 s.1)
+    chosen (Some k) None h e = absurd (let f = fails_all p xs e k h.0.high in let t = h.1 in cc)
+    chosen (Some k) (Some i) h e =
+        let s = position-Some p xs i 0 e in
+        elim (cases_order k i) [
+          | inl same ↦ ap Some same
+          | inr ne ↦ elim ne [
+            | inl below ↦ absurd (let f = s.2 k below in let t = h.1 in cc)
+            | inr above ↦ absurd (h.0.before i (omega arith) above s.1)
+          ]
+        ]

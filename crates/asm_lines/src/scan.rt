@@ -255,6 +255,9 @@ pub const NAME_BYTES: usize = 255;
 fn is_long(token: Token) -> bool
     ensures { result ≡ model.is_long token }
 {
+    if token.end as usize <= NAME_BYTES {
+        return false;
+    }
     let width = token.end.saturating_sub(token.start) as usize;
     match token.kind {
         TokenKind::Name => width > NAME_BYTES,

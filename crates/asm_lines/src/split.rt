@@ -7,6 +7,7 @@ ghost use Rattle.asm_model.specs.Told.{Gives};
 
 use crate::scan::{begin, behind};
 use asm_model::{FileName, Line, SharedText, bad_line};
+use memchr::memchr;
 use sdt_fault::answer::Fault;
 use sdt_fault::kinds::LineKind;
 use sdt_fault::{List, NoMemory, Text};
@@ -86,7 +87,7 @@ fn first_line(text: &[u8], from: usize) -> (usize, usize)
 fn line_feed(text: &[u8]) -> Option<usize>
     ensures { result ≡ position (λ b. b == 10) text.now }
 {
-    text.iter().position(|b| *b == b'\n')
+    memchr(b'\n', text)
 }
 
 /// How many bytes stand before the carriage return at the end.
