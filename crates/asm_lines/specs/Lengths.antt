@@ -53,7 +53,7 @@ zero_x_len rest = behind_len (λ c. c == 48) (behind_len (λ c. c == 120) (prefi
 abbrev pub ampersand_len : List ℕ → ℕ
 ampersand_len rest = behind_len (λ c. c == 38) (prefix_len is_hex_digit) rest
 
--- the longest number, of which the decimal one has a length
+-- the longest number, where the longest decimal one has `decimal` bytes
 abbrev pub other_number_len : ℕ → List ℕ → ℕ
 other_number_len decimal rest = max (max decimal (max (zero_x_len rest) (ampersand_len rest))) (based_len rest)
 
