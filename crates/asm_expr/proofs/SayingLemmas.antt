@@ -15,48 +15,9 @@ use Rattle.asm_model.specs.Grammar.{ParsesTokens}
 use Rattle.asm_model.specs.Operands.{operands}
 use Rattle.asm_model.specs.Parts.{part_of}
 use Rattle.asm_model.specs.Readings.{mapped, on_both}
-use Rattle.asm_model.specs.Says.{Form, bare, name, imported, expression, expressions, area, register, boundary, refused, Sentence, sentence, directive_of, Said, statement_of, SaysAs, SaysDirective, Expression, Expressions, SomeExpressions, Area, Register, Aligned, Reads, register_alone}
+use Rattle.asm_model.specs.Says.{Form, bare, name, imported, expression, expressions, area, register, boundary, refused, Sentence, Said, statement_of, SaysAs, Expression, Expressions, SomeExpressions, Area, Register, Aligned, Reads, register_alone}
 use Rattle.asm_model.specs.Told.{Told, ToldFault}
-use Rattle.asm_expr.specs.SentenceSteps.{IsReadAs}
 use Rattle.asm_expr.proofs.ParseLaws.{one_reading}
-
--- what is made of two readings
-pub made_of_both : {A B C D : Type 0} (f : C → D) (g : A → B → C) (a : Result A LineKind) (b : Result B LineKind)
-    → mapped f (on_both g a b) ≡ on_both (λ x y. f (g x y)) a b
-made_of_both f g (Ok a) (Ok b) = refl
-made_of_both f g (Ok a) (Err k) = refl
-made_of_both f g (Err k) (Ok b) = refl
-made_of_both f g (Err k) (Err j) = refl
-
-pub said : (flat : Flat) (ts : List Token) (text : List ℕ) (s : Sentence) (o : Option Directive) (d : Directive)
-    (r : Result (Option (List ℕ) × DirectiveLine) LineKind)
-    → text ≡ flat.text → s ≡ sentence ts → o ≡ directive_of text s.operation → o ≡ Some d → IsReadAs text s d r
-    → SaysDirective flat ts (mapped (λ p. statement_of flat p.0 p.1) r)
-said flat ts text s o d r et es eo ed h =
-    let read : IsReadAs flat.text (sentence ts) d r = rw (et, es) at h in
-    let named : directive_of flat.text (sentence ts).operation ≡ Some d = rw (et, es) at (sym eo ∙ ed) in
-    rw named (
-      read.0,
-      read.1,
-      ap (mapped (λ p. statement_of flat p.0 p.1)) read.2
-          ∙ made_of_both (λ p. statement_of flat p.0 p.1) (λ label line. (label, line)) _ read.0,
-    )
-
-pub said_fault : (flat : Flat) (ts : List Token) (text : List ℕ) (s : Sentence) (o : Option Directive) (d : Directive)
-    (r : Result (Option (List ℕ) × DirectiveLine) LineKind) (k : LineKind)
-    → text ≡ flat.text → s ≡ sentence ts → o ≡ directive_of text s.operation → o ≡ Some d → IsReadAs text s d r → r ≡ Err k
-    → SaysDirective flat ts (Err k)
-said_fault flat ts text s o d r k et es eo ed h e = let all = said flat ts text s o d r et es eo ed h in rw e at all
-
-pub said_statement : (flat : Flat) (ts : List Token) (text : List ℕ) (s : Sentence) (o : Option Directive) (d : Directive)
-    (r : Result (Option (List ℕ) × DirectiveLine) LineKind)
-    (label : Option (List ℕ)) (l : DirectiveLine) (x : Said)
-    → text ≡ flat.text → s ≡ sentence ts → o ≡ directive_of text s.operation → o ≡ Some d → IsReadAs text s d r → r ≡ Ok (label, l)
-    → x ≡ Ok (statement_of flat label l) → SaysDirective flat ts x
-said_statement flat ts text s o d r label l x et es eo ed h e same =
-    let all = said flat ts text s o d r et es eo ed h in
-    let found : SaysDirective flat ts (Ok (statement_of flat label l)) = rw e at all in
-    subst (SaysDirective flat ts) (sym same) found
 
 -- an answer for what was read
 

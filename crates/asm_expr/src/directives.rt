@@ -2,18 +2,18 @@
 
 ghost use Rattle.std.specs.Prelude.{◌≡◌, ◌∷◌, IfOk};
 ghost use Rattle.asm_model.specs.declared.tokens.TokenKind.TheVariants as kind;
+ghost use Rattle.asm_model.specs.declared.directives.Directive.TheVariants as directive_is;
 ghost use Rattle.asm_model.specs.Directives as directives;
 ghost use Rattle.asm_model.specs.Forms as forms;
 ghost use Rattle.asm_model.specs.Parts as parts;
 ghost use Rattle.asm_model.specs.Says as says;
-ghost use Rattle.asm_expr.specs.SentenceSteps.{sentence_of, IsReadAs};
+ghost use Rattle.asm_expr.specs.SentenceSteps.{sentence_of};
 
 use crate::directive_names::directive_named;
-use crate::kinds::both;
 use crate::parts::{piece_of, shared_inside, shared_piece};
 use crate::read::shared_expression;
 use crate::readings::{area, bare, boundary, expressions, import, name_alone, register};
-use asm_model::{Directive, DirectiveLine, LabelNeed, SharedText, Token, TokenKind};
+use asm_model::{DataItem, Directive, DirectiveLine, LabelNeed, SharedText, Token, TokenKind};
 use sdt_fault::NoMemory;
 use sdt_fault::kinds::LineKind;
 use std::alloc::Global;
@@ -178,7 +178,22 @@ macro_rules! made {
     };
 }
 
+/// The operands of a directive that says data.
+fn constants(
+    alloc: Global,
+    text: &SharedText,
+    item: DataItem,
+    tokens: &[Token],
+) -> Result<Result<DirectiveLine, LineKind>, NoMemory>
+    ensures { IfOk result
+        (λ line. says.Reads text.now (says.form_of_directive (directive_is.Constants item)) tokens.now
+        line) }
+{
+    made!(expressions(alloc, text, tokens)?, values => DirectiveLine::Constants { item, values })
+}
+
 /// What the operands of a directive read as.
+#[inline(never)]
 fn reading(
     alloc: Global,
     text: &SharedText,
@@ -218,9 +233,7 @@ fn reading(
         }
         Directive::Ttl => Ok(bare(DirectiveLine::Ttl, tokens)),
         Directive::Subt => Ok(bare(DirectiveLine::Subt, tokens)),
-        Directive::Constants(item) => {
-            made!(expressions(alloc, text, tokens)?, values => DirectiveLine::Constants { item, values })
-        }
+        Directive::Constants(item) => constants(alloc, text, item, tokens),
         Directive::Space => {
             made!(shared_expression(alloc, text, tokens)?, size => DirectiveLine::Space { size })
         }
@@ -240,18 +253,33 @@ fn reading(
     }
 }
 
-/// The label and the directive of a line.
-pub fn read_directive(
+/// What the operands of a directive read as. Most directives of a source say data.
+pub fn operands_said(
     alloc: Global,
     text: &SharedText,
-    sentence: Sentence<'_>,
     directive: Directive,
-) -> Result<Result<(Option<SharedText>, DirectiveLine), LineKind>, NoMemory>
-    ensures { IfOk result (λ read. IsReadAs text.now (sentence_of sentence.entry) directive read) }
+    tokens: &[Token],
+) -> Result<Result<DirectiveLine, LineKind>, NoMemory>
+    ensures { IfOk result
+        (λ line. says.Reads text.now (says.form_of_directive directive) tokens.now line) }
 {
-    let label = label_field(alloc, label_need(directive), text, sentence.label)?;
-    let line = reading(alloc, text, directive, sentence.behind)?;
-    Ok(both(label, line))
+    match directive {
+        Directive::Constants(item) => constants(alloc, text, item, tokens),
+        _ => reading(alloc, text, directive, tokens),
+    }
+}
+
+/// What the label field of a directive's line reads as.
+pub fn directive_label(
+    alloc: Global,
+    text: &SharedText,
+    directive: Directive,
+    token: Option<Token>,
+) -> Result<Result<Option<SharedText>, LineKind>, NoMemory>
+    ensures { IfOk result
+        (λ label. label ≡ says.label_field (directives.label_need directive) text.now token) }
+{
+    label_field(alloc, label_need(directive), text, token)
 }
 
 /// The directive that an operation names.

@@ -64,7 +64,7 @@ fn is_tight(limit: u8, held: Held) -> bool
 }
 
 /// Whether an item is an operand.
-fn is_operand(item: &ExprItem) -> bool
+pub fn is_operand(item: &ExprItem) -> bool
     ensures { grammar.plain item.now ≡ (if result then Some item.now else None) }
 {
     match item {

@@ -3,6 +3,9 @@
 ghost use Rattle.std.specs.Prelude.{◌≡◌, ◌∷◌, [], ◌^◌, ◌<◌, ◌-◌, ◌==◌, nat_lt, IfOk, length, take, drop, if◌then◌else◌, Some, None};
 ghost use Rattle.asm_model.specs.Forms.{same};
 ghost use Rattle.asm_model.specs.Parts as parts;
+ghost use Rattle.asm_model.specs.declared.exprs.ExprItem.TheVariants as item_is;
+ghost use Rattle.asm_model.specs.declared.exprs.Part.TheVariants as part_is;
+ghost use Rattle.asm_model.specs.declared.values.Value.TheVariants as value_is;
 
 use asm_model::{BinaryOp, ExprItem, Part, SharedText, Token, TokenKind, UnaryOp, Value};
 use sdt_fault::{Bytes, NoMemory};
@@ -17,10 +20,7 @@ pub fn part_of(alloc: Global, text: &SharedText, token: Token) -> Result<Part, N
         TokenKind::Name => Ok(Part::Operand(ExprItem::Name(shared_piece(text, token)?))),
         TokenKind::Barred => Ok(Part::Operand(ExprItem::Name(shared_inside(text, token)?))),
         TokenKind::Number => Ok(Part::Operand(number_item(piece))),
-        TokenKind::Quoted => {
-            let words = undoubled(alloc, behind_one(piece))?;
-            Ok(Part::Operand(ExprItem::Constant(Value::Words(words))))
-        }
+        TokenKind::Quoted => quoted_part(alloc, piece),
         TokenKind::Character => Ok(Part::Operand(ExprItem::Constant(Value::Number(u32::from(
             character_value(piece),
         ))))),
@@ -145,6 +145,16 @@ fn number_item(piece: &[u8]) -> ExprItem
     }
 }
 
+#[inline(never)]
+fn quoted_part(alloc: Global, piece: &[u8]) -> Result<Part, NoMemory>
+    ensures { IfOk result (λ part. part
+        ≡ part_is.Operand (item_is.Constant (value_is.Words
+        (parts.undoubled (drop 1 piece.now))))) }
+{
+    let words = undoubled(alloc, behind_one(piece))?;
+    Ok(Part::Operand(ExprItem::Constant(Value::Words(words))))
+}
+
 /// The content of a string, from what stands behind its first quote.
 fn undoubled(alloc: Global, quoted: &[u8]) -> Result<Bytes, NoMemory>
     ensures { IfOk result (λ words. words ≡ parts.undoubled quoted.now) }
@@ -180,6 +190,7 @@ pub fn is_sign(piece: &[u8], sign: u8) -> bool
     }
 }
 
+#[inline(never)]
 fn braced_part(alloc: Global, piece: &[u8]) -> Result<Part, NoMemory>
     ensures { IfOk result (λ part. part ≡ parts.braced_part piece.now) }
 {
@@ -208,6 +219,7 @@ fn braced_part(alloc: Global, piece: &[u8]) -> Result<Part, NoMemory>
     Ok(Part::Other)
 }
 
+#[inline(never)]
 fn sign_part(piece: &[u8]) -> Part
     ensures { result ≡ parts.sign_part piece.now }
 {

@@ -1,22 +1,49 @@
 //! Reading tokens as an expression.
 
-ghost use Rattle.std.specs.Prelude.{IfOk, map};
+ghost use Rattle.std.specs.Prelude.{◌∷◌, [], IfOk, map};
 ghost use Rattle.asm_model.specs.Grammar as grammar;
 ghost use Rattle.asm_model.specs.Parts as parts;
 ghost use Rattle.asm_model.specs.Told.{Told};
+ghost use Rattle.asm_model.specs.declared.exprs.Part.TheVariants as part_is;
 ghost use Rattle.asm_expr.specs.Parsing as parsing;
 ghost use Rattle.asm_expr.specs.Steps.{IsRead};
 
-use crate::parser::Parser;
+use crate::parser::{Parser, is_operand};
 use crate::parts::part_of;
-use asm_model::{Expr, Flat, SharedText, Token, bad_line};
+use asm_model::{Expr, ExprItem, Flat, Part, SharedText, Token, bad_line};
 use sdt_fault::answer::Fault;
 use sdt_fault::kinds::LineKind;
 use sdt_fault::{List, NoMemory};
 use std::alloc::Global;
 
-/// The expression that tokens of a line spell; None where they spell none.
-fn read(alloc: Global, text: &SharedText, tokens: &[Token]) -> Result<Option<Expr>, NoMemory>
+/// The expression that one part spells.
+#[tactic(auto, unfolding(crate::specs::Parsing::step, crate::specs::Parsing::finished))]
+fn alone(alloc: Global, part: Part) -> Result<Option<Expr>, NoMemory>
+    ensures { IfOk result (λ reading. IsRead (part ∷ []) reading) }
+{
+    match part {
+        Part::Operand(item) => operand_alone(alloc, item),
+        _ => Ok(None),
+    }
+}
+
+/// The expression of one item.
+fn operand_alone(alloc: Global, item: ExprItem) -> Result<Option<Expr>, NoMemory>
+    ensures { IfOk result (λ reading. IsRead (part_is.Operand item ∷ []) reading) }
+{
+    if !is_operand(&item) {
+        return Ok(None);
+    }
+    let mut items = Vec::with_capacity(alloc, 1)?;
+    items.push(item)?;
+    Ok(Some(Expr {
+        items: List::from_vec(items),
+    }))
+}
+
+/// The expression that tokens of a line spell, read part by part.
+#[inline(never)]
+fn by_parts(alloc: Global, text: &SharedText, tokens: &[Token]) -> Result<Option<Expr>, NoMemory>
     ensures { IfOk result (λ reading. IsRead (map (parts.part_of text.now) tokens.now) reading) }
 {
     let mut parser = Parser::with_room(alloc, tokens.len())?;
@@ -32,6 +59,17 @@ fn read(alloc: Global, text: &SharedText, tokens: &[Token]) -> Result<Option<Exp
             items: List::from_vec(items),
         })),
     }
+}
+
+/// The expression that tokens of a line spell; None where they spell none. One token alone, as most expressions have,
+/// needs no parser.
+fn read(alloc: Global, text: &SharedText, tokens: &[Token]) -> Result<Option<Expr>, NoMemory>
+    ensures { IfOk result (λ reading. IsRead (map (parts.part_of text.now) tokens.now) reading) }
+{
+    if let [token] = tokens {
+        return alone(alloc, part_of(alloc, text, *token)?);
+    }
+    by_parts(alloc, text, tokens)
 }
 
 /// What tokens of a line read as: the expression that they spell, or Syntax where they spell none. Its names share the

@@ -144,7 +144,22 @@ fn with_one_more(
     Ok(Ok(List::from_vec(items)))
 }
 
+/// The expression of one operand alone.
+fn one_expression(
+    alloc: Global,
+    text: &SharedText,
+    operand: &[Token],
+) -> Result<Result<List<Expr>, LineKind>, NoMemory>
+    ensures { IfOk result (λ all. says.Expressions text.now (operand.now ∷ []) all) }
+{
+    let expression = or_kind!(shared_expression(alloc, text, operand)?);
+    let mut items = Vec::with_capacity(alloc, 1)?;
+    items.push(expression)?;
+    Ok(Ok(List::from_vec(items)))
+}
+
 /// Operands, each of them an expression.
+#[inline(never)]
 fn some_expressions(
     alloc: Global,
     text: &SharedText,
@@ -177,6 +192,10 @@ pub fn expressions(
 {
     if tokens.is_empty() {
         return Ok(Err(LineKind::Syntax));
+    }
+    let (operand, behind) = first_operand(text, tokens);
+    if behind.is_none() {
+        return one_expression(alloc, text, operand);
     }
     some_expressions(alloc, text, tokens)
 }

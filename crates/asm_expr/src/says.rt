@@ -1,14 +1,16 @@
 //! What a line says, from what was read of it: a statement, or the kind of its faults that is told.
 
-ghost use Rattle.std.specs.Prelude.{◌≡◌, IfOk, Ok};
+ghost use Rattle.std.specs.Prelude.{◌≡◌, IfOk, Ok, Some};
 ghost use Rattle.asm_model.specs.Readings as readings;
 ghost use Rattle.asm_model.specs.Says as says;
 ghost use Rattle.asm_model.specs.Told.{Told};
+ghost use Rattle.asm_expr.specs.SentenceSteps.{sentence_of, told_with};
 
-use crate::directives::{directive_of, parts_of, read_directive};
+use crate::directives::{Sentence, directive_label, directive_of, operands_said, parts_of};
 use crate::kinds::earlier;
-use crate::or_kind;
-use asm_model::{FileName, Flat, SharedText, Statement, Token, What, bad_line};
+use asm_model::{
+    Directive, DirectiveLine, FileName, Flat, SharedText, Statement, Token, What, bad_line,
+};
 use sdt_fault::NoMemory;
 use sdt_fault::answer::Fault;
 use sdt_fault::kinds::LineKind;
@@ -27,9 +29,9 @@ pub fn statement(
     ensures { source ≡ line.now.source
         → result ≡ readings.on_both (says.statement line.now) label what }
 {
-    match what {
-        Ok(what) => match label {
-            Ok(label) => Ok(Some(Statement {
+    match label {
+        Ok(label) => match what {
+            Ok(what) => Ok(Some(Statement {
                 source,
                 number: line.number,
                 label,
@@ -38,10 +40,45 @@ pub fn statement(
             })),
             Err(kind) => Err(kind),
         },
-        Err(kind) => match label {
-            Ok(_) => Err(kind),
-            Err(other) => Err(earlier(other, kind)),
+        Err(kind) => Err(told_with(kind, what)),
+    }
+}
+
+/// The kind that is told of a line whose label has a fault. Apart, since what is read besides may have any form, and to
+/// free it takes much code.
+#[cold]
+#[inline(never)]
+fn told_with<T: Drop>(kind: LineKind, reading: Result<T, LineKind>) -> LineKind
+    ensures { result ≡ told_with kind reading }
+{
+    match reading {
+        Ok(_) => kind,
+        Err(other) => earlier(kind, other),
+    }
+}
+
+/// The statement of a line that is a directive.
+fn directive_statement(
+    source: FileName,
+    line: &Flat,
+    label: Result<Option<SharedText>, LineKind>,
+    said: Result<DirectiveLine, LineKind>,
+) -> ParsedStatement
+    ensures { source ≡ line.now.source
+        → result ≡ readings.on_both (says.statement_of line.now) label said }
+{
+    match label {
+        Ok(label) => match said {
+            Ok(said) => Ok(Some(Statement {
+                source,
+                number: line.number,
+                label,
+                what: What::Directive(said),
+                is_long: false,
+            })),
+            Err(kind) => Err(kind),
         },
+        Err(kind) => Err(told_with(kind, said)),
     }
 }
 
@@ -60,6 +97,23 @@ pub fn statement_or_refusal(
     }
 }
 
+/// What a line says whose operation is a directive.
+#[inline(never)]
+pub fn of_directive(
+    alloc: Global,
+    line: &Flat,
+    sentence: Sentence<'_>,
+    directive: Directive,
+) -> Result<ParsedStatement, NoMemory>
+    ensures { IfOk result
+        (λ said. says.SaysAs line.now (sentence_of sentence.entry) (Some directive) said) }
+{
+    let source = line.source.share()?;
+    let label = directive_label(alloc, &line.text, directive, sentence.label)?;
+    let said = operands_said(alloc, &line.text, directive, sentence.behind)?;
+    Ok(directive_statement(source, line, label, said))
+}
+
 /// What a line says as a directive, from its tokens, or the kind of its faults that is told.
 pub fn said_directive(
     alloc: Global,
@@ -68,14 +122,11 @@ pub fn said_directive(
 ) -> Result<ParsedStatement, NoMemory>
     ensures { IfOk result (λ said. says.SaysDirective line.now tokens.now said) }
 {
-    let text = &line.text;
     let sentence = parts_of(tokens);
-    let Some(directive) = directive_of(text, sentence.operation) else {
+    let Some(directive) = directive_of(&line.text, sentence.operation) else {
         return Ok(Ok(None));
     };
-    let source = line.source.share()?;
-    let (label, said) = or_kind!(read_directive(alloc, text, sentence, directive)?);
-    Ok(statement(source, line, Ok(label), Ok(What::Directive(said))))
+    of_directive(alloc, line, sentence, directive)
 }
 
 /// What a line says as a directive, from its tokens; None where it has no operation, or its operation is no

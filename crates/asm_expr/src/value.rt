@@ -219,9 +219,23 @@ fn value_of(
     ensures { IfOk result (λ value. value
         ≡ evaluating.ended (evaluating.run (seen_names seen.now) items.now [])) }
 {
-    if let [item] = items {
-        return known(alloc, operand(alloc, seen, item)?);
+    match items {
+        [ExprItem::Constant(value)] => Ok(Ok(value.try_clone(alloc)?)),
+        [item] => known(alloc, operand(alloc, seen, item)?),
+        _ => by_stack(alloc, seen, items),
     }
+}
+
+/// The value of items, by a stack of operands.
+#[inline(never)]
+fn by_stack(
+    alloc: Global,
+    seen: &Seen<'_>,
+    items: &[ExprItem],
+) -> Result<Result<Value, LineKind>, NoMemory>
+    ensures { IfOk result (λ value. value
+        ≡ evaluating.ended (evaluating.run (seen_names seen.now) items.now [])) }
+{
     let mut stack = run(alloc, seen, items)?;
     ended(alloc, &mut stack)
 }

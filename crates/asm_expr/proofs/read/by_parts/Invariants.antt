@@ -2,7 +2,7 @@ use Rattle.std.proofs.Common.{◌≡◌, drop, map, Some}
 use Rattle.asm_model.specs.Parts.{part_of}
 use Rattle.asm_expr.specs.Parsing.{parsed, started}
 use Rattle.asm_expr.specs.Steps.{state_of}
-use Rattle.asm_expr.proofs.read.read.Given as goal
+use Rattle.asm_expr.proofs.read.by_parts.Given as goal
 
 abbrev pub invariant-tokens : goal.invariant-tokens
 invariant-tokens l =
