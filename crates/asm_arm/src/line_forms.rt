@@ -175,6 +175,7 @@ fn sum_line(
     data(alloc, text, process, registers, second)
 }
 
+#[inline(never)]
 fn moves(alloc: Global, text: &SharedText, process: Process, cut: Cut<'_>) -> ParsedOperation
     ensures { IfOk result
         (λ said. lines.ReadsMove text.now process.condition process.operation process.set_flags
@@ -189,6 +190,7 @@ fn moves(alloc: Global, text: &SharedText, process: Process, cut: Cut<'_>) -> Pa
     }
 }
 
+#[inline(never)]
 fn comparisons(alloc: Global, text: &SharedText, process: Process, cut: Cut<'_>) -> ParsedOperation
     ensures { IfOk result
         (λ said. lines.ReadsComparison text.now process.condition process.operation
@@ -217,18 +219,11 @@ fn sums(alloc: Global, text: &SharedText, process: Process, cut: Cut<'_>) -> Par
     }
 }
 
-fn data_words(
-    alloc: Global,
-    text: &SharedText,
-    process: Process,
-    tokens: &[Token],
-) -> ParsedOperation
+fn data_words(alloc: Global, text: &SharedText, process: Process, cut: Cut<'_>) -> ParsedOperation
     ensures { IfOk result
         (λ said. lines.ReadsShape text.now process.condition process.operation process.set_flags
-        (words.shape_of process.operation)
-        (operands.cut (model.operands text.now tokens.now)) said) }
+        (words.shape_of process.operation) (cut_of cut.entry) said) }
 {
-    let cut = cut_operands(text, tokens);
     match shape_of(process.operation) {
         Shape::Move => moves(alloc, text, process, cut),
         Shape::Comparison => {
@@ -296,6 +291,7 @@ fn multiply_accumulate(
     }
 }
 
+#[inline(never)]
 fn multiplication(
     alloc: Global,
     text: &SharedText,
@@ -322,6 +318,7 @@ pub struct LongProduct {
     pub set_flags: bool,
 }
 
+#[inline(never)]
 fn multiply_long(
     alloc: Global,
     text: &SharedText,
@@ -380,6 +377,7 @@ fn swap_registers(
     with_second(two, based(alloc, text, address))
 }
 
+#[inline(never)]
 fn swap(
     alloc: Global,
     text: &SharedText,
@@ -404,6 +402,7 @@ fn swap(
     }
 }
 
+#[inline(never)]
 fn exchange(alloc: Global, text: &SharedText, condition: Condition, cut: Cut<'_>) -> ParsedOperation
     ensures { IfOk result (λ said. said ≡ lines.exchange text.now condition (cut_of cut.entry)) }
 {
@@ -416,6 +415,7 @@ fn exchange(alloc: Global, text: &SharedText, condition: Condition, cut: Cut<'_>
     }
 }
 
+#[inline(never)]
 fn read_status(
     alloc: Global,
     text: &SharedText,
@@ -472,6 +472,7 @@ fn status_value(
     }
 }
 
+#[inline(never)]
 fn write_status(
     alloc: Global,
     text: &SharedText,
@@ -519,6 +520,7 @@ pub fn without_hash<'a>(text: &SharedText, tokens: &'a [Token]) -> &'a [Token]
     }
 }
 
+#[inline(never)]
 fn interrupt(
     alloc: Global,
     text: &SharedText,
@@ -551,6 +553,7 @@ fn address_line(condition: Condition, long: bool, rd: Register, target: Expr) ->
     })
 }
 
+#[inline(never)]
 fn address(
     alloc: Global,
     text: &SharedText,
@@ -603,7 +606,7 @@ fn of_word(
                 operation,
                 set_flags,
             };
-            data_words(alloc, text, process, tokens)
+            data_words(alloc, text, process, cut)
         }
         Mnemonic::Multiply {
             accumulate,

@@ -264,6 +264,7 @@ fn moved(
     transferred(alloc, text, word, rd, address)
 }
 
+#[inline(never)]
 pub fn word_transfer(
     alloc: Global,
     text: &SharedText,
@@ -360,6 +361,7 @@ fn half_after(
     half_moved(alloc, text, word, rd, address)
 }
 
+#[inline(never)]
 pub fn transfer_half(
     alloc: Global,
     text: &SharedText,
@@ -377,6 +379,7 @@ pub fn transfer_half(
     }
 }
 
+#[inline(never)]
 pub fn block(
     alloc: Global,
     text: &SharedText,

@@ -136,7 +136,8 @@ fn number_value(piece: &[u8]) -> Option<u32>
     digits_value(10, piece)
 }
 
-fn number_item(piece: &[u8]) -> ExprItem
+/// The item of a number.
+pub fn number_item(piece: &[u8]) -> ExprItem
     ensures { result ≡ parts.number_item (parts.number_value piece.now) }
 {
     match number_value(piece) {

@@ -9,8 +9,8 @@ ghost use Rattle.asm_expr.specs.Parsing as parsing;
 ghost use Rattle.asm_expr.specs.Steps.{IsRead};
 
 use crate::parser::{Parser, is_operand};
-use crate::parts::part_of;
-use asm_model::{Expr, ExprItem, Flat, Part, SharedText, Token, bad_line};
+use crate::parts::{number_item, part_of, piece_of};
+use asm_model::{Expr, ExprItem, Flat, Part, SharedText, Token, TokenKind, bad_line};
 use sdt_fault::answer::Fault;
 use sdt_fault::kinds::LineKind;
 use sdt_fault::{List, NoMemory};
@@ -41,6 +41,20 @@ fn operand_alone(alloc: Global, item: ExprItem) -> Result<Option<Expr>, NoMemory
     }))
 }
 
+/// The expression that one token spells. Most are numbers.
+fn read_alone(
+    alloc: Global,
+    text: &SharedText,
+    token: Token,
+) -> Result<Option<Expr>, NoMemory>
+    ensures { IfOk result (λ reading. IsRead (parts.part_of text.now token ∷ []) reading) }
+{
+    match token.kind {
+        TokenKind::Number => operand_alone(alloc, number_item(piece_of(text, token))),
+        _ => alone(alloc, part_of(alloc, text, token)?),
+    }
+}
+
 /// The expression that tokens of a line spell, read part by part.
 #[inline(never)]
 fn by_parts(alloc: Global, text: &SharedText, tokens: &[Token]) -> Result<Option<Expr>, NoMemory>
@@ -67,7 +81,7 @@ fn read(alloc: Global, text: &SharedText, tokens: &[Token]) -> Result<Option<Exp
     ensures { IfOk result (λ reading. IsRead (map (parts.part_of text.now) tokens.now) reading) }
 {
     if let [token] = tokens {
-        return alone(alloc, part_of(alloc, text, *token)?);
+        return read_alone(alloc, text, *token);
     }
     by_parts(alloc, text, tokens)
 }

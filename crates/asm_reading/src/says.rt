@@ -8,9 +8,9 @@ ghost use Rattle.asm_model.specs.Tokens.{is_long};
 ghost use Rattle.asm_reading.specs.Says as says;
 
 use asm_arm::{line_forms as arm_forms, mnemonics as arm_mnemonics};
-use asm_expr::directives::{Sentence, label_field, parts_of};
+use asm_expr::directives::{Sentence, directive_of, label_field, parts_of};
 use asm_expr::parts::piece_of;
-use asm_expr::says::{ParsedStatement, said_directive, statement, statement_or_refusal};
+use asm_expr::says::{ParsedStatement, of_directive, statement, statement_or_refusal};
 use asm_lines::scan::{has_long, scan_into};
 use asm_model::{Flat, LabelNeed, SharedText, Statement, Token, What};
 use asm_thumb::{line_forms as thumb_forms, mnemonics as thumb_mnemonics};
@@ -92,16 +92,6 @@ fn words(
     }
 }
 
-/// Whether a line says something, or has a fault.
-fn is_told(said: &ParsedStatement) -> bool
-    ensures { result ≡ says.is_told said.now }
-{
-    match said {
-        Ok(None) => false,
-        _ => true,
-    }
-}
-
 /// What the tokens of a line say.
 fn said_by(
     alloc: Global,
@@ -112,13 +102,11 @@ fn said_by(
     ensures { IfOk result
         (λ said. says.SaysTokens (says.ReadsBy thumb) line.now tokens.now said) }
 {
-    let said = said_directive(alloc, line, tokens)?;
-    if is_told(&said) {
-        return Ok(said);
+    let sentence = parts_of(tokens);
+    match directive_of(&line.text, sentence.operation) {
+        Some(directive) => of_directive(alloc, line, sentence, directive),
+        None => words(alloc, thumb, line, sentence),
     }
-    // apart, since a statement's forms make the proof of a step dear that holds one
-    drop(said);
-    words(alloc, thumb, line, parts_of(tokens))
 }
 
 /// Marks what a line says, where a name among its tokens is beyond the limit.

@@ -131,6 +131,7 @@ fn of_word(
 }
 
 /// What the tokens behind an operation say, or the fault where nothing names it.
+#[inline(never)]
 pub fn instruction(
     alloc: Global,
     text: &SharedText,
