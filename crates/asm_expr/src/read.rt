@@ -42,11 +42,7 @@ fn operand_alone(alloc: Global, item: ExprItem) -> Result<Option<Expr>, NoMemory
 }
 
 /// The expression that one token spells. Most are numbers.
-fn read_alone(
-    alloc: Global,
-    text: &SharedText,
-    token: Token,
-) -> Result<Option<Expr>, NoMemory>
+fn read_alone(alloc: Global, text: &SharedText, token: Token) -> Result<Option<Expr>, NoMemory>
     ensures { IfOk result (λ reading. IsRead (parts.part_of text.now token ∷ []) reading) }
 {
     match token.kind {

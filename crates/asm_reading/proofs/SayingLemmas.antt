@@ -1,16 +1,18 @@
 -- What a line says, in either state.
-use Rattle.std.proofs.Common.{◌≡◌, ℕ, List, sym, ◌∙◌, ap, subst, Option, Some, None}
+use Rattle.std.proofs.Common.{◌≡◌, ℕ, List, sym, ◌∙◌, ap, refl, subst, Option, Some, None}
 use Rattle.std.specs.Prelude.{Result, Ok, Err, IfOk}
 use Rattle.std.specs.List.{list_any}
 use Rattle.sdt_fault.specs.declared.kinds.LineKind.{LineKind}
 use Rattle.asm_model.specs.declared.lines.Flat.{Flat}
 use Rattle.asm_model.specs.declared.tokens.Token.{Token}
 use Rattle.asm_model.specs.declared.statements.What.{What}
+use Rattle.asm_model.specs.declared.directives.Directive.{Directive}
+use Rattle.asm_model.specs.declared.directives.DirectiveLine.{DirectiveLine}
 use Rattle.asm_model.specs.declared.directives.LabelNeed.TheVariants as need
 use Rattle.asm_model.specs.Readings.{on_both}
-use Rattle.asm_model.specs.Says.{Said, statement, label_field, sentence, OneDirective}
+use Rattle.asm_model.specs.Says.{Said, Sentence, SaysAs, statement, statement_of, label_field, directive_of, sentence, OneDirective}
 use Rattle.asm_model.specs.Tokens.{is_long, Tokens, OneScan}
-use Rattle.asm_reading.specs.Says.{with_long, marked, SaysOperation, SaysWords, SaysOr, SaysTokens, SaysAll, SaysLine}
+use Rattle.asm_reading.specs.Says.{with_long, marked, SaysOperation, SaysWords, SaysInstruction, SaysOr, SaysTokens, SaysAll, SaysLine}
 
 -- ---- a line with an operation
 
@@ -23,6 +25,36 @@ operation_said Operation flat label t ts text l w r e le h k = (
   subst (λ z. Operation z t ts w) e h,
   k ∙ ap (λ z. on_both (statement flat) z w) (le ∙ ap (λ z. label_field need.Optional z label) e),
 )
+
+-- ---- a directive, or another operation
+
+told_directive : (Operation : List ℕ → Token → List Token → Result What LineKind → Type 0) (flat : Flat) (ts : List Token)
+    (label : Result (Option (List ℕ)) LineKind) (l : Result DirectiveLine LineKind)
+    → SaysOr Operation flat ts (on_both (statement_of flat) label l) (on_both (statement_of flat) label l)
+told_directive Operation flat ts (Ok label) (Ok l) = refl
+told_directive Operation flat ts (Ok label) (Err k) = refl
+told_directive Operation flat ts (Err k) (Ok l) = refl
+told_directive Operation flat ts (Err k) (Err j) = refl
+
+pub directive_said : {E : Type 0} (Operation : List ℕ → Token → List Token → Result What LineKind → Type 0) (flat : Flat) (ts : List Token)
+    (s : Sentence) (o : Option Directive) (d : Directive) (r : Result Said E)
+    → s ≡ sentence ts → o ≡ directive_of flat.text s.operation → o ≡ Some d → IfOk r (λ x. SaysAs flat s (Some d) x)
+    → IfOk r (λ x. SaysTokens Operation flat ts x)
+directive_said Operation flat ts s o d (Err e) es eo ed h = tt
+directive_said Operation flat ts s o d (Ok r) es eo ed h =
+    let named : Some d ≡ directive_of flat.text (sentence ts).operation = rw es at (sym ed ∙ eo) in
+    let read : SaysAs flat (sentence ts) (Some d) r = rw es at h in
+    (r, subst (λ x. SaysAs flat (sentence ts) x r) named read, subst (λ x. SaysOr Operation flat ts x x) (sym read.2) (told_directive Operation flat ts _ read.0))
+
+pub other_said : {E : Type 0} (Operation : List ℕ → Token → List Token → Result What LineKind → Type 0) (flat : Flat) (ts : List Token)
+    (s : Sentence) (o : Option Directive) (r : Result Said E)
+    → s ≡ sentence ts → o ≡ directive_of flat.text s.operation → o ≡ None → IfOk r (λ x. SaysInstruction Operation flat s x)
+    → IfOk r (λ x. SaysTokens Operation flat ts x)
+other_said Operation flat ts s o (Err e) es eo en h = tt
+other_said Operation flat ts s o (Ok r) es eo en h =
+    let none : None ≡ directive_of flat.text (sentence ts).operation = rw es at (sym en ∙ eo) in
+    let read : SaysInstruction Operation flat (sentence ts) r = rw es at h in
+    (Ok None, subst (λ x. SaysAs flat (sentence ts) x (Ok None)) none refl, read)
 
 -- ---- a line says one thing
 

@@ -47,12 +47,6 @@ SaysOr Operation flat ts (Ok None) r = SaysInstruction Operation flat (sentence 
 SaysOr Operation flat ts (Ok (Some s)) r = r ≡ Ok (Some s)
 SaysOr Operation flat ts (Err k) r = r ≡ Err k
 
--- whether something is said, or a fault told
-abbrev pub is_told : Said → Bool
-is_told (Ok None) = false
-is_told (Ok (Some s)) = true
-is_told (Err k) = true
-
 -- what tokens say: a directive, or else an instruction
 abbrev pub SaysTokens : (List ℕ → Token → List Token → Result What LineKind → Type 0) → Flat → List Token → Said → Type 0
 SaysTokens Operation flat ts r = (d : Said) × SaysDirective flat ts d × SaysOr Operation flat ts d r
