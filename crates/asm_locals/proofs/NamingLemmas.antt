@@ -1,5 +1,5 @@
 -- Naming by two passes is naming at once.
-use Rattle.std.proofs.Common.{◌≡◌, ℕ, suc, List, [], ◌∷◌, length, map, refl, ap, Option, Some, None}
+use Rattle.std.proofs.Common.{◌≡◌, ℕ, suc, List, [], ◌∷◌, length, map, refl, ap, subst, arith, get_or, ◌<◌, ◌≤◌, Option, Some, None}
 use Rattle.asm_model.specs.declared.exprs.Expr.{Expr}
 use Rattle.asm_model.specs.declared.exprs.ExprItem.{ExprItem}
 use Rattle.asm_model.specs.declared.exprs.ExprItem.TheVariants as item
@@ -197,3 +197,16 @@ named_twice before (s ∷ rest) =
 
 pub named_at_once : (ss : List Statement) → looked_ahead 0 (looked_back [] ss) ≡ in_names ss
 named_at_once ss = named_twice [] ss
+
+-- ---- what names no label
+
+abbrev of_items : List ExprItem → Expr
+of_items items = record { items = items }
+
+pub plain_named : (t : Targets) (e : Expr) (items : List ExprItem) → items ≡ e.items → map (named_item t) items ≡ items → named t e ≡ e
+plain_named t e items s h = let m : map (named_item t) e.items ≡ e.items = subst (λ x. map (named_item t) x ≡ x) s h in ap of_items m
+
+pub one_plain : (t : Targets) (es : List Expr) (x : Expr) → 1 ≤ length es → length es < 2 → x ≡ get_or es 0 x → named t x ≡ x → all_named t es ≡ es
+one_plain t [] x h k s n = absurd (omega arith)
+one_plain t (e ∷ []) x h k s n = let m : named t e ≡ e = subst (λ z. named t z ≡ z) s n in ap (λ y. y ∷ []) m
+one_plain t (e ∷ f ∷ es) x h k s n = absurd (omega arith)

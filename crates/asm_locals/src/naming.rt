@@ -1,6 +1,6 @@
 //! References to local labels as names, in all that a line says.
 
-ghost use Rattle.std.specs.Prelude.{◌≡◌, map, IfOk, OnOk};
+ghost use Rattle.std.specs.Prelude.{◌≡◌, map, true, IfOk, OnOk};
 ghost use Rattle.asm_locals.specs.Naming as naming;
 ghost use Rattle.asm_locals.specs.Passes.{found, target_of};
 
@@ -49,9 +49,35 @@ fn name_items(alloc: Global, items: &mut [ExprItem], labels: &Nearest) -> Result
     Ok(())
 }
 
+/// Whether items are one item that is no reference, as those of most expressions.
+fn is_plain(items: &[ExprItem]) -> bool
+    ensures { (targets : naming.Targets) → result ≡ true
+        → map (naming.named_item targets) items.now ≡ items.now }
+{
+    match items {
+        [ExprItem::Local(_)] => false,
+        [_] => true,
+        _ => false,
+    }
+}
+
+/// Whether expressions are one that names no label.
+fn are_plain(exprs: &[Expr]) -> bool
+    ensures { (targets : naming.Targets) → result ≡ true
+        → naming.all_named targets exprs.now ≡ exprs.now }
+{
+    match exprs {
+        [expr] => is_plain(expr.items.as_slice()),
+        _ => false,
+    }
+}
+
 pub fn name_expr(alloc: Global, expr: &mut Expr, labels: &Nearest) -> Result<(), NoMemory>
     ensures { OnOk result (expr.new ≡ naming.named (found labels.now) expr.old) }
 {
+    if is_plain(expr.items.as_slice()) {
+        return Ok(());
+    }
     let mut items = mem::replace(&mut expr.items, List::from_vec(Vec::new(alloc))).into_vec();
     name_items(alloc, items.as_mut_slice(), labels)?;
     expr.items = List::from_vec(items);
@@ -70,6 +96,9 @@ fn name_exprs(alloc: Global, exprs: &mut [Expr], labels: &Nearest) -> Result<(),
 pub fn name_all(alloc: Global, exprs: &mut List<Expr>, labels: &Nearest) -> Result<(), NoMemory>
     ensures { OnOk result (exprs.new ≡ naming.all_named (found labels.now) exprs.old) }
 {
+    if are_plain(exprs.as_slice()) {
+        return Ok(());
+    }
     let mut named = mem::replace(exprs, List::from_vec(Vec::new(alloc))).into_vec();
     name_exprs(alloc, named.as_mut_slice(), labels)?;
     *exprs = List::from_vec(named);
