@@ -1,4 +1,4 @@
--- The value of an expression that is the name of a place alone.
+-- The value of an expression that is the name of a place alone, or a number alone.
 use Rattle.std.proofs.Common.{◌≡◌, ℕ, List, [], ◌∷◌, Bool, true, false, cond, refl, sym, ap, ◌∙◌, subst, Option, Some, None}
 use Rattle.std.specs.Prelude.{Ok}
 use Rattle.asm_model.specs.declared.exprs.Expr.{Expr}
@@ -7,11 +7,11 @@ use Rattle.asm_model.specs.declared.exprs.ExprItem.TheVariants as item
 use Rattle.asm_model.specs.declared.names.LaidName.{LaidName}
 use Rattle.asm_model.specs.declared.names.Meaning.{Meaning}
 use Rattle.asm_model.specs.declared.names.Meaning.TheVariants as means
-use Rattle.asm_model.specs.declared.values.Value.TheVariants.{Place}
+use Rattle.asm_model.specs.declared.values.Value.TheVariants.{Number, Place}
 use Rattle.asm_model.specs.AtLine.{with_names}
 use Rattle.asm_model.specs.Meaning.{named_in, meant, entry_value, value_of as named_value}
 use Rattle.asm_model.specs.Said.{IsRead}
-use Rattle.asm_model.specs.Trees.{tree_of}
+use Rattle.asm_model.specs.Trees.{tree_behind, tree_of}
 use Rattle.asm_model.proofs.TreeLemmas.{trees_read_back}
 use Rattle.layout_laws.proofs.FoundLemmas.{tree_final, final_tree}
 use Rattle.asm_expr.specs.Evaluating.{run, ended}
@@ -79,3 +79,8 @@ lone_value x e n read h =
     ∙ ap (λ (is : List ExprItem). ended (run sees is [])) (sym read.items ∙ l.1)
     ∙ ap named_value l.2
     ∙ l.3
+
+pub lone_number : (x : Lookup) (e : Expr) (n : ℕ) → e.items ≡ item.Constant (Number n) ∷ [] → value_of (context_of x) e ≡ Ok (Number n)
+lone_number x e n h =
+    let f = line_of x.line.now in
+    final_tree x.names.now f e (tree_of e) refl ∙ ap (λ (is : List ExprItem). tree_final x.names.now f (tree_behind (Some []) is)) h

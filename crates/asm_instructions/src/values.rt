@@ -1,7 +1,9 @@
 //! Values of operands.
 
-ghost use Rattle.std.specs.Prelude.{◌≡◌, ◌<◌, Result, IfOk};
+ghost use Rattle.std.specs.Prelude.{◌≡◌, ◌<◌, ◌∷◌, [], Result, IfOk, IfSome};
 ghost use Rattle.sdt_fault.specs.declared.kinds.LineKind.{LineKind};
+ghost use Rattle.asm_model.specs.declared.exprs.ExprItem.TheVariants as item;
+ghost use Rattle.asm_model.specs.declared.values.Value.TheVariants.{Number};
 ghost use Rattle.asm_model.specs.Extents as extents;
 ghost use Rattle.asm_model.specs.Said.{IsRead};
 ghost use Rattle.source_model.specs.Contexts as contexts;
@@ -10,11 +12,21 @@ ghost use Rattle.asm_instructions.specs.Lookups.{Shows, context_of};
 
 use crate::lookups::{Lookup, stands_at};
 use asm_expr::told::told_value;
-use asm_model::{Expr, Value};
+use asm_model::{Expr, ExprItem, Value};
 use asm_names::final_value;
 use sdt_fault::NoMemory;
 use sdt_fault::kinds::LineKind;
 use std::alloc::Global;
+
+/// The number that an expression is, where all of it is one.
+fn lone_number(e: &Expr) -> Option<u32>
+    ensures { IfSome result (λ number. e.now.items ≡ item.Constant (Number number) ∷ []) }
+{
+    match e.items.as_slice() {
+        [ExprItem::Constant(Value::Number(number))] => Some(*number),
+        _ => None,
+    }
+}
 
 /// The value of an expression with what the lookup finds.
 pub fn value_there(
@@ -25,7 +37,10 @@ pub fn value_there(
     requires { IsRead e.now }
     ensures { IfOk result (λ value. value ≡ contexts.value_of (context_of lookup.now) e.now) }
 {
-    told_value(final_value(alloc, e, lookup.names, lookup.line))
+    match lone_number(e) {
+        Some(number) => Ok(Ok(Value::Number(number))),
+        None => told_value(final_value(alloc, e, lookup.names, lookup.line)),
+    }
 }
 
 /// A value as a number.
