@@ -6,6 +6,7 @@ use Rattle.armasm_core.specs.declared.builders.AreaBuilder.{AreaBuilder}
 use Rattle.armasm_core.specs.Builders.{HasPieces, MeetNone}
 use Rattle.armasm_core.specs.Pools.{pool_words, pooled_words, words_in}
 use Rattle.asm_units.specs.declared.emitted.LineUnits.{LineUnits}
+use Rattle.asm_units.specs.Emitting.{units_in}
 use Rattle.armasm_core.specs.declared.source_tables.SourceTables.{SourceTables}
 use Rattle.armasm_core.specs.Giving.{gives}
 use Rattle.armasm_core.specs.Putting.{IsPut}
@@ -205,10 +206,10 @@ next_there ss l w names x left known gs some at j k =
 -- what the line puts is what definitions have
 pub put_there : (ss : List Statement) (l : Layout) (w : SourceTables) (names : List (List ℕ)) (x : LaidStatement) (more : List LaidStatement)
     (known : List Named) (gs : List AreaBuild)
-    (n : Next ss l w names x more known gs) (u : LineUnits) (us : List Code) → us ≡ u.units.items → IsPut ss n.before n.rest n.line u
+    (n : Next ss l w names x more known gs) (u : LineUnits) (us : List Code) → us ≡ units_in u.units → IsPut ss n.before n.rest n.line u
     → own_things ss n.line n.before n.rest ≡ pieces_put x.line.place.offset us
 put_there ss l w names x more known gs n u us is h =
-    h.pieces ∙ ap (λ (at : ℕ). pieces_put at u.units.items) (sym n.here.line.line.place.offset) ∙ ap (pieces_put x.line.place.offset) (sym is)
+    h.pieces ∙ ap (λ (at : ℕ). pieces_put at (units_in u.units)) (sym n.here.line.line.place.offset) ∙ ap (pieces_put x.line.place.offset) (sym is)
 
 told_first : (t u : Option (Statement × LineKind)) (f : Fault) → IsTold t f → IsTold (or_else t u) f
 told_first t u f (inl none) = inl none
@@ -225,7 +226,7 @@ told_here ss l w names x more known gs n f h =
 
 pub grown_more : (ss : List Statement) (l : Layout) (w : SourceTables) (names : List (List ℕ)) (x : LaidStatement) (more : List LaidStatement)
     (known new : List Named) (gs hs : List AreaBuild)
-    (n : Next ss l w names x more known gs) (u : LineUnits) (us : List Code) → us ≡ u.units.items → IsPut ss n.before n.rest n.line u
+    (n : Next ss l w names x more known gs) (u : LineUnits) (us : List Code) → us ≡ units_in u.units → IsPut ss n.before n.rest n.line u
     → HavePieces names (with_line (things_so_far (source_of ss) n.before (n.line ∷ n.rest)) x.line.place.area (pieces_put x.line.place.offset us)) hs
     → ((q : List ℕ) → register_in q new ≡ register_in q (known ++ gives u.number (defined_by x.line.statement.now)))
     → IsGrown ss names more new hs

@@ -22,7 +22,7 @@ use Rattle.asm_layout.specs.declared.laid.LaidArea.{LaidArea}
 use Rattle.asm_laying.specs.declared.laying.LaidStatement.{LaidStatement}
 use Rattle.asm_layout.specs.declared.laid.Layout.{Layout}
 use Rattle.asm_units.specs.declared.emitted.Emitted.{Emitted as Code}
-use Rattle.asm_units.specs.Emitting.{emitted_of}
+use Rattle.asm_units.specs.Emitting.{emitted_of, units_in}
 use Rattle.asm_model.specs.Before.{areas_behind}
 use Rattle.asm_model.specs.Laid.{LaidLine, laid}
 use Rattle.asm_model.specs.Symbols.{symbols_of}
@@ -189,7 +189,7 @@ emittable l w names h =
 pub next_stands : (l : Layout) (w : SourceTables) (names : List (List ℕ)) (x : LaidStatement) (left : List LaidStatement) (known : List Named)
     (gs : List AreaBuild)
     → 1 ≤ length left → x ≡ get_or left 0 x → (g : GrowsOn l w names left known gs) → frames gs ≡ map frame_of l.areas → (u : LineUnits) (us : List Code)
-    → us ≡ u.units.items
+    → us ≡ units_in u.units
     → ((before rest : List LaidLine) (line : LaidLine) → IsHere g.source.source.statements l.areas w known before rest line x
     → IsPut g.source.source.statements before rest line u)
     → LineCanStand names (frames gs) x.line.place.area (pieces_put x.line.place.offset us)

@@ -6,7 +6,7 @@ use Rattle.asm_instructions.specs.ThumbFits.{ThumbFits}
 use Rattle.asm_layout.specs.Layout.{IsTold}
 use Rattle.asm_model.specs.declared.statements.Statement.{Statement}
 use Rattle.asm_units.specs.declared.emitted.LineUnits.{LineUnits}
-use Rattle.asm_units.specs.Emitting.{emitted_of}
+use Rattle.asm_units.specs.Emitting.{emitted_of, units_in}
 use Rattle.asm_model.specs.Kinds.{told_kind}
 use Rattle.asm_model.specs.Labels.{defined_by}
 use Rattle.asm_model.specs.Laid.{LaidLine}
@@ -34,9 +34,9 @@ AllUnitsFit (u ∷ us) = UnitFits u × AllUnitsFit us
 pub record IsPut (statements : List Statement) (before rest : List LaidLine) (l : LaidLine) (u : LineUnits) : Type 0 where
   pub faultless : told_kind (kinds_at statements before l rest) ≡ None
   pub pieces : pieces_in (context_there statements before l) (datum_names statements) l (word_there before rest l)
-      ≡ units_from l.offset (map emitted_of u.units.items)
+      ≡ units_from l.offset (map emitted_of (units_in u.units))
   pub given : named_by l.seen (defined_by l.statement) ≡ gives u.number (defined_by l.statement)
-  pub fits : AllUnitsFit (map emitted_of u.units.items)
+  pub fits : AllUnitsFit (map emitted_of (units_in u.units))
 
 -- what the line puts, or the refusal of the line, or want of memory
 abbrev pub IsPassed : List Statement → List LaidLine → List LaidLine → LaidLine → Result LineUnits Fault → Type 0

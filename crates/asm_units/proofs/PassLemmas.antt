@@ -1,7 +1,6 @@
 -- Pass 2 of a line gives what definitions have.
 use Rattle.std.proofs.Common.{◌≡◌, ℕ, List, ◌++◌, map, Option, Some, refl, sym, ap, ◌∙◌, subst, append_assoc}
 use Rattle.std.specs.Prelude.{Result, Ok, Err}
-use Rattle.std.specs.Global.{Vec}
 use Rattle.sdt_fault.specs.declared.kinds.LineKind.{LineKind}
 use Rattle.asm_model.specs.declared.statements.What.{What}
 use Rattle.asm_model.specs.declared.values.Value.{Value}
@@ -16,9 +15,9 @@ use Rattle.source_model.specs.Contexts.{Context, sees}
 use Rattle.source_model.specs.Units.{stored, units}
 use Rattle.source_model.specs.ValueKinds.{literal_kinds, statement_kinds, value_kinds}
 use Rattle.asm_units.specs.declared.tables.LineTables.{LineTables}
-use Rattle.asm_units.specs.declared.emitted.Emitted.{Emitted as Code}
+use Rattle.asm_units.specs.declared.emitted.Emission.{Emission}
 use Rattle.asm_units.specs.declared.emitted.LineUnits.{LineUnits}
-use Rattle.asm_units.specs.Emitting.{all_emitted, emitted_of}
+use Rattle.asm_units.specs.Emitting.{all_emitted, emitted_of, units_in}
 use Rattle.asm_units.specs.Literals.{literal_in}
 use Rattle.asm_units.specs.Passing.{AreJoined, IsNumber, IsPassTwo}
 use Rattle.asm_units.specs.Showing.{ShowsTables, ShowsNames}
@@ -42,7 +41,7 @@ names_shown x c data_names sizes s word w h = record { names = h.lookup.names; a
 -- ---- all parts of a line
 
 module _ (c : Context) (data_names : List (List ℕ)) (sizes : ℕ → ℕ) (s : Names) (e : Extent) (word : Option ℕ) (w : What)
-    (us : Result (Vec Code) LineKind) (loads said both : Option LineKind) (number : Result ℕ LineKind) where
+    (us : Result Emission LineKind) (loads said both : Option LineKind) (number : Result ℕ LineKind) where
   told_all : both ≡ first_told loads said → all_emitted us ≡ units c data_names s word w → loads ≡ told_kind (literal_kinds c data_names e)
       → said ≡ told_kind (statement_kinds c sizes w) → first_told (told_kind (fault_kinds us)) both ≡ told_kind (value_kinds c data_names sizes s e word w)
   told_all joins puts literal tells =
@@ -50,7 +49,7 @@ module _ (c : Context) (data_names : List (List ℕ)) (sizes : ℕ → ℕ) (s :
       let literals = literal_kinds c data_names e in
       let statements = statement_kinds c sizes w in
       told_of_two (told_kind (fault_kinds us)) both own (literals ++ statements)
-      (ap told_kind (sym (fault_mapped (λ (vs : Vec Code). map emitted_of vs.items) us) ∙ ap fault_kinds puts))
+      (ap told_kind (sym (fault_mapped (λ (vs : Emission). map emitted_of (units_in vs)) us) ∙ ap fault_kinds puts))
       (joins ∙ told_of_two loads said literals statements literal tells)
       ∙ ap told_kind (sym (append_assoc own literals statements))
 

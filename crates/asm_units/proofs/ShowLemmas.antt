@@ -2,7 +2,6 @@
 use Rattle.std.proofs.Common.{◌≡◌, ℕ, ◌&&◌, Bool, false, not, List, [], ◌∷◌, Option, Some, None, refl, ap, ◌∙◌}
 use Rattle.std.specs.Prelude.{Result, Ok, Err, IfOk}
 use Rattle.std.specs.List.{list_any}
-use Rattle.std.specs.Global.{Vec}
 use Rattle.sdt_fault.specs.declared.kinds.LineKind.{LineKind}
 use Rattle.asm_model.specs.declared.exprs.Expr.{Expr}
 use Rattle.asm_model.specs.declared.directives.DirectiveLine.{DirectiveLine}
@@ -27,7 +26,7 @@ use Rattle.asm_instructions.proofs.AlikeLemmas.{number_alike, stands_alike}
 use Rattle.asm_instructions.proofs.ContextLemmas.{Alike, shown_alike}
 use Rattle.asm_laying.specs.Reading.{is_words, marks, held_marks, occupied_marks, string_marks}
 use Rattle.asm_units.specs.declared.tables.LineTables.{LineTables}
-use Rattle.asm_units.specs.declared.emitted.Emitted.{Emitted as Code}
+use Rattle.asm_units.specs.declared.emitted.Emission.{Emission}
 use Rattle.asm_units.specs.Emitting.{all_emitted}
 use Rattle.asm_units.specs.Marked.{marked_operand, marked_units, marked_held, marked_occupied, marked_directive}
 use Rattle.asm_units.specs.Showing.{ShowsTables}
@@ -136,7 +135,7 @@ directive_shown x l us c data_names sizes s word e h =
     ∙ occupied_alike (context_of x.lookup) c (shown_alike x.lookup c h.lookup) x.data.now data_names h.labels x.strings.now (occupied l)
     ∙ occupied_marked c s h.known data_names x.strings.now (occupied l) h.strings
 
-pub directive_answered : {E : Type 0} (x : LineTables) (l : DirectiveLine) (r : Result (Result (Vec Code) LineKind) E)
+pub directive_answered : {E : Type 0} (x : LineTables) (l : DirectiveLine) (r : Result (Result Emission LineKind) E)
     → IfOk r (λ us. all_emitted us ≡ marked_directive (context_of x.lookup) x.data.now x.strings.now l)
     → IfOk r
     (λ us. (c : Context) (data_names : List (List ℕ)) (sizes : ℕ → ℕ) (s : Names) (word : Option ℕ) → ShowsTables x c data_names sizes s word (what.Directive l)

@@ -1,7 +1,6 @@
 -- Pass 2 of a line: what the line puts into its area and what its RN gives, or the kind that is told of the faults of its
 -- values. SDT 2.50 Reference Guide, chapter on the assembler; the kinds are this project's.
 use Rattle.std.specs.Prelude.{◌≡◌, ℕ, List, map, Option, Some, None, Result, Ok, Err}
-use Rattle.std.specs.Global.{Vec}
 use Rattle.sdt_fault.specs.declared.kinds.LineKind.{LineKind}
 use Rattle.asm_model.specs.declared.directives.RnOperand.TheVariants as rn
 use Rattle.asm_model.specs.declared.directives.DirectiveLine.TheVariants as line
@@ -15,9 +14,9 @@ use Rattle.asm_model.specs.LayoutKinds.{fault_kinds}
 use Rattle.source_model.specs.Contexts.{Context, number_in}
 use Rattle.source_model.specs.Units.{units}
 use Rattle.source_model.specs.ValueKinds.{value_kinds}
-use Rattle.asm_units.specs.declared.emitted.Emitted.{Emitted}
+use Rattle.asm_units.specs.declared.emitted.Emission.{Emission}
 use Rattle.asm_units.specs.declared.emitted.LineUnits.{LineUnits}
-use Rattle.asm_units.specs.Emitting.{emitted_of}
+use Rattle.asm_units.specs.Emitting.{emitted_of, units_in}
 
 -- the number of RN's expression; of other statements nothing is said
 abbrev pub IsNumber : Context → What → Result ℕ LineKind → Type 0
@@ -28,7 +27,7 @@ IsNumber c _ x = Unit {0}
 pub record PutsUnits (c : Context) (data_names : List (List ℕ)) (sizes : ℕ → ℕ) (s : Names) (e : Extent) (word : Option ℕ) (w : What)
     (u : LineUnits) : Type 0 where
   pub faultless : told_kind (value_kinds c data_names sizes s e word w) ≡ None
-  pub all : units c data_names s word w ≡ Ok (map emitted_of u.units.items)
+  pub all : units c data_names s word w ≡ Ok (map emitted_of (units_in u.units))
   pub number : IsNumber c w u.number
 
 abbrev pub IsPassTwo : Context → List (List ℕ) → (ℕ → ℕ) → Names → Extent → Option ℕ → What → Result LineUnits LineKind → Type 0
@@ -38,6 +37,6 @@ IsPassTwo c data_names sizes s e word w (Err k) = told_kind (value_kinds c data_
 -- ---- as code joins them
 
 -- the parts of a line without a fault, or the kind that is told of their faults
-abbrev pub AreJoined : Result (Vec Emitted) LineKind → Option LineKind → Result ℕ LineKind → Result LineUnits LineKind → Type 0
+abbrev pub AreJoined : Result Emission LineKind → Option LineKind → Result ℕ LineKind → Result LineUnits LineKind → Type 0
 AreJoined us said number (Ok u) = (us ≡ Ok u.units) × (said ≡ None) × (number ≡ u.number)
 AreJoined us said number (Err k) = first_told (told_kind (fault_kinds us)) said ≡ Some k

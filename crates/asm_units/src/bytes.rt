@@ -11,7 +11,7 @@ ghost use Rattle.asm_instructions.specs.Lookups.{context_of};
 ghost use Rattle.asm_units.specs.Emitting.{all_emitted, emitted_of};
 ghost use Rattle.asm_units.specs.Marked as marked;
 
-use crate::emitted::Emitted;
+use crate::emitted::{Emission, Emitted};
 use crate::joining::{bytes_unit, push_next};
 use crate::tables::LineTables;
 use asm_instructions::values::{number_there, value_there};
@@ -93,19 +93,19 @@ pub fn numbers(
     tables: &LineTables<'_>,
     width: u8,
     operands: &[Expr],
-) -> Result<Result<Vec<Emitted>, LineKind>, NoMemory>
+) -> Result<Result<Emission, LineKind>, NoMemory>
     requires { AllRead operands.now }
     ensures { IfOk result (λ us. all_emitted us
         ≡ units.number_units (context_of tables.now.lookup) width operands.now) }
 {
-    let mut so_far = Ok(Vec::with_capacity(alloc, operands.len())?);
+    let mut so_far = Ok(Emission::Nothing);
     let mut left = operands;
     'operands: loop {
         match left {
             [] => return Ok(so_far),
             [operand, behind @ ..] => {
                 let next = number(alloc, tables, width, operand)?;
-                so_far = push_next(so_far, next)?;
+                so_far = push_next(alloc, so_far, next)?;
                 left = behind;
             }
         }
@@ -176,12 +176,12 @@ pub fn bytes(
     alloc: Global,
     tables: &LineTables<'_>,
     operands: &[Expr],
-) -> Result<Result<Vec<Emitted>, LineKind>, NoMemory>
+) -> Result<Result<Emission, LineKind>, NoMemory>
     requires { AllRead operands.now }
     ensures { IfOk result (λ us. all_emitted us
         ≡ marked.marked_units (context_of tables.now.lookup) tables.now.strings.now operands.now) }
 {
-    let mut so_far = Ok(Vec::with_capacity(alloc, operands.len())?);
+    let mut so_far = Ok(Emission::Nothing);
     let mut marks = tables.strings;
     let mut left = operands;
     'operands: loop {
@@ -189,7 +189,7 @@ pub fn bytes(
             [] => return Ok(so_far),
             [operand, behind @ ..] => {
                 let next = operand_bytes(alloc, tables, first_mark(marks), operand)?;
-                so_far = push_next(so_far, next)?;
+                so_far = push_next(alloc, so_far, next)?;
                 marks = other_marks(marks);
                 left = behind;
             }

@@ -9,9 +9,9 @@ ghost use Rattle.source_model.specs.PseudoForms as pseudo;
 ghost use Rattle.source_model.specs.ThumbForms as halves;
 ghost use Rattle.source_model.specs.Units as units;
 ghost use Rattle.asm_instructions.specs.Lookups.{Shows};
-ghost use Rattle.asm_units.specs.Emitting.{all_emitted, emitted_of};
+ghost use Rattle.asm_units.specs.Emitting.{all_emitted, emitted_of, units_in};
 
-use crate::emitted::Emitted;
+use crate::emitted::{Emission, Emitted};
 use crate::tables::LineTables;
 use arm_isa::ArmInstr;
 use asm_instructions::{arm_unit, pseudo_instructions, thumb_pseudo_instruction, thumb_unit};
@@ -22,34 +22,18 @@ use source_model::ThumbCode;
 use std::alloc::Global;
 use thumb_isa::ThumbInstr;
 
-fn one(alloc: Global, unit: Emitted) -> Result<Vec<Emitted>, NoMemory>
-    ensures { IfOk result (λ us. map emitted_of us.items ≡ emitted_of unit ∷ []) }
-{
-    let mut units = Vec::with_capacity(alloc, 1)?;
-    units.push(unit)?;
-    Ok(units)
-}
-
 fn instruction_unit(
-    alloc: Global,
     instruction: Result<ArmInstr, LineKind>,
     symbol: Option<SharedText>,
-) -> Result<Result<Vec<Emitted>, LineKind>, NoMemory>
-    ensures { IfOk result (λ us. all_emitted us
-        ≡ mapped (λ i. units.Instruction i symbol ∷ []) instruction) }
+) -> Result<Emission, LineKind>
+    ensures { all_emitted result ≡ mapped (λ i. units.Instruction i symbol ∷ []) instruction }
 {
     match instruction {
-        Ok(instruction) => {
-            let units = one(
-                alloc,
-                Emitted::Instruction {
-                    instruction,
-                    symbol,
-                },
-            )?;
-            Ok(Ok(units))
-        }
-        Err(kind) => Ok(Err(kind)),
+        Ok(instruction) => Ok(Emission::One(Emitted::Instruction {
+            instruction,
+            symbol,
+        })),
+        Err(kind) => Err(kind),
     }
 }
 
@@ -58,30 +42,31 @@ pub fn arm(
     alloc: Global,
     tables: &LineTables<'_>,
     line: &ArmLine,
-) -> Result<Result<Vec<Emitted>, LineKind>, NoMemory>
+) -> Result<Result<Emission, LineKind>, NoMemory>
     requires { ArmSaid line.now }
     ensures { IfOk result (λ us. (c : Context) → Shows tables.now.lookup c → all_emitted us
         ≡ mapped (λ i. units.Instruction i (units.branch_symbol c line.now) ∷ [])
         (forms.arm_instruction c line.now)) }
 {
     let (instruction, symbol) = arm_unit(alloc, &tables.lookup, line)?;
-    instruction_unit(alloc, instruction, symbol)
+    Ok(instruction_unit(instruction, symbol))
 }
 
-fn instruction_units(alloc: Global, instructions: &[ArmInstr]) -> Result<Vec<Emitted>, NoMemory>
-    ensures { IfOk result (λ us. map emitted_of us.items
+fn instruction_units(alloc: Global, instructions: &[ArmInstr]) -> Result<Emission, NoMemory>
+    ensures { IfOk result (λ us. map emitted_of (units_in us)
         ≡ units.instruction_units instructions.now) }
 {
-    let mut units = Vec::with_capacity(alloc, instructions.len())?;
+    let mut units = Emission::Nothing;
     let mut left = instructions;
     'instructions: loop {
         match left {
             [] => return Ok(units),
             [instruction, behind @ ..] => {
-                units.push(Emitted::Instruction {
+                let unit = Emitted::Instruction {
                     instruction: *instruction,
                     symbol: None,
-                })?;
+                };
+                units = units.with(alloc, unit)?;
                 left = behind;
             }
         }
@@ -91,7 +76,7 @@ fn instruction_units(alloc: Global, instructions: &[ArmInstr]) -> Result<Vec<Emi
 fn all_units(
     alloc: Global,
     instructions: Result<List<ArmInstr>, LineKind>,
-) -> Result<Result<Vec<Emitted>, LineKind>, NoMemory>
+) -> Result<Result<Emission, LineKind>, NoMemory>
     ensures { IfOk result (λ us. all_emitted us ≡ mapped units.instruction_units instructions) }
 {
     match instructions {
@@ -117,19 +102,14 @@ fn code_unit(symbol: Option<SharedText>, code: ThumbCode) -> Emitted
 }
 
 fn code_units(
-    alloc: Global,
     symbol: Option<SharedText>,
     code: Result<ThumbCode, LineKind>,
-) -> Result<Result<Vec<Emitted>, LineKind>, NoMemory>
-    ensures { IfOk result (λ us. all_emitted us
-        ≡ mapped (λ i. units.code_unit symbol i ∷ []) code) }
+) -> Result<Emission, LineKind>
+    ensures { all_emitted result ≡ mapped (λ i. units.code_unit symbol i ∷ []) code }
 {
     match code {
-        Ok(code) => {
-            let units = one(alloc, code_unit(symbol, code))?;
-            Ok(Ok(units))
-        }
-        Err(kind) => Ok(Err(kind)),
+        Ok(code) => Ok(Emission::One(code_unit(symbol, code))),
+        Err(kind) => Err(kind),
     }
 }
 
@@ -138,28 +118,22 @@ pub fn thumb(
     alloc: Global,
     tables: &LineTables<'_>,
     line: &ThumbLine,
-) -> Result<Result<Vec<Emitted>, LineKind>, NoMemory>
+) -> Result<Result<Emission, LineKind>, NoMemory>
     requires { ThumbSaid line.now }
     ensures { IfOk result (λ us. (c : Context) → Shows tables.now.lookup c → all_emitted us
         ≡ mapped (λ i. units.code_unit (units.link_symbol c line.now) i ∷ [])
         (halves.thumb_instruction c line.now)) }
 {
     let (code, symbol) = thumb_unit(alloc, &tables.lookup, line)?;
-    code_units(alloc, symbol, code)
+    Ok(code_units(symbol, code))
 }
 
-fn half_units(
-    alloc: Global,
-    instruction: Result<ThumbInstr, LineKind>,
-) -> Result<Result<Vec<Emitted>, LineKind>, NoMemory>
-    ensures { IfOk result (λ us. all_emitted us ≡ mapped (λ i. units.Half i ∷ []) instruction) }
+fn half_units(instruction: Result<ThumbInstr, LineKind>) -> Result<Emission, LineKind>
+    ensures { all_emitted result ≡ mapped (λ i. units.Half i ∷ []) instruction }
 {
     match instruction {
-        Ok(instruction) => {
-            let units = one(alloc, Emitted::Half(instruction))?;
-            Ok(Ok(units))
-        }
-        Err(kind) => Ok(Err(kind)),
+        Ok(instruction) => Ok(Emission::One(Emitted::Half(instruction))),
+        Err(kind) => Err(kind),
     }
 }
 
@@ -167,20 +141,20 @@ fn thumb_pseudo(
     alloc: Global,
     tables: &LineTables<'_>,
     line: &PseudoLine,
-) -> Result<Result<Vec<Emitted>, LineKind>, NoMemory>
+) -> Result<Result<Emission, LineKind>, NoMemory>
     requires { PseudoSaid line.now }
     ensures { IfOk result (λ us. (c : Context) → Shows tables.now.lookup c → all_emitted us
         ≡ mapped (λ i. units.Half i ∷ []) (halves.thumb_pseudo c tables.now.word line.now)) }
 {
     let instruction = thumb_pseudo_instruction(alloc, &tables.lookup, tables.word, line)?;
-    half_units(alloc, instruction)
+    Ok(half_units(instruction))
 }
 
 fn arm_pseudo(
     alloc: Global,
     tables: &LineTables<'_>,
     line: &PseudoLine,
-) -> Result<Result<Vec<Emitted>, LineKind>, NoMemory>
+) -> Result<Result<Emission, LineKind>, NoMemory>
     requires { PseudoSaid line.now }
     ensures { IfOk result (λ us. (c : Context) → Shows tables.now.lookup c → all_emitted us
         ≡ mapped units.instruction_units (pseudo.pseudo_instructions c tables.now.word line.now)) }
@@ -194,7 +168,7 @@ pub fn pseudo(
     alloc: Global,
     tables: &LineTables<'_>,
     line: &PseudoLine,
-) -> Result<Result<Vec<Emitted>, LineKind>, NoMemory>
+) -> Result<Result<Emission, LineKind>, NoMemory>
     requires { PseudoSaid line.now }
     ensures { IfOk result (λ us. (c : Context) → Shows tables.now.lookup c → all_emitted us
         ≡ units.pseudo_units c.line.thumb c tables.now.word line.now) }

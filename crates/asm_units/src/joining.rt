@@ -5,10 +5,11 @@ ghost use Rattle.asm_model.specs.Readings.{mapped};
 ghost use Rattle.source_model.specs.Units as units;
 ghost use Rattle.asm_units.specs.Emitting.{all_emitted, emitted_of, stored_of, with_next};
 
-use crate::emitted::{Emitted, Stored};
+use crate::emitted::{Emission, Emitted, Stored};
 use asm_expr::kinds::earlier;
 use sdt_fault::kinds::LineKind;
 use sdt_fault::{Bytes, NoMemory};
+use std::alloc::Global;
 
 /// A word as a unit.
 pub fn word_unit(word: Result<Stored, LineKind>) -> Result<Emitted, LineKind>
@@ -32,16 +33,16 @@ pub fn bytes_unit(bytes: Result<Bytes, LineKind>) -> Result<Emitted, LineKind>
 
 /// Units with one more behind them.
 pub fn push_next(
-    so_far: Result<Vec<Emitted>, LineKind>,
+    alloc: Global,
+    so_far: Result<Emission, LineKind>,
     next: Result<Emitted, LineKind>,
-) -> Result<Result<Vec<Emitted>, LineKind>, NoMemory>
+) -> Result<Result<Emission, LineKind>, NoMemory>
     ensures { IfOk result (λ more. all_emitted more
         ≡ with_next (all_emitted so_far) (mapped emitted_of next)) }
 {
     match (so_far, next) {
         (Ok(units), Ok(next)) => {
-            let mut units = units;
-            units.push(next)?;
+            let units = units.with(alloc, next)?;
             Ok(Ok(units))
         }
         (Ok(_), Err(kind)) => Ok(Err(kind)),

@@ -20,7 +20,7 @@ mod stored_words;
 pub mod symbols;
 pub mod tables;
 
-pub use crate::emitted::{Emitted, LineUnits, RelocationTarget, Stored};
+pub use crate::emitted::{Emission, Emitted, LineUnits, RelocationTarget, Stored};
 pub use crate::line_symbols::add_line;
 pub use crate::literals::literal_stored;
 pub use crate::records::{SymbolFlags, record_of};

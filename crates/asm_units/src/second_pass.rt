@@ -17,7 +17,7 @@ ghost use Rattle.asm_units.specs.Literals.{literal_in};
 ghost use Rattle.asm_units.specs.Passing.{AreJoined, IsNumber, IsPassTwo};
 ghost use Rattle.asm_units.specs.Showing.{ShowsTables};
 
-use crate::emitted::{Emitted, LineUnits};
+use crate::emitted::{Emission, LineUnits};
 use crate::kinds::statement_kind;
 use crate::literals::literal_value;
 use crate::statements::units;
@@ -96,7 +96,7 @@ fn kind_with(kind: LineKind, other: Option<LineKind>) -> LineKind
 
 /// What a line puts, where none of its parts has a fault; else the kind that is told.
 fn joined(
-    units: Result<Vec<Emitted>, LineKind>,
+    units: Result<Emission, LineKind>,
     said: Option<LineKind>,
     number: Result<u32, LineKind>,
 ) -> Result<LineUnits, LineKind>

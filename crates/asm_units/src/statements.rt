@@ -14,7 +14,7 @@ ghost use Rattle.asm_units.specs.Marked as marked;
 ghost use Rattle.asm_units.specs.Showing.{ShowsTables};
 
 use crate::bytes::{bytes, numbers};
-use crate::emitted::Emitted;
+use crate::emitted::Emission;
 use crate::instructions::{arm, pseudo, thumb};
 use crate::stored_words::words;
 use crate::tables::LineTables;
@@ -29,7 +29,7 @@ fn held_units(
     tables: &LineTables<'_>,
     held: Held,
     values: &[Expr],
-) -> Result<Result<Vec<Emitted>, LineKind>, NoMemory>
+) -> Result<Result<Emission, LineKind>, NoMemory>
     requires { AllRead values.now }
     ensures { IfOk result (λ us. all_emitted us
         ≡ marked.marked_held (context_of tables.now.lookup) tables.now.data.now
@@ -46,7 +46,7 @@ fn occupied_units(
     alloc: Global,
     tables: &LineTables<'_>,
     occupied: Occupied<'_>,
-) -> Result<Result<Vec<Emitted>, LineKind>, NoMemory>
+) -> Result<Result<Emission, LineKind>, NoMemory>
     requires { OccupiedSaid (occupied_of_code occupied) }
     ensures { IfOk result (λ us. all_emitted us
         ≡ marked.marked_occupied (context_of tables.now.lookup) tables.now.data.now
@@ -60,7 +60,7 @@ fn occupied_units(
         | Occupied::Entering
         | Occupied::Zeroes(_)
         | Occupied::UpTo(_)
-        | Occupied::Literals => Ok(Ok(Vec::new(alloc))),
+        | Occupied::Literals => Ok(Ok(Emission::Nothing)),
     }
 }
 
@@ -68,7 +68,7 @@ fn directive_there(
     alloc: Global,
     tables: &LineTables<'_>,
     line: &DirectiveLine,
-) -> Result<Result<Vec<Emitted>, LineKind>, NoMemory>
+) -> Result<Result<Emission, LineKind>, NoMemory>
     requires { DirectiveSaid line.now }
     ensures { IfOk result (λ us. all_emitted us
         ≡ marked.marked_directive (context_of tables.now.lookup) tables.now.data.now
@@ -81,7 +81,7 @@ fn directive(
     alloc: Global,
     tables: &LineTables<'_>,
     line: &DirectiveLine,
-) -> Result<Result<Vec<Emitted>, LineKind>, NoMemory>
+) -> Result<Result<Emission, LineKind>, NoMemory>
     requires { DirectiveSaid line.now }
     ensures { IfOk result
         (λ us. (c : Context) (data_names : List (List ℕ)) (sizes : ℕ
@@ -97,7 +97,7 @@ pub fn units(
     alloc: Global,
     tables: &LineTables<'_>,
     what: &What,
-) -> Result<Result<Vec<Emitted>, LineKind>, NoMemory>
+) -> Result<Result<Emission, LineKind>, NoMemory>
     requires { WhatSaid what.now }
     ensures { IfOk result
         (λ us. (c : Context) (data_names : List (List ℕ)) (sizes : ℕ
@@ -106,7 +106,7 @@ pub fn units(
         ≡ model.units c data_names s word what.now) }
 {
     match what {
-        What::Nothing => Ok(Ok(Vec::new(alloc))),
+        What::Nothing => Ok(Ok(Emission::Nothing)),
         What::Arm(line) => arm(alloc, tables, line),
         What::Thumb(line) => thumb(alloc, tables, line),
         What::Pseudo(line) => pseudo(alloc, tables, line),

@@ -15,7 +15,7 @@ ghost use Rattle.asm_sets.specs.Sets.{HaveSame};
 ghost use Rattle.asm_units.specs.Emitting.{all_emitted, emitted_of, stored_of};
 ghost use Rattle.asm_units.specs.Showing.{ShowsNames};
 
-use crate::emitted::{Emitted, RelocationTarget, Stored};
+use crate::emitted::{Emission, Emitted, RelocationTarget, Stored};
 use crate::joining::{push_next, word_unit};
 use crate::named::{is_thumb_entry, place_at};
 use crate::tables::LineTables;
@@ -152,19 +152,19 @@ pub fn words(
     alloc: Global,
     tables: &LineTables<'_>,
     operands: &[Expr],
-) -> Result<Result<Vec<Emitted>, LineKind>, NoMemory>
+) -> Result<Result<Emission, LineKind>, NoMemory>
     requires { AllRead operands.now }
     ensures { IfOk result (λ us. all_emitted us
         ≡ units.word_units (context_of tables.now.lookup) tables.now.data.now operands.now) }
 {
-    let mut so_far = Ok(Vec::with_capacity(alloc, operands.len())?);
+    let mut so_far = Ok(Emission::Nothing);
     let mut left = operands;
     'operands: loop {
         match left {
             [] => return Ok(so_far),
             [operand, behind @ ..] => {
                 let next = word(alloc, tables, operand)?;
-                so_far = push_next(so_far, next)?;
+                so_far = push_next(alloc, so_far, next)?;
                 left = behind;
             }
         }
