@@ -9,7 +9,9 @@ use Rattle.expand_model.specs.Known.{Operand}
 use Rattle.expand_model.specs.States.{State, found}
 use Rattle.expand_model.specs.Steps.{equ_number, flat_of, is_equ, number_rows}
 use Rattle.expand_model.specs.Words.{listed}
-use Rattle.asm_variables.specs.Maps.{Map, Set, value_named, has_name}
+use Rattle.asm_variables.specs.LineNames.{has_noted}
+use Rattle.asm_variables.specs.Maps.{Map, value_named}
+use Rattle.asm_variables.specs.declared.line_names.LineNames.{LineNames}
 use Rattle.asm_variables.specs.declared.expansion.Expansion.{Expansion}
 use Rattle.asm_expand.specs.declared.line_cursors.LineCursor.{LineCursor}
 use Rattle.asm_variables.specs.Expanding.{Becomes}
@@ -23,10 +25,10 @@ abbrev pub Numbers : Option (List ℕ) → Option ℕ → Map ℕ → Map ℕ �
 Numbers name number old new =
     (q : List ℕ) → value_named new q ≡ or_else (value_named old q) (found q (number_rows name number))
 
-abbrev pub Labels : Option (List ℕ) → Set → Set → Type 0
+abbrev pub Labels : Option (List ℕ) → LineNames → LineNames → Type 0
 Labels name old new =
     (q : List ℕ) →
-    has_name new q ≡ (list_any (λ n. same n q) (listed name) || has_name old q)
+    has_noted new q ≡ (list_any (λ n. same n q) (listed name) || has_noted old q)
 
 abbrev pub noted : Flat → Option (List ℕ) → Option ℕ → Bool → State → State
 noted flat name number thumb s = record s {

@@ -31,7 +31,7 @@ abbrev pub IsFrame : Frame → Context → Type 0
 IsFrame (frame.Condition p) (Condition l) = IsFirst p l
 IsFrame (frame.Alternative p) (Alternative l) = IsFirst p l
 IsFrame (frame.Loop p) (Loop l ls) = cursor_lines p ≡ l ∷ ls
-IsFrame (frame.Call c p) (Call scope ls) = HasScope c scope × (cursor_lines p ≡ ls)
+IsFrame (frame.Call c p) (Call scope ls) = HasScope c.value scope × (cursor_lines p ≡ ls)
 IsFrame (frame.File p) (File ls) = cursor_lines p ≡ ls
 IsFrame _ _ = ⊥
 

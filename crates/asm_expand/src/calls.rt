@@ -219,6 +219,11 @@ fn call_with(
         return Err(NoMemory);
     };
     let outer = state.enter(scope);
+    let Ok(outer) = Box::new(alloc, outer) else {
+        drop(body);
+        drop(at);
+        return Err(NoMemory);
+    };
     Ok(Next::Under(Frame::Call(outer, at.past(1)), body))
 }
 

@@ -22,8 +22,9 @@ use crate::turning::turn;
 use asm_lines::split_lines;
 use asm_model::{Flat, bad_line};
 use asm_variables::expansion::Expansion;
+use asm_variables::line_names::LineNames;
 use asm_variables::variables::Tables;
-use indexmap::{IndexMap, IndexSet};
+use indexmap::IndexMap;
 use sdt_fault::answer::Fault;
 use sdt_fault::kinds::LineKind;
 use sdt_fault::refusal::Refusal;
@@ -59,7 +60,7 @@ fn started(alloc: Global) -> Engine
             macros: IndexMap::new(alloc),
             flats: Vec::new(alloc),
             numbers: IndexMap::new(alloc),
-            labels: IndexSet::new(alloc),
+            labels: LineNames::new(alloc),
             thumb: false,
         },
         frames: Vec::new(alloc),

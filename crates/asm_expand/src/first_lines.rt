@@ -1,12 +1,13 @@
 //! What the first of some lines says.
 
-ghost use Rattle.std.specs.Prelude.{◌≡◌, ◌+◌, ◌≤◌, ◌<◌, ◌^◌, length, IfOk};
+ghost use Rattle.std.specs.Prelude.{◌≡◌, ◌+◌, ◌≤◌, ◌<◌, ◌^◌, length, IfOk, OnOk};
 ghost use Rattle.expand_model.specs.Known.{ReadsExpression};
 ghost use Rattle.std.specs.List.{list_all};
 ghost use Rattle.sdt_fault.specs.declared.kinds.LineKind.TheVariants.{Nesting};
 ghost use Rattle.asm_model.specs.Kinds.{told_kind};
 ghost use Rattle.expand_model.specs.Steps.{Stop, Closed, Left};
 ghost use Rattle.expand_model.specs.Steps as model;
+ghost use Rattle.asm_variables.specs.Expanding.{Becomes};
 ghost use Rattle.asm_variables.specs.Known.{WasRead};
 ghost use Rattle.asm_expand.specs.FirstLines.{IsCalled, IsKind, IsRead, Reads, ReadsLine, ReadsText, SaysAlone, SaysGet, TakesOperand, kind_shown, said_by};
 ghost use Rattle.asm_expand.specs.Plain.{Begins};
@@ -120,9 +121,10 @@ fn takes_expression(kind: &Kind, word: &[u8]) -> bool
     }
 }
 
-/// The operand of a line with this operation, where one is read.
+/// The operand of a line with this operation, where one is read; it may ask for names in label fields.
 fn operand_of(
     alloc: Global,
+    state: &mut Expansion,
     kind: &Kind,
     word: &[u8],
     text: &[u8],
@@ -131,8 +133,12 @@ fn operand_of(
     ensures reads { IfOk result
         (λ operand. TakesOperand (kind_shown kind.now) word.now text.now operand) }
     ensures read { IfOk result (λ operand. WasRead operand) }
+    ensures state { OnOk result (Becomes state.old state.new (λ s. s)) }
+    ensures visits { state.new.visits ≡ state.old.visits }
+    ensures flats { state.new.flats.items ≡ state.old.flats.items }
 {
     if takes_expression(kind, word) {
+        state.settle_labels()?;
         return expression_in(alloc, text);
     }
     Ok(Err(LineKind::Syntax))
@@ -309,7 +315,7 @@ fn read_text(
         drop(at);
         return Err(NoMemory);
     };
-    let Ok(operand) = operand_of(alloc, &kind, words.operation, text) else {
+    let Ok(operand) = operand_of(alloc, state, &kind, words.operation, text) else {
         drop(kind);
         drop(at);
         return Err(NoMemory);

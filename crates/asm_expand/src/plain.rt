@@ -15,10 +15,11 @@ use asm_expr::operands::is;
 use asm_model::{Expr, Flat, SharedText, is_called};
 use asm_variables::expansion::Expansion;
 use asm_variables::line_fields::Words;
-use asm_variables::maps::{add, put};
+use asm_variables::line_names::LineNames;
+use asm_variables::maps::put;
 use asm_variables::prototypes::{is_barred, is_name};
 use asm_variables::values::known_number;
-use indexmap::{IndexMap, IndexSet};
+use indexmap::IndexMap;
 use sdt_fault::NoMemory;
 use sdt_fault::kinds::LineKind;
 use std::alloc::Global;
@@ -110,12 +111,12 @@ fn note_number(
 }
 
 /// Notes a name in a label field.
-fn note_label(labels: &mut IndexSet<SharedText>, name: Option<SharedText>) -> Result<(), NoMemory>
+fn note_label(labels: &mut LineNames, name: Option<SharedText>) -> Result<(), NoMemory>
     ensures { OnOk result (Labels name labels.old labels.new) }
 {
     match name {
         None => Ok(()),
-        Some(name) => add(labels, name),
+        Some(name) => labels.note(name),
     }
 }
 

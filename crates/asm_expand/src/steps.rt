@@ -22,8 +22,8 @@ pub enum Frame {
     Alternative(LineCursor),
     /// The lines behind the WHILE there, up to its WEND.
     Loop(LineCursor),
-    /// The body of a macro, with what the call around it has, and the lines behind the call.
-    Call(Scope, LineCursor),
+    /// The body of a macro, with what the call around it has, and the lines behind the call. The box keeps a `Next` small.
+    Call(Box<Scope>, LineCursor),
     /// A file, with the lines behind its GET.
     File(LineCursor),
 }

@@ -287,7 +287,10 @@ pub fn turn(alloc: Global, state: &mut Expansion, frame: Frame, end: End) -> Res
         Frame::Condition(at) => turn_condition(alloc, state, at, end),
         Frame::Alternative(at) => Ok(turn_alternative(state, at, end)),
         Frame::Loop(at) => turn_loop(alloc, state, at, end),
-        Frame::Call(scope, behind) => Ok(turn_call(state, scope, behind, end)),
+        Frame::Call(scope, behind) => {
+            let scope = Box::into_inner(scope);
+            Ok(turn_call(state, scope, behind, end))
+        }
         Frame::File(behind) => Ok(turn_file(state, behind, end)),
     }
 }

@@ -2,6 +2,7 @@ pub mod KnownLemmas
 pub mod MapLemmas
 pub mod MeaningLemmas
 pub mod OperandLemmas
+pub mod OperationLemmas
 pub mod PairLemmas
 pub mod PrototypeLemmas
 pub mod StateLemmas

@@ -8,7 +8,8 @@ use Rattle.expand_model.specs.declared.macros.Macro.{Macro}
 use Rattle.expand_model.specs.Prototypes.{macro_named}
 use Rattle.expand_model.specs.States.{State, found, locals_of, arguments_of, with_scope}
 use Rattle.expand_model.specs.States as model
-use Rattle.asm_variables.specs.Maps.{Map, value_named, has_name}
+use Rattle.asm_variables.specs.LineNames.{has_noted}
+use Rattle.asm_variables.specs.Maps.{Map, value_named}
 use Rattle.asm_variables.specs.declared.expansion.Definition.{Definition}
 use Rattle.asm_variables.specs.declared.expansion.Expansion.{Expansion}
 use Rattle.asm_variables.specs.declared.expansion.Scope.{Scope}
@@ -35,7 +36,7 @@ pub record Represents (c : Expansion) (s : State) : Type 0 where
   pub macros : (q : List ℕ) → maybe_macro (value_named c.macros q) ≡ macro_named q s.macros
   pub flats : c.flats.items ≡ s.flats
   pub numbers : (q : List ℕ) → value_named c.numbers q ≡ found q s.numbers
-  pub labels : (q : List ℕ) → has_name c.labels q ≡ list_any (λ name. same name q) s.labels
+  pub labels : (q : List ℕ) → has_noted c.labels q ≡ list_any (λ name. same name q) s.labels
   pub thumb : c.thumb ≡ s.thumb
 
 -- what a state becomes

@@ -2,6 +2,7 @@
 pub mod Entries
 pub mod Expanding
 pub mod Known
+pub mod LineNames
 pub mod Maps
 pub mod Operands
 pub mod Pairing

@@ -5,11 +5,12 @@ ghost use Rattle.expand_model.specs.States as model;
 ghost use Rattle.expand_model.specs.Steps.{with_visits};
 ghost use Rattle.asm_variables.specs.Expanding.{Becomes, Enters, Replaces, macro_of, with_macro};
 
+use crate::line_names::LineNames;
 use crate::maps::put;
 use crate::variables::Tables;
 use asm_model::{Flat, Line, SharedText, Value};
 use expand_model::Prototype;
-use indexmap::{IndexMap, IndexSet};
+use indexmap::IndexMap;
 use sdt_fault::{List, NoMemory};
 use std::alloc::Global;
 use std::mem;
@@ -43,7 +44,7 @@ pub struct Expansion {
     /// The names that an EQU made a number.
     pub numbers: IndexMap<SharedText, u32>,
     /// The names in label fields of flat lines.
-    pub labels: IndexSet<SharedText>,
+    pub labels: LineNames,
     pub thumb: bool,
 }
 
@@ -101,6 +102,15 @@ impl Expansion {
         ensures flats { self.new.flats.items ≡ self.old.flats.items }
     {
         self.visits = self.visits.saturating_sub(count);
+    }
+
+    /// The names in label fields are made ready for an expression to ask for them.
+    pub fn settle_labels(&mut self) -> Result<(), NoMemory>
+        ensures state { OnOk result (Becomes self.old self.new (λ s. s)) }
+        ensures visits { self.new.visits ≡ self.old.visits }
+        ensures flats { self.new.flats.items ≡ self.old.flats.items }
+    {
+        self.labels.settle()
     }
 
     /// A global variable more.

@@ -7,6 +7,7 @@
 
 pub mod expansion;
 pub mod line_fields;
+pub mod line_names;
 pub mod maps;
 pub mod operands;
 pub mod operations;

@@ -1,20 +1,36 @@
 //! The word of expansion that an operation names.
 
-ghost use Rattle.std.specs.Prelude.{◌≡◌};
+ghost use Rattle.std.specs.Prelude.{◌≡◌, length};
 ghost use Rattle.expand_model.specs.Operations as model;
 
 use asm_model::is_called;
 use expand_model::{Operation, Sort};
 
-/// The word of expansion that an operation names, in any case; None where it names none.
+/// The word of expansion that an operation names, in any case; None where it names none. Most operations have three letters,
+/// as one of these words has.
 #[tactic(auto, unfolding(expand_model::specs::Operations::operation_of))]
 pub fn operation_of(word: &[u8]) -> Option<Operation>
     ensures { result ≡ model.operation_of word.now }
 {
+    if word.len() == 3 {
+        return word_of_three(word);
+    }
     if let Some(operation) = structure_word(word) {
         return Some(operation);
     }
     variable_word(word)
+}
+
+/// The same, of three letters.
+#[tactic(auto, using(crate::proofs::OperationLemmas::get_of_three, crate::proofs::OperationLemmas::none_of_three))]
+fn word_of_three(word: &[u8]) -> Option<Operation>
+    requires { length word.now ≡ 3 }
+    ensures { result ≡ model.operation_of word.now }
+{
+    if is_called(b"GET", word) {
+        return Some(Operation::Get);
+    }
+    None
 }
 
 /// The same, of the words for conditions, loops, macros and files.

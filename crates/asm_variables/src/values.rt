@@ -163,7 +163,7 @@ fn label_named(
 ) -> Result<Option<LaidName>, NoMemory>
     ensures { IfOk result (λ entry. IsLabel state.now name.now entry) }
 {
-    if !state.labels.contains(name) {
+    if !state.labels.has(name) {
         return Ok(None);
     }
     let entry = entry_of(alloc, name, Value::Number(0))?;

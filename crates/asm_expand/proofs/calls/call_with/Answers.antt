@@ -4,6 +4,7 @@ use Rattle.asm_model.specs.Kinds.{told_kind}
 use Rattle.expand_model.specs.declared.macros.Prototype.{Prototype}
 use Rattle.expand_model.specs.Prototypes.{argument_rows, call_kinds, label_rows, scope_of}
 use Rattle.expand_model.specs.Steps.{depth_kinds}
+use Rattle.asm_variables.specs.declared.expansion.Scope.{Scope}
 use Rattle.asm_variables.specs.Expanding.{HasScope}
 use Rattle.asm_expand.specs.Saying.{depth_of}
 use Rattle.asm_variables.specs.Steps.{words_shown}
@@ -33,4 +34,4 @@ returns-clause-says c =
     })))
     c.requires of_prototype in
     let entered = c.enter-outer.ensures.state s (Some (scope_of c.args.called.now.prototype.value w)) r of_texts in
-    rw told ((entered.1, c.past.ensures ∙ ap (λ (xs : List Line). drop 1 xs) a), entered.0, c.in-Ok-of_body.ensures)
+    rw told ((subst (λ (x : Scope). HasScope x s.scope) (sym c.in-Ok-new.ensures.ok) entered.1, c.past.ensures ∙ ap (λ (xs : List Line). drop 1 xs) a), entered.0, c.in-Ok-of_body.ensures)

@@ -31,7 +31,7 @@ returns-clause-says c =
     (λ n h sources s l ls a r.
     text_said sources (depth_of c.args.depth) c.say-said.new.state n s l ls c.args.flat.now (words_shown c.words_of-words.result) (kind_shown c.in-Ok.kind)
     c.in-Ok-operand_of.operand short
-    (c.in-Ok.ensures s r) (rw is at c.words_of-words.ensures) (rw is at c.in-Ok-operand_of.ensures.reads) (h sources s l ls a r))
+    (c.in-Ok.ensures s r) (rw is at c.words_of-words.ensures) (rw is at c.in-Ok-operand_of.ensures.reads) (h sources s l ls a (c.in-Ok-operand_of.ensures.state s r)))
     c.say-said.ensures.says
 
 pub say-said-requires-clause-begins : goal.say-said-requires-clause-begins
