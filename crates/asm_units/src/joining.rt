@@ -1,6 +1,6 @@
 //! Units one behind the other.
 
-ghost use Rattle.std.specs.Prelude.{◌≡◌, IfOk};
+ghost use Rattle.std.specs.Prelude.{◌≡◌, ◌∷◌, [], IfOk};
 ghost use Rattle.asm_model.specs.Readings.{mapped};
 ghost use Rattle.source_model.specs.Units as units;
 ghost use Rattle.asm_units.specs.Emitting.{all_emitted, emitted_of, stored_of, with_next};
@@ -27,6 +27,16 @@ pub fn bytes_unit(bytes: Result<Bytes, LineKind>) -> Result<Emitted, LineKind>
 {
     match bytes {
         Ok(bytes) => Ok(Emitted::Bytes(bytes)),
+        Err(kind) => Err(kind),
+    }
+}
+
+/// A unit alone.
+pub fn one_unit(unit: Result<Emitted, LineKind>) -> Result<Emission, LineKind>
+    ensures { all_emitted result ≡ mapped (λ u. u ∷ []) (mapped emitted_of unit) }
+{
+    match unit {
+        Ok(unit) => Ok(Emission::One(unit)),
         Err(kind) => Err(kind),
     }
 }

@@ -16,7 +16,7 @@ ghost use Rattle.asm_units.specs.Emitting.{all_emitted, emitted_of, stored_of};
 ghost use Rattle.asm_units.specs.Showing.{ShowsNames};
 
 use crate::emitted::{Emission, Emitted, RelocationTarget, Stored};
-use crate::joining::{push_next, word_unit};
+use crate::joining::{one_unit, push_next, word_unit};
 use crate::named::{is_thumb_entry, place_at};
 use crate::tables::LineTables;
 use asm_instructions::values::value_there;
@@ -147,8 +147,7 @@ fn word(
     Ok(word_unit(stored))
 }
 
-/// The words of DCD and DCDU.
-pub fn words(
+fn several_words(
     alloc: Global,
     tables: &LineTables<'_>,
     operands: &[Expr],
@@ -168,5 +167,24 @@ pub fn words(
                 left = behind;
             }
         }
+    }
+}
+
+/// The words of DCD and DCDU.
+pub fn words(
+    alloc: Global,
+    tables: &LineTables<'_>,
+    operands: &[Expr],
+) -> Result<Result<Emission, LineKind>, NoMemory>
+    requires { AllRead operands.now }
+    ensures { IfOk result (λ us. all_emitted us
+        ≡ units.word_units (context_of tables.now.lookup) tables.now.data.now operands.now) }
+{
+    match operands {
+        [operand] => {
+            let unit = word(alloc, tables, operand)?;
+            Ok(one_unit(unit))
+        }
+        _ => several_words(alloc, tables, operands),
     }
 }

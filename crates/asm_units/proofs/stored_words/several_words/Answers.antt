@@ -6,7 +6,7 @@ use Rattle.source_model.specs.Units.{Word, stored, word_units}
 use Rattle.asm_instructions.specs.Lookups.{context_of}
 use Rattle.asm_units.specs.Emitting.{all_emitted, emitted_of}
 use Rattle.asm_units.proofs.JoinLemmas.{operand_next}
-use Rattle.asm_units.proofs.stored_words.words.Goals as goal
+use Rattle.asm_units.proofs.stored_words.several_words.Goals as goal
 
 pub operands-preserved : goal.operands-preserved
 operands-preserved c =

@@ -4,7 +4,7 @@ use Rattle.source_model.specs.Units.{word_units}
 use Rattle.asm_instructions.specs.Lookups.{context_of}
 use Rattle.asm_units.specs.Emitting.{all_emitted}
 use Rattle.asm_units.proofs.JoinLemmas.{joined}
-use Rattle.asm_units.proofs.stored_words.words.Given as goal
+use Rattle.asm_units.proofs.stored_words.several_words.Given as goal
 
 abbrev pub invariant-operands : goal.invariant-operands
 invariant-operands l =
