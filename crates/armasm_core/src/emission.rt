@@ -61,7 +61,9 @@ fn grown(
             [] => return Ok(builds),
             [line, rest @ ..] => {
                 let LineUnits { units, number } = pass_line(alloc, areas, whole, &registers, line)?;
-                put_line(&mut builds, &line.line.place, units.as_slice(), symbols)?;
+                let put = put_line(&mut builds, &line.line.place, units.as_slice(), symbols);
+                drop(units);
+                put?;
                 define_register(alloc, &mut registers, line.line.statement, number)?;
                 left = rest;
             }
