@@ -1,6 +1,6 @@
 //! What the first of some lines says.
 
-ghost use Rattle.std.specs.Prelude.{◌≡◌, ◌+◌, ◌≤◌, ◌<◌, ◌^◌, length, IfOk, OnOk};
+ghost use Rattle.std.specs.Prelude.{◌≡◌, ◌+◌, ◌≤◌, ◌<◌, ◌^◌, true, false, length, IfOk, OnOk};
 ghost use Rattle.expand_model.specs.Known.{ReadsExpression};
 ghost use Rattle.std.specs.List.{list_all};
 ghost use Rattle.sdt_fault.specs.declared.kinds.LineKind.TheVariants.{Nesting};
@@ -9,6 +9,7 @@ ghost use Rattle.expand_model.specs.Steps.{Stop, Closed, Left};
 ghost use Rattle.expand_model.specs.Steps as model;
 ghost use Rattle.asm_variables.specs.Expanding.{Becomes};
 ghost use Rattle.asm_variables.specs.Known.{WasRead};
+ghost use Rattle.asm_expand.specs.declared.first_lines.Kind.TheVariants as kind;
 ghost use Rattle.asm_expand.specs.FirstLines.{IsCalled, IsKind, IsRead, Reads, ReadsLine, ReadsText, SaysAlone, SaysGet, TakesOperand, kind_shown, said_by};
 ghost use Rattle.asm_expand.specs.Plain.{Begins};
 ghost use Rattle.asm_expand.specs.Saying.{Says, SaysFrom, depth_of, most_flats};
@@ -21,7 +22,7 @@ use crate::definitions::definition;
 use crate::dollars::has_dollar;
 use crate::faults::{alone_fault, is_some_text, label_fault};
 use crate::line_cursors::LineCursor;
-use crate::plain::{is_equ, say_plain};
+use crate::plain::{is_equ, say_numbered, say_plain};
 use crate::steps::{Depth, End, Next};
 use asm_expr::directives::parts_of;
 use asm_expr::read::expression;
@@ -293,6 +294,23 @@ fn say(
     }
 }
 
+/// Whether a line is no part of expansion and no EQU, as most lines are where no macro is defined.
+fn stays(state: &Expansion, words: Words<'_>) -> bool
+    ensures plain { result ≡ true → IsKind state.now (words_shown words.entry) kind.Plain }
+    ensures number { result ≡ true → model.is_equ words.entry.operation.now ≡ false }
+{
+    if !state.macros.is_empty() {
+        return false;
+    }
+    if is_equ(words.operation) {
+        return false;
+    }
+    if let Some(_) = operation_of(words.operation) {
+        return false;
+    }
+    true
+}
+
 /// What a line says that has this text after substitution.
 fn read_text(
     alloc: Global,
@@ -311,6 +329,9 @@ fn read_text(
         return Ok(Next::Bad(at, LineKind::TooMany));
     }
     let words = words_of(text);
+    if stays(state, words) {
+        return say_numbered(alloc, state, at, flat, words, None);
+    }
     let Ok(kind) = kind_of(alloc, state, words) else {
         drop(at);
         return Err(NoMemory);

@@ -2,6 +2,7 @@
 
 ghost use Rattle.std.specs.Prelude.{◌≡◌, ◌+◌, ◌≤◌, length, IfOk, OnOk};
 ghost use Rattle.asm_model.specs.Says.{between_bars};
+ghost use Rattle.expand_model.specs.Known.{Operand};
 ghost use Rattle.expand_model.specs.Steps as model;
 ghost use Rattle.expand_model.specs.Words.{as_name};
 ghost use Rattle.asm_variables.specs.Known.{WasRead};
@@ -165,30 +166,26 @@ fn flat_at(at: &LineCursor, text: &SharedText) -> Result<Option<Flat>, NoMemory>
     }))
 }
 
-/// What a line with this text and these words says that is no part of expansion.
-pub fn say_plain(
+/// What a line with this text and these words says that is no part of expansion, where an EQU makes its name this number.
+pub fn say_numbered(
     alloc: Global,
     state: &mut Expansion,
     at: LineCursor,
     text: &SharedText,
     words: Words<'_>,
-    operand: &Result<Expr, LineKind>,
+    number: Option<u32>,
 ) -> Result<Next, NoMemory>
-    requires read { WasRead operand.now }
-    requires begins { Begins words.label.now text.now }
-    ensures says { IfOk result (λ next. Says at state.old state.new next (λ s l ls.
-        model.plain_line l text.now (words_shown words.entry) operand.now s ls)) }
+    requires { Begins words.label.now text.now }
+    ensures says { IfOk result (λ next. (x : Operand)
+        → IsNumber words.entry.operation.now state.old x number
+        → Says at state.old state.new next (λ s l ls.
+        model.plain_line l text.now (words_shown words.entry) x s ls)) }
     ensures visits { state.new.visits ≤ state.old.visits }
     ensures flats { length state.new.flats.items ≤ length state.old.flats.items + 1 }
 {
     let ends = is_called(b"END", words.operation);
     let thumb = state_behind(words.operation, state.thumb);
     let Ok(name) = label_name(text, words.label) else {
-        drop(at);
-        return Err(NoMemory);
-    };
-    let Ok(number) = equ_number(alloc, state, words.operation, operand) else {
-        drop(name);
         drop(at);
         return Err(NoMemory);
     };
@@ -211,4 +208,27 @@ pub fn say_plain(
         return Ok(Next::Stop(End::Ended));
     }
     Ok(Next::Go(at.past(1)))
+}
+
+/// What a line with this text and these words says that is no part of expansion.
+pub fn say_plain(
+    alloc: Global,
+    state: &mut Expansion,
+    at: LineCursor,
+    text: &SharedText,
+    words: Words<'_>,
+    operand: &Result<Expr, LineKind>,
+) -> Result<Next, NoMemory>
+    requires read { WasRead operand.now }
+    requires begins { Begins words.label.now text.now }
+    ensures says { IfOk result (λ next. Says at state.old state.new next (λ s l ls.
+        model.plain_line l text.now (words_shown words.entry) operand.now s ls)) }
+    ensures visits { state.new.visits ≤ state.old.visits }
+    ensures flats { length state.new.flats.items ≤ length state.old.flats.items + 1 }
+{
+    let Ok(number) = equ_number(alloc, state, words.operation, operand) else {
+        drop(at);
+        return Err(NoMemory);
+    };
+    say_numbered(alloc, state, at, text, words, number)
 }
