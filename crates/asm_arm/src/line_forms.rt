@@ -11,7 +11,6 @@ ghost use Rattle.asm_arm.specs.LineForms as lines;
 ghost use Rattle.asm_arm.specs.Operands as operands;
 ghost use Rattle.asm_arm.specs.Steps.{cut_of};
 ghost use Rattle.asm_arm.specs.Mnemonics as words;
-ghost use Rattle.asm_model.specs.Operands as model;
 ghost use Rattle.asm_model.specs.Readings as readings;
 ghost use Rattle.asm_model.specs.declared.operands.Address.TheVariants as address;
 

@@ -78,7 +78,7 @@ impl Checks {
 
     /// The fault of the next line that is told, of those that need no values but the exponent of an area. Where a
     /// statement is no AREA its `exponent` isn't looked at; `circular` tells whether it is the first that defines a name
-    /// which depends on itself, and `repeated` whether it defines a name that is defined before it; whether its area is one
+    /// which depends on itself, and `repeated` whether it defines a name that is defined before it, or one name twice; whether its area is one
     /// of Thumb code counts for ENTRY. Behind a line with a fault, or an `Err`, nothing more can be checked.
     pub fn check(
         &mut self,

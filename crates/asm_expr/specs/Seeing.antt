@@ -6,8 +6,8 @@ use Rattle.asm_model.specs.declared.names.Names.{Names}
 use Rattle.asm_expr.specs.declared.seen.Seen.{Seen}
 use Rattle.asm_expr.specs.Places.{one_entry}
 
--- names, where these are the first of them, and behind those a name of its own; where not all are known, behind that the names
--- that mean something later
+-- all names, then the line's own; or where the first of them alone are known, these, then the line's own, then all, which mean
+-- something later
 abbrev pub seen_list : List LaidName → Option (List LaidName) → List LaidName → List LaidName
 seen_list names None own = names ++ own ++ []
 seen_list names (Some first) own = first ++ own ++ names

@@ -179,7 +179,7 @@ impl KnownNames {
     }
 }
 
-/// One entry more, and whether its name is new. No more entries than numbers count as want of memory.
+/// One entry more, and whether its name is new. More entries than numbers count as want of memory.
 pub fn add_new(alloc: Global, names: &mut KnownNames, entry: LaidName) -> Result<bool, NoMemory>
     ensures more { OnOk result (names.new ≡ names.old ++ entry ∷ []) }
     ensures new { IfOk result (λ new. new ≡ not (is_some (named_in entry.name names.old))) }
@@ -190,7 +190,7 @@ pub fn add_new(alloc: Global, names: &mut KnownNames, entry: LaidName) -> Result
     names.add(alloc, entry)
 }
 
-/// One entry more, where there is one.
+/// One entry more, where there is one, as `add_new` adds it.
 pub fn add_entry(
     alloc: Global,
     names: &mut KnownNames,

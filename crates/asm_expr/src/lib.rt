@@ -1,6 +1,7 @@
 //! Expressions and directives, read from tokens, and the values of expressions by what a line sees of names. Public
 //! source: the SDT 2.50 Reference Guide, chapter on the assembler; the levels and meanings of operators are this
-//! project's profile of it. The layers above read by `read::shared_expression` and `says::said_directive`, evaluate by
+//! project's profile of it. The layers above read by `read::shared_expression` and, where
+//! `directives::directive_of` names a directive, by `says::of_directive`, evaluate by
 //! `value_seen` over a `Seen`, and choose between faults by `told` and `kinds`; `KnownNames` is their list of names,
 //! found by hash.
 #![tactic(auto)]

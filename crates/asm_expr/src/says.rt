@@ -57,7 +57,7 @@ fn told_with<T: Drop>(kind: LineKind, reading: Result<T, LineKind>) -> LineKind
     }
 }
 
-/// The statement of a line that is a directive.
+/// The statement of a line that is a directive, which `statement` would move once more.
 fn directive_statement(
     source: FileName,
     line: &Flat,
@@ -115,11 +115,7 @@ pub fn of_directive(
 }
 
 /// What a line says as a directive, from its tokens, or the kind of its faults that is told.
-pub fn said_directive(
-    alloc: Global,
-    line: &Flat,
-    tokens: &[Token],
-) -> Result<ParsedStatement, NoMemory>
+fn said_directive(alloc: Global, line: &Flat, tokens: &[Token]) -> Result<ParsedStatement, NoMemory>
     ensures { IfOk result (λ said. says.SaysDirective line.now tokens.now said) }
 {
     let sentence = parts_of(tokens);

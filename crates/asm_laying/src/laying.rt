@@ -97,7 +97,7 @@ fn names_if(all_known: bool, names: Vec<LaidName>) -> Option<Vec<LaidName>>
     None
 }
 
-/// One entry more, where there is one. Most statements have none, and of an entry that isn't there nothing is moved.
+/// One entry more, where there is one.
 fn add_optional(names: &mut Vec<LaidName>, entry: Option<LaidName>) -> Result<(), NoMemory>
     ensures { OnOk result (names.new.items ≡ names.old.items ++ one_entry entry) }
 {
@@ -107,7 +107,7 @@ fn add_optional(names: &mut Vec<LaidName>, entry: Option<LaidName>) -> Result<()
     Ok(())
 }
 
-/// The entry of a statement's own name, which is taken, where it has one.
+/// The entry of a statement's own name, which is taken, where it has one. Of an entry that isn't there nothing is moved.
 fn add_own(names: &mut Vec<LaidName>, own: &mut Option<LaidName>) -> Result<(), NoMemory>
     ensures { OnOk result (names.new.items ≡ names.old.items ++ one_entry own.old) }
 {

@@ -3,11 +3,7 @@ use Rattle.std.proofs.Common.{◌≡◌, ℕ, List, [], ◌∷◌, ◌++◌, Opt
 use Rattle.sdt_fault.specs.declared.kinds.LineKind.{LineKind}
 use Rattle.asm_checks.specs.Late.{AreWhole}
 use Rattle.asm_checks.specs.Starts.{AreStarts}
-use Rattle.asm_model.specs.declared.directives.DirectiveLine.{DirectiveLine}
-use Rattle.asm_model.specs.declared.directives.DirectiveLine.TheVariants as line
 use Rattle.asm_model.specs.declared.statements.Statement.{Statement}
-use Rattle.asm_model.specs.declared.statements.What.{What}
-use Rattle.asm_model.specs.declared.statements.What.TheVariants as what
 use Rattle.asm_model.specs.Directives.{or_else}
 use Rattle.asm_model.specs.Kinds.{told_kind}
 use Rattle.asm_model.specs.Meaning.{named_in}
@@ -17,12 +13,11 @@ use Rattle.asm_offsets.specs.Finished.{AreLaid}
 use Rattle.asm_offsets.specs.Laws.{AllExtents, ExtentsArePlaceable}
 use Rattle.asm_model.specs.Extents.{Extent, extent_of}
 use Rattle.asm_model.specs.declared.names.LaidName.{LaidName}
-use Rattle.asm_model.specs.Labels.{field_defines, what_defines, directive_defines, declared_names}
+use Rattle.asm_model.specs.Labels.{declared_names}
 use Rattle.asm_model.specs.Laid.{LaidLine, statements_of, laid, laid_of, names_behind, taken, pieces_of, reversed, final_names}
 use Rattle.asm_model.specs.LayoutKinds.{layout_kinds, equals_in, settled, told_at, first_fault, first_late}
 use Rattle.layout_laws.specs.Final.{KnownNamesAreFinal}
 use Rattle.layout_laws.proofs.SoundLemmas.{statements_kept}
-use Rattle.asm_model.specs.Said.{WhatSaid, AllSaid}
 use Rattle.source_model.specs.Registers.{register_names, register_kinds}
 use Rattle.source_model.specs.SourceFaults.{first_laid, layout_faults}
 use Rattle.asm_laying.specs.Laying.{AreKnownNames}

@@ -1,6 +1,6 @@
 //! The layout of a source whose lines have no fault of their own.
 
-ghost use Rattle.std.specs.Prelude.{IfOk};
+ghost use Rattle.std.specs.Prelude.{◌≡◌, IfOk};
 ghost use Rattle.asm_layout.specs.Areas.{AreAreasOf};
 ghost use Rattle.asm_layout.specs.Finishing.{AreAllNames, AreNames, AreNamesOf, Finishes, MayFinish};
 
@@ -80,6 +80,20 @@ fn names_and_areas(
     }
 }
 
+/// The names that a source declares.
+fn declared_alone(outline: Outline) -> KnownNames
+    ensures { result ≡ outline.names }
+{
+    let Outline {
+        names,
+        circular,
+        repeated,
+        states,
+    } = outline;
+    drop((circular, repeated, states));
+    names
+}
+
 /// The layout, or the refusal of the first line with a fault that needs the whole layout.
 pub fn finished<'a>(alloc: Global, outline: Outline, walk: Walk<'a>) -> Result<Layout<'a>, Fault>
     requires { MayFinish outline walk }
@@ -94,13 +108,8 @@ pub fn finished<'a>(alloc: Global, outline: Outline, walk: Walk<'a>) -> Result<L
         lines,
         ..
     } = walk;
-    let Outline {
-        names: declared,
-        circular,
-        repeated,
-        states,
-    } = outline;
-    drop((checks, registers, circular, repeated, states));
+    drop((checks, registers));
+    let declared = declared_alone(outline);
     let Ended { ends, names } = laying.end();
     let pools = match ends.finish() {
         Ok(pools) => pools,

@@ -24,7 +24,7 @@ pub struct Outline {
     /// For each statement with a name for an expression, in the order of the source, whether it is the first that defines
     /// the name, and the name depends on itself or on one that does.
     pub circular: Vec<bool>,
-    /// For each statement, in the order of the source, whether it defines a name that is defined before it.
+    /// For each statement, in the order of the source, whether it defines a name that is defined before it, or one name twice.
     pub repeated: Vec<bool>,
     /// The states of the areas.
     pub states: States,
@@ -38,7 +38,7 @@ struct Listed<'a> {
     equals: Vec<Equal<'a>>,
     /// For each statement with a name for an expression whether it is the first that defines the name.
     firsts: Vec<bool>,
-    /// For each statement whether it defines a name that is defined before it.
+    /// For each statement whether it defines a name that is defined before it, or one name twice.
     repeated: Vec<bool>,
 }
 

@@ -12,7 +12,7 @@ use crate::copies::entry_copy;
 use crate::defining::{Defines, defined_by, own_entry};
 use crate::made::imported_entry;
 use crate::placed_lines::PlacedLine;
-pub use asm_expr::known::add_entry;
+use asm_expr::known::add_entry;
 use asm_model::{LaidName, SharedText, What, imported_name};
 use sdt_fault::NoMemory;
 use std::alloc::Global;

@@ -18,7 +18,7 @@ fn lacking(at: u32, multiple: u32, number: u32) -> u32
     ((wanted - at as u64 % multiple) % multiple) as u32
 }
 
-/// An offset raised to an alignment, which is 1, 2 or 4 wherever one is asked for: a remainder of these takes no division.
+/// An offset raised to an alignment. All callers ask for 1, 2 or 4, of which a remainder takes no division.
 pub fn raised(at: u32, alignment: u32) -> u32
     requires low { at ≤ 2 ^ 28 }
     requires some { 1 ≤ alignment }

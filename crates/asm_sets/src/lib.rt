@@ -1,5 +1,5 @@
-//! Names in sets and maps, found by hash. This project's. Checks, registers and symbols use `NameSet` (names with their
-//! places), `NameRefs` (names that stand elsewhere) and `NameMap` (names with values).
+//! Names in sets and maps, found by hash. This project's. Registers and symbols use `NameSet` (names with their
+//! places), they and checks `NameMap` (names with values), and symbols `NameRefs` (names that stand elsewhere).
 #![tactic(auto)]
 
 mod maps;

@@ -1,6 +1,6 @@
 //! Sets of names of their own.
 
-ghost use Rattle.std.specs.Prelude.{◌≡◌, ◌<◌, ◌∷◌, [], length, not, Some, IfOk, IfSome, OnOk, OnErr};
+ghost use Rattle.std.specs.Prelude.{◌≡◌, ◌<◌, ◌∷◌, [], length, Some, IfSome, OnOk, OnErr};
 ghost use Rattle.std.specs.List.{list_any};
 ghost use Rattle.asm_model.specs.Before.{with_name};
 ghost use Rattle.asm_model.specs.Forms.{same};
@@ -36,17 +36,15 @@ impl NameSet {
         }
     }
 
-    /// A name behind the others, unless it is there; and whether it wasn't. `NoMemory`, where its copy or the index finds no
-    /// memory, changes nothing.
-    pub fn add(&mut self, alloc: Global, name: &SharedText) -> Result<bool, NoMemory>
-        ensures fresh { IfOk result (λ fresh. fresh ≡ not (list_any (same name.now) self.old)) }
+    /// A name behind the others, unless it is there. `NoMemory`, where its copy or the index finds no memory, changes nothing.
+    pub fn add(&mut self, alloc: Global, name: &SharedText) -> Result<(), NoMemory>
         ensures more { OnOk result (self.new ≡ with_name (Some name.now) self.old) }
         ensures have { OnOk result (HaveSame self.new (name.now ∷ self.old)) }
         ensures err { OnErr result (self.new ≡ self.old) }
     {
         let name = name.share()?;
-        let fresh = self.names.insert(name)?;
-        Ok(fresh)
+        self.names.insert(name)?;
+        Ok(())
     }
 
     /// Whether a name is there.

@@ -59,7 +59,7 @@ pub enum Emission {
     Several(Vec<Emitted>),
 }
 
-/// For how many there is room with the second.
+/// How many a list has room for when the second comes.
 const SEVERAL_AT_FIRST: usize = 4;
 
 impl Emission {

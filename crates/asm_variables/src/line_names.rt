@@ -1,7 +1,7 @@
-//! Names in the label fields of lines. Few sources ask whether a line has a name, so that names wait outside the index until
-//! one does.
+//! Names in the label fields of lines. They wait outside the index until an expression is read that may ask for one, as few
+//! sources have.
 
-ghost use Rattle.std.specs.Prelude.{◌≡◌, ◌||◌, ℕ, List, [], false, OnOk};
+ghost use Rattle.std.specs.Prelude.{◌≡◌, ◌||◌, ℕ, List, false, OnOk};
 ghost use Rattle.std.specs.List.{list_any};
 ghost use Rattle.asm_model.specs.Forms.{same};
 ghost use Rattle.asm_variables.specs.Maps.{has_name};

@@ -61,8 +61,8 @@ returns-in_err-units-in-len1-up-clause-grown c = λ statements j.
     rw (p.1, p.2)
     (told_here statements l w names x (take (length left - 1) (drop 1 left)) known gs n c.in_err-units-in-len1-up.field-0.0 told)
 
-pub put_line-requires-clause-stand : goal.put_line-requires-clause-stand
-put_line-requires-clause-stand c =
+pub put_line-put-requires-clause-stand : goal.put_line-put-requires-clause-stand
+put_line-put-requires-clause-stand c =
     let l = c.args.layout.now in
     let w = c.args.whole.now in
     let g = c.lines.invariant.3 in
@@ -88,18 +88,18 @@ lines-preserved c =
     let us = c.as_slice.result.now in
     let g = c.lines.invariant.3 in
     let step : (statements : List Statement) → IsEmittable statements l w → IsGrown statements names left known gs
-    → IsGrown statements names more c.define_register.new.known c.put_line.new.builds.items = λ statements j k.
+    → IsGrown statements names more c.define_register.new.known c.put_line-put.new.builds.items = λ statements j k.
     let n = next_there statements l w names x left known gs c.in-len1-up.len_at_least c.line-item.is j k in
     let put = c.in_ok-units-in-len1-up.ensures statements n.before n.rest n.line
     (subst (λ (areas : List LaidArea). IsHere statements areas w known n.before n.rest n.line x) (sym c.as_slice-areas.ensures) n.here) in
     let pieces = put_there statements l w names x more known gs n u us c.as_slice.ensures.value put in
     let apart = apart_there c.sources_stand_apart.ensures statements j.sound j.states n.before n.rest n.line x.line.place.area
     (pieces_put x.line.place.offset us) n.here.parts n.here.line.line.place.area pieces in
-    grown_more statements l w names x more known c.define_register.new.known gs c.put_line.new.builds.items n u us c.as_slice.ensures.value put
-    (c.in_ok-put_line-in-len1-up.ensures.more (things_so_far (source_of statements) n.before (n.line ∷ n.rest)) n.builders apart)
+    grown_more statements l w names x more known c.define_register.new.known gs c.put_line-put.new.builds.items n u us c.as_slice.ensures.value put
+    (c.in_ok-put-in-len1-up.ensures.more (things_so_far (source_of statements) n.before (n.line ∷ n.rest)) n.builders apart)
     c.in_ok-define_register-in-len1-up.ensures in (
       (said_first left x c.lines.invariant.0 c.in-len1-up.len_at_least c.line-item.is).1,
-      c.put_line.ensures.frames ∙ c.lines.invariant.1,
+      c.put_line-put.ensures.frames ∙ c.lines.invariant.1,
       λ statements j. step statements j (c.lines.invariant.2 statements j),
       record { source = g.source; grown = step g.source.source.statements (emittable l w names g.source) g.grown },
     )

@@ -1,23 +1,17 @@
-use Rattle.std.proofs.Common.{ℕ, List, not, ap, ◌∙◌}
+use Rattle.std.proofs.Common.{ℕ, List, ap, ◌∙◌}
 use Rattle.std.specs.List.{list_any}
 use Rattle.asm_model.specs.Forms.{same}
-use Rattle.asm_sets.proofs.SetLemmas.{among, added, with_one}
+use Rattle.asm_sets.proofs.SetLemmas.{added, with_one}
 use Rattle.asm_sets.proofs.sets.NameSet.add.Goals as goal
-
-pub returns-clause-fresh : goal.returns-clause-fresh
-returns-clause-fresh c =
-    rw (← c.self.view_is)
-    (c.in_ok-fresh.ensures.added ∙ ap not (among c.in_ok-name.name c.self.inside.names.keys)
-    ∙ ap (λ (n : List ℕ). not (list_any (same n) c.self.inside.names.keys)) c.in_ok-name.ensures)
 
 pub returns-clause-more : goal.returns-clause-more
 returns-clause-more c =
     rw (← c.self.view_is) (added c.self.inside.names.keys c.insert.new.self.keys c.args.name.now c.in_ok-name.name c.in_ok-name.ensures
-    c.in_ok-fresh.ensures.keys)
+    c.in_ok-insert.ensures.keys)
 
 pub returns-clause-have : goal.returns-clause-have
 returns-clause-have c = λ q.
     rw (← c.self.view_is)
     (ap (λ (ns : List (List ℕ)). list_any (same q) ns)
-    (added c.self.inside.names.keys c.insert.new.self.keys c.args.name.now c.in_ok-name.name c.in_ok-name.ensures c.in_ok-fresh.ensures.keys)
+    (added c.self.inside.names.keys c.insert.new.self.keys c.args.name.now c.in_ok-name.name c.in_ok-name.ensures c.in_ok-insert.ensures.keys)
     ∙ with_one c.args.name.now c.self.inside.names.keys q)
