@@ -8,6 +8,7 @@ ghost use Rattle.alf_archive.specs.Spelling.{padded, entry, name_and_time, membe
 
 use crate::records::{Archive, Member};
 use aof_object::{Symbol, write_object};
+use byte_tools::push_zeros;
 use chunk_file::{Chunk, Chunks, push_word, write_chunks};
 use sdt_fault::answer::Fault;
 use sdt_fault::{Bytes, List, NoMemory, Text};
@@ -20,20 +21,12 @@ fn push_number(out: &mut Vec<u8>, number: usize) -> Result<(), NoMemory>
     push_word(out, (number % (1 << 32)) as u32)
 }
 
-fn push_zeros(out: &mut Vec<u8>, count: usize) -> Result<(), NoMemory>
-    ensures { OnOk result (out.new.items ≡ out.old.items ++ replicate count 0) }
-{
-    for _ in 0..count {
-        out.push(0)?;
-    }
-    Ok(())
-}
-
 fn push_padded(out: &mut Vec<u8>, name: &[u8]) -> Result<(), NoMemory>
     ensures { OnOk result (out.new.items ≡ out.old.items ++ padded name.now) }
 {
     out.extend_from_slice(name)?;
-    push_zeros(out, 4 - name.len() % 4)
+    push_zeros(out, 4 - name.len() % 4)?;
+    Ok(())
 }
 
 fn push_entry(out: &mut Vec<u8>, index: usize, text: &[u8]) -> Result<(), NoMemory>

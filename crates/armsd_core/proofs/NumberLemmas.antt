@@ -1,4 +1,4 @@
--- Numbers that get too large, and ranges that end in the address space.
+-- Ranges that end in the address space.
 use Rattle.std.proofs.Common.{◌≡◌, ℕ, suc, ◌+◌, ◌*◌, ◌^◌, ◌<◌, ◌≤◌, List, length, get_or, drop, nat_le, Bool, true, false, Ok, Err, refl, ap, subst, arith, drop-cons, leb-true, leb-false}
 use Rattle.std.specs.Prelude.{min}
 use Rattle.std.specs.Char.{digit_value}
@@ -9,13 +9,6 @@ use Rattle.sdt_fault.specs.declared.kinds.CommandKind.TheVariants.{Number}
 use Rattle.armsd_core.specs.declared.command.Command.{Command}
 use Rattle.armsd_core.specs.declared.command.Command.TheVariants.{Watch}
 use Rattle.armsd_core.specs.Commands.{range, range_by}
-
--- one more digit makes the number too large, so all digits do
-pub too_large : (base n i : ℕ) (ds : List ℕ) → 1 ≤ base → i < length ds → 2 ^ 32 ≤ n * base + digit_value (get_or ds i 0) → digits_value_after base n (drop i ds) ≡ digits_value base ds → min (digits_value base ds) (2 ^ 32) ≡ 2 ^ 32
-too_large base n i ds low inside large e =
-    let split : digits_value_after base n (drop i ds) ≡ digits_value_after base (n * base + digit_value (get_or ds i 0)) (drop (suc i) ds) = ap (digits_value_after base n) (drop-cons ds i 0 inside) in
-    let more : n * base + digit_value (get_or ds i 0) ≤ digits_value_after base (n * base + digit_value (get_or ds i 0)) (drop (suc i) ds) = grows base (n * base + digit_value (get_or ds i 0)) (drop (suc i) ds) low in
-    omega arith
 
 -- ---- ranges
 

@@ -6,17 +6,7 @@ ghost use Rattle.std.specs.Char.{digit_value};
 ghost use Rattle.std.specs.Str.Parse.{digits_value};
 ghost use Rattle.armsd_core.specs.Numerals as numerals;
 
-/// What a digit, or a letter of either case, stands for, and 36 for any other byte.
-fn digit_value(byte: u8) -> u8
-    ensures { result ≡ digit_value byte }
-{
-    match byte {
-        b'0'..=b'9' => byte - b'0',
-        b'A'..=b'Z' => byte - b'A' + 10,
-        b'a'..=b'z' => byte - b'a' + 10,
-        _ => 36,
-    }
-}
+use byte_tools::{digit_value, digits_value};
 
 fn are_digits(word: &[u8], base: u8) -> bool
     ensures { result ≡ list_all (λ d. nat_lt (digit_value d) base) word.now }
@@ -29,14 +19,7 @@ fn value_of(digits: &[u8], base: u8) -> u64
     requires { 1 ≤ base }
     ensures { result ≡ min (digits_value base digits.now) (2 ^ 32) }
 {
-    let mut value = 0u64;
-    for byte in digits {
-        value = value * u64::from(base) + u64::from(digit_value(*byte));
-        if value > 0xFFFF_FFFF {
-            return 1 << 32;
-        }
-    }
-    value
+    digits_value(base, digits, 0xFFFF_FFFF).unwrap_or(1 << 32)
 }
 
 fn written(base: u8, digits: &[u8]) -> Option<u64>

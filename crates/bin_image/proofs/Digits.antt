@@ -15,20 +15,7 @@ use Rattle.sdt_fault.specs.Digits.{hexadecimal_places}
 use Rattle.bin_image.specs.Fields.{◌>>=◌, lacks, is_upper_digit, at_most, address, address_of, decimal_of}
 use Rattle.base_lemmas.proofs.BaseLemmas.{grows, same}
 
--- ---- the loop over digits
-
-above : (most n : ℕ) → most < n → at_most most n ≡ None
-above most n h = by_test (nat_le n most) refl where
-  by_test : (b : Bool) → nat_le n most ≡ b → cond b (Some n) None ≡ None
-  by_test true e = let l = leb-true n most e in absurd (omega arith)
-  by_test false e = refl
-
--- one more digit makes the number too large, so all digits do
-pub too_large : (base n i most : ℕ) (ds : List ℕ) → 1 ≤ base → i < length ds → most < n * base + digit_value (get_or ds i 0) → digits_value_after base n (drop i ds) ≡ digits_value base ds → at_most most (digits_value base ds) ≡ None
-too_large base n i most ds low inside large e =
-    let split : digits_value_after base n (drop i ds) ≡ digits_value_after base (n * base + digit_value (get_or ds i 0)) (drop (suc i) ds) = ap (digits_value_after base n) (drop-cons ds i 0 inside) in
-    let more : n * base + digit_value (get_or ds i 0) ≤ digits_value_after base (n * base + digit_value (get_or ds i 0)) (drop (suc i) ds) = grows base (n * base + digit_value (get_or ds i 0)) (drop (suc i) ds) low in
-    above most (digits_value base ds) (omega arith)
+-- ---- where a number fits
 
 pub fits : (most n : ℕ) → n ≤ most → at_most most n ≡ Some n
 fits most n h = let e = le-leb n most h in rw e refl

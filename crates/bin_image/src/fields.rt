@@ -2,10 +2,9 @@
 
 ghost use Rattle.std.specs.Prelude.{◌≡◌, ◌==◌, ◌<◌, ◌≤◌, ◌+◌, ◌∷◌, ◌++◌, [], length, bytes_eq, IfOk, MatchOption, Some, None, ⊤, true};
 ghost use Rattle.std.specs.List.{list_all, position, slice_split};
-ghost use Rattle.std.specs.Char.{digit_value};
-ghost use Rattle.std.specs.Str.Parse.{digits_value};
 ghost use Rattle.bin_image.specs.Fields as fields;
 
+use byte_tools::digits_value;
 use sdt_fault::NoMemory;
 use sdt_fault::digits::push_decimal;
 use std::alloc::Global;
@@ -67,35 +66,6 @@ fn are_upper_digits(text: &[u8]) -> bool
     text.iter().all(|byte| is_upper_digit(*byte))
 }
 
-// What a digit, or a letter of either case, stands for, and 36 for any other byte.
-fn digit_value(byte: u8) -> u8
-    ensures { result ≡ digit_value byte }
-{
-    match byte {
-        b'0'..=b'9' => byte - b'0',
-        b'A'..=b'Z' => byte - b'A' + 10,
-        b'a'..=b'z' => byte - b'a' + 10,
-        _ => 36,
-    }
-}
-
-// The number that the digits write, where it isn't above `most`.
-fn value_of(digits: &[u8], base: u8, most: u64) -> Option<u64>
-    requires { 1 ≤ base }
-    ensures value { result ≡ fields.at_most most (digits_value base digits.now) }
-    ensures small { MatchOption result ⊤ (λ n. n ≤ most) }
-{
-    let mut value = 0u64;
-    for byte in digits {
-        let longer = u128::from(value) * u128::from(base) + u128::from(digit_value(*byte));
-        if longer > u128::from(most) {
-            return None;
-        }
-        value = longer as u64;
-    }
-    Some(value)
-}
-
 /// The number that eight upper-case hexadecimal digits write.
 pub fn address_of(digits: &[u8]) -> Option<u32>
     ensures { result ≡ fields.address_of digits.now }
@@ -106,7 +76,7 @@ pub fn address_of(digits: &[u8]) -> Option<u32>
     if !are_upper_digits(digits) {
         return None;
     }
-    let value = value_of(digits, 16, 0xFFFF_FFFF)?;
+    let value = digits_value(16, digits, 0xFFFF_FFFF)?;
     Some(value as u32)
 }
 
@@ -114,7 +84,7 @@ pub fn address_of(digits: &[u8]) -> Option<u32>
 pub fn decimal_of(alloc: Global, digits: &[u8]) -> Result<Option<u64>, NoMemory>
     ensures { IfOk result (λ n. n ≡ fields.decimal_of digits.now) }
 {
-    let Some(value) = value_of(digits, 10, u64::MAX) else {
+    let Some(value) = digits_value(10, digits, u64::MAX) else {
         return Ok(None);
     };
     let mut spelled = Vec::new(alloc);

@@ -10,6 +10,7 @@ ghost use Rattle.chunk_file.specs.Reading.{Gives};
 ghost use Rattle.chunk_file.specs.Chunks.{row, span_at, spans_from, end_after, end_from, content, contents, file_size, head, spelled, written};
 
 use crate::records::{Chunk, Chunks};
+use byte_tools::push_zeros;
 use sdt_fault::answer::Fault;
 use sdt_fault::kinds::Quantity;
 use sdt_fault::refusal::Refusal;
@@ -79,15 +80,6 @@ fn push_table(out: &mut Vec<u8>, start: usize, list: &[Option<Chunk>]) -> Result
     let mut at = start;
     for chunk in list {
         at = push_row(out, at, chunk)?;
-    }
-    Ok(())
-}
-
-fn push_zeros(out: &mut Vec<u8>, count: usize) -> Result<(), NoMemory>
-    ensures { OnOk result (out.new.items ≡ out.old.items ++ replicate count 0) }
-{
-    for _ in 0..count {
-        out.push(0)?;
     }
     Ok(())
 }

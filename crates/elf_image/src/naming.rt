@@ -7,6 +7,7 @@ ghost use Rattle.elf_image.specs.Tables as tables;
 
 use crate::tables::{Binding, ElfSymbol, Section, SectionKind, SymbolKind, SymbolPlace, Tables};
 use crate::writing::{push_bytes, push_headers, push_words};
+use byte_tools::push_zeros;
 use link_model::{Image, LoadRegion};
 use sdt_fault::{Bytes, NoMemory};
 use std::alloc::Global;
@@ -338,15 +339,6 @@ fn push_tables(alloc: Global, out: &mut Vec<u8>, at: u32, t: &Tables) -> Result<
     let strings = strings_of(alloc, t.symbols.as_slice())?;
     let names = names_of(alloc, t.sections.as_slice())?;
     push_tables_with(out, at, t, strings.as_slice(), names.as_slice())
-}
-
-fn push_zeros(out: &mut Vec<u8>, count: usize) -> Result<(), NoMemory>
-    ensures { OnOk result (out.new.items ≡ out.old.items ++ replicate count 0) }
-{
-    for _ in 0..count {
-        out.push(0)?;
-    }
-    Ok(())
 }
 
 #[tactic(auto, unfolding(crate::specs::Tables::named_of))]

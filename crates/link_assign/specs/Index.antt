@@ -9,7 +9,8 @@ use Rattle.std.specs.declared.hash.BuildHasherDefault.{BuildHasherDefault}
 use Rattle.indexmap.specs.IndexMap.{IndexMap, get_by}
 use Rattle.place_model.specs.declared.scatter.Choice.{Choice}
 use Rattle.place_model.specs.declared.scatter.Choice.TheVariants as choice
-use Rattle.place_model.specs.Items.{Item, is_zero_initialised, is_read_only}
+use Rattle.place_model.specs.Items.{Item}
+use Rattle.place_model.specs.Keys.{class_of, same_choice, same_module}
 use Rattle.place_model.specs.Assignment.{Offer, found}
 use Rattle.link_assign.specs.declared.choices.Choices.{Choices}
 use Rattle.link_assign.specs.declared.finding.Finding.{Finding}
@@ -19,24 +20,8 @@ use Rattle.link_assign.specs.Finding.{is_nowhere, joined, told}
 
 -- ---- keys: a module, or any, and what is chosen
 
-abbrev pub same_module : Option (List ℕ) → Option (List ℕ) → Bool
-same_module None None = true
-same_module (Some home) (Some other) = bytes_eq home other
-same_module _ _ = false
-
-abbrev pub same_choice : Choice → Choice → Bool
-same_choice (choice.Named name) (choice.Named other) = bytes_eq name other
-same_choice choice.Ro choice.Ro = true
-same_choice choice.Rw choice.Rw = true
-same_choice choice.Zi choice.Zi = true
-same_choice _ _ = false
-
 abbrev pub is_keyed : Option (List ℕ) → Choice → Offer → Bool
 is_keyed home c o = same_module home o.selection.«module» && same_choice c o.selection.choice
-
--- the class that takes an area
-abbrev pub class_of : Item → Choice
-class_of i = if is_zero_initialised i then choice.Zi else if is_read_only i then choice.Ro else choice.Rw
 
 -- ---- what an index gives for a key
 

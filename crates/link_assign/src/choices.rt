@@ -3,7 +3,8 @@
 ghost use Rattle.std.specs.Prelude.{◌≡◌, ℕ, List, OnOk};
 ghost use Rattle.std.specs.Str.{bytes_eq};
 ghost use Rattle.place_model.specs.declared.scatter.Choice.{Choice as Chosen};
-ghost use Rattle.link_assign.specs.Index.{class_of, finding_in, given, joined_if, same_choice};
+ghost use Rattle.link_assign.specs.Index.{finding_in, given, joined_if};
+ghost use Rattle.place_model.specs.Keys.{class_of, same_choice};
 ghost use Rattle.link_assign.specs.Shown.{shown_item, shown_offer};
 ghost use Rattle.place_model.specs.declared.scatter.Choice.TheVariants as chosen;
 ghost use Rattle.link_assign.specs.declared.finding.Finding.TheVariants as nothing;

@@ -6,7 +6,8 @@ ghost use Rattle.place_model.specs.Assignment.{Offer as Selected, best, found};
 ghost use Rattle.place_model.specs.declared.scatter.Choice.{Choice as Chosen};
 ghost use Rattle.link_assign.specs.declared.finding.Finding.TheVariants as nothing;
 ghost use Rattle.link_assign.specs.Finding.{told};
-ghost use Rattle.link_assign.specs.Index.{best_given, best_in, choices_in, given, given_by, in_index, is_keyed, joined_if, same_choice, IsIndexOf};
+ghost use Rattle.link_assign.specs.Index.{best_given, best_in, choices_in, given, given_by, in_index, is_keyed, joined_if, IsIndexOf};
+ghost use Rattle.place_model.specs.Keys.{same_choice};
 ghost use Rattle.link_assign.specs.Shown.{shown_item, shown_offer};
 
 use crate::choices::{Choices, by_class, by_name, no_choices, note_choice};

@@ -16,9 +16,11 @@ use Rattle.place_model.specs.declared.scatter.Selection.{Selection}
 use Rattle.place_model.specs.Assignment.{Offer, at_rank, best, first_filled, is_named, is_of, matches, offers_from, rank, takes}
 use Rattle.place_model.specs.Items.{Item}
 use Rattle.link_report.specs.declared.selections.Key.{Key}
-use Rattle.link_report.specs.Keys.{AreSought, Keys, NoneBelow, choice_in, has_key, has_rank, home_in, is_alike, same_choice, same_key, same_module, selection_at}
+use Rattle.link_report.specs.Keys.{AreSought, Keys, NoneBelow, choice_in, has_key, has_rank, home_in, is_alike, same_key, selection_at}
+use Rattle.place_model.specs.Keys.{same_choice, same_module}
 use Rattle.link_report.specs.Selections.{has_taken, is_as_good, takes_area}
-use Rattle.link_report.proofs.KeyLemmas.{IsKeyOf, flip_alike, key_plain}
+use Rattle.place_model.proofs.KeyLemmas.{IsKeyOf}
+use Rattle.link_report.proofs.KeyLemmas.{flip_alike, key_plain}
 
 -- ---- sets that grow
 

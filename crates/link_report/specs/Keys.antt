@@ -8,6 +8,7 @@ use Rattle.std.specs.declared.hash.FoldHasher.{FoldHasher}
 use Rattle.std.specs.declared.hash.BuildHasherDefault.{BuildHasherDefault}
 use Rattle.indexmap.specs.IndexSet.{IndexSet}
 use Rattle.sdt_word.specs.Numbers.{bit}
+use Rattle.place_model.specs.Keys.{same_choice, same_module}
 use Rattle.place_model.specs.declared.scatter.Choice.{Choice}
 use Rattle.place_model.specs.declared.scatter.Choice.TheVariants as choice
 use Rattle.place_model.specs.declared.scatter.Edge.TheVariants as edge
@@ -33,10 +34,6 @@ choice_in sought.Zi = choice.Zi
 abbrev pub selection_at : Key → Selection
 selection_at k = record { line = 0; «module» = home_in k.home; choice = choice_in k.sought; edge = edge.Plain }
 
--- the class that takes an area
-abbrev pub class_by : ℕ → Choice
-class_by attributes = if bit attributes 12 == 1 then choice.Zi else if bit attributes 13 == 1 then choice.Ro else choice.Rw
-
 -- ---- keys that are the same
 
 abbrev pub same_home : Option (Bor (List ℕ)) → Option (Bor (List ℕ)) → Bool
@@ -55,18 +52,6 @@ abbrev pub same_key : Key → Key → Bool
 same_key k q = same_home k.home q.home && same_sought k.sought q.sought
 
 -- what they stand for
-abbrev pub same_module : Option (List ℕ) → Option (List ℕ) → Bool
-same_module None None = true
-same_module (Some home) (Some other) = bytes_eq home other
-same_module _ _ = false
-
-abbrev pub same_choice : Choice → Choice → Bool
-same_choice (choice.Named name) (choice.Named other) = bytes_eq name other
-same_choice choice.Ro choice.Ro = true
-same_choice choice.Rw choice.Rw = true
-same_choice choice.Zi choice.Zi = true
-same_choice _ _ = false
-
 abbrev pub is_alike : Selection → Selection → Bool
 is_alike s t = same_module s.«module» t.«module» && same_choice s.choice t.choice
 

@@ -1,5 +1,6 @@
 pub mod ListLemmas
 pub mod AssignmentLemmas
+pub mod KeyLemmas
 pub mod GapLemmas
 pub mod OrderLemmas
 pub mod SpanLemmas

@@ -1,5 +1,6 @@
 pub mod Items
 pub mod Assignment
+pub mod Keys
 pub mod Things
 pub mod Plans
 pub mod Faults

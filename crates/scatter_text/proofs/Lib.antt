@@ -1,5 +1,4 @@
 mod CutLemmas
-mod NumberLemmas
 mod JudgedLemmas
 mod ReadLemmas
 mod Ends

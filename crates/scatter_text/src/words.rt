@@ -3,7 +3,7 @@
 ghost use Rattle.std.specs.Prelude.{◌≡◌, ◌≤◌, Some, IfOk, option_map};
 ghost use Rattle.place_model.specs.declared.scatter.ScatterBase.TheVariants.{At, Plus};
 ghost use Rattle.std.specs.List.{list_all};
-ghost use Rattle.std.specs.Char.{digit_value, is_ascii_digit, is_ascii_hexdigit};
+ghost use Rattle.std.specs.Char.{is_ascii_digit, is_ascii_hexdigit};
 ghost use Rattle.std.specs.Str.Parse.{digits_value};
 ghost use Rattle.scatter_text.specs.Parts as cuts;
 ghost use Rattle.scatter_text.specs.Words as words;
@@ -12,6 +12,7 @@ ghost use Rattle.scatter_text.specs.Steps.{small, judged_number, judged_base, ba
 
 use crate::cuts::{first_is, is_name_byte};
 use crate::stops::Stop;
+use byte_tools::digits_value;
 use place_model::{Choice, Edge, ScatterBase};
 use sdt_fault::kinds::ScatterKind;
 use sdt_fault::{NoMemory, Text};
@@ -79,32 +80,13 @@ fn are_hexdigits(text: &[u8]) -> bool
     text.iter().all(|byte| byte.is_ascii_hexdigit())
 }
 
-// What a digit, or a letter of either case, stands for, and 36 for any other byte.
-fn digit_value(byte: u8) -> u8
-    ensures { result ≡ digit_value byte }
-{
-    match byte {
-        b'0'..=b'9' => byte - b'0',
-        b'A'..=b'Z' => byte - b'A' + 10,
-        b'a'..=b'z' => byte - b'a' + 10,
-        _ => 36,
-    }
-}
-
 // The number that the digits write, where it is below 2^32.
 fn value_of(digits: &[u8], base: u8) -> Option<u32>
     requires { 1 ≤ base }
     ensures { result ≡ small (digits_value base digits.now) }
 {
-    let mut value = 0u32;
-    for byte in digits {
-        let longer = u64::from(value) * u64::from(base) + u64::from(digit_value(*byte));
-        if longer > 0xFFFF_FFFF {
-            return None;
-        }
-        value = longer as u32;
-    }
-    Some(value)
+    let value = digits_value(base, digits, 0xFFFF_FFFF)?;
+    Some(value as u32)
 }
 
 fn whole(digits: &[u8], base: u8) -> Result<u32, Stop>

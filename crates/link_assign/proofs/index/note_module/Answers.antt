@@ -1,4 +1,5 @@
-use Rattle.link_assign.specs.Index.{choices_in, same_choice}
+use Rattle.link_assign.specs.Index.{choices_in}
+use Rattle.place_model.specs.Keys.{same_choice}
 use Rattle.link_assign.specs.Shown.{shown_offer}
 use Rattle.link_assign.proofs.NotingLemmas.{module_noted}
 use Rattle.link_assign.proofs.index.note_module.Goals as goal

@@ -1,8 +1,9 @@
 use Rattle.std.proofs.Common.{None}
 use Rattle.place_model.specs.declared.scatter.Choice.TheVariants as choice
 use Rattle.link_items.specs.LinkedItems.{item_of}
-use Rattle.link_report.specs.Keys.{class_by, selection_at}
-use Rattle.link_report.proofs.KeyLemmas.{named_anywhere}
+use Rattle.place_model.specs.Keys.{class_by}
+use Rattle.link_report.specs.Keys.{selection_at}
+use Rattle.place_model.proofs.KeyLemmas.{named_anywhere}
 use Rattle.link_report.proofs.SelectionLemmas.{key_found, key_missed, none_first, none_more, takes_none, takes_third}
 use Rattle.link_report.proofs.selections.best_anywhere.Goals as goal
 

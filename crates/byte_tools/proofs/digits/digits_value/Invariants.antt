@@ -1,6 +1,6 @@
 use Rattle.std.proofs.Common.{◌≡◌, ◌≤◌, drop}
 use Rattle.std.specs.Str.Parse.{digits_value, digits_value_after}
-use Rattle.bin_image.proofs.fields.value_of.Given as goal
+use Rattle.byte_tools.proofs.digits.digits_value.Given as goal
 
 -- what is read so far and what the rest writes are what all digits write
 abbrev pub invariant-loop-byte : goal.invariant-loop-byte

@@ -1,5 +1,5 @@
 use Rattle.std.proofs.Common.{◌≡◌, ◌++◌, replicate}
-use Rattle.alf_archive.proofs.writing.push_zeros.Given as goal
+use Rattle.byte_tools.proofs.zeros.push_zeros.Given as goal
 
 abbrev pub invariant-loop : goal.invariant-loop
 invariant-loop l = l.out.items ≡ l.initial.out.items ++ replicate l.counter 0
