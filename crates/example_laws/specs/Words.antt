@@ -1,4 +1,4 @@
--- The program `examples/words/words.s`: its text, byte for byte (`bench/example-texts` compares), the statements that it says, and that it
+-- The program `examples/words/words.s`: its text, byte for byte (`checks/example-texts` compares), the statements that it says, and that it
 -- is accepted. This project's.
 use Rattle.std.specs.Prelude.{◌≡◌, ℕ, List, [], ◌∷◌, ◌++◌, codes, true, false, Some, None, Result, Ok}
 use Rattle.sdt_fault.specs.declared.refusal.Refusal.{Refusal}
