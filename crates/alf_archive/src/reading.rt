@@ -150,12 +150,10 @@ fn bytes_of_symbols(symbols: &[Symbol]) -> usize {
     bytes
 }
 
-/// How many bytes are left for others behind a member.
-fn left_behind(left: usize, member: &Member) -> Result<usize, NoMemory> {
-    let areas = bytes_of_areas(member.object.areas.as_slice());
-    let symbols = bytes_of_symbols(member.object.symbols.as_slice());
-    left.checked_sub(areas.saturating_add(symbols))
-        .ok_or(NoMemory)
+fn bytes_of_object(object: &Object) -> usize {
+    let areas = bytes_of_areas(object.areas.as_slice());
+    let symbols = bytes_of_symbols(object.symbols.as_slice());
+    areas.saturating_add(symbols)
 }
 
 /// Reads the entry behind some members, and adds its member where it is used and there is room for it.
@@ -181,7 +179,7 @@ fn add_entry<'a>(
         return Ok(());
     }
     let member = read_member(alloc, b, spans, taken, at, text, slot)?;
-    *left = left_behind(*left, &member)?;
+    *left = left.checked_sub(bytes_of_object(&member.object)).ok_or(NoMemory)?;
     members.push(member)?;
     Ok(())
 }

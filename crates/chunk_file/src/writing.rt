@@ -4,8 +4,6 @@ ghost use Rattle.std.specs.Prelude.{◌≡◌, ◌+◌, ◌-◌, ◌*◌, ◌^�
 ghost use Rattle.std.specs.List.{flat_map};
 ghost use Rattle.sdt_word.specs.Bytes.{bytes_of};
 ghost use Rattle.sdt_fault.specs.declared.answer.Fault.TheVariants.{Refused};
-ghost use Rattle.sdt_fault.specs.declared.kinds.Quantity.TheVariants.{FileBytes};
-ghost use Rattle.sdt_fault.specs.declared.refusal.Refusal.TheVariants.{TooLarge};
 ghost use Rattle.chunk_file.specs.Reading.{Gives};
 ghost use Rattle.chunk_file.specs.Chunks.{row, span_at, spans_from, end_after, end_from, content, contents, file_size, head, spelled, written};
 
@@ -13,7 +11,6 @@ use crate::records::{Chunk, Chunks};
 use byte_tools::push_zeros;
 use sdt_fault::answer::Fault;
 use sdt_fault::kinds::Quantity;
-use sdt_fault::refusal::Refusal;
 use sdt_fault::{Bytes, NoMemory};
 use std::alloc::Global;
 
@@ -106,15 +103,6 @@ fn push_contents(out: &mut Vec<u8>, list: &[Option<Chunk>]) -> Result<(), NoMemo
     Ok(())
 }
 
-fn too_large() -> Fault
-    ensures { result ≡ Refused (TooLarge FileBytes 0xFFFFFFFF) }
-{
-    Fault::Refused(Refusal::TooLarge {
-        quantity: Quantity::FileBytes,
-        limit: 0xFFFF_FFFF,
-    })
-}
-
 /// How many bytes the spelling has; `None` at 2^32 or beyond.
 fn spelled_len(c: &Chunks) -> Option<usize>
     ensures { MatchOption result (2 ^ 32 ≤ file_size c.now) (λ n. (n < 2 ^ 32) × (n ≡ file_size c.now)) }
@@ -155,7 +143,7 @@ pub fn write_chunks(alloc: Global, c: &Chunks) -> Result<Bytes, Fault>
     ensures { Gives result (written c.now) }
 {
     match spelled_len(c) {
-        None => Err(too_large()),
+        None => Err(Fault::too_large(Quantity::FileBytes, 0xFFFF_FFFF)),
         Some(size) => Ok(build(alloc, c, size)?),
     }
 }

@@ -3,9 +3,11 @@
 ghost use Rattle.std.specs.Prelude.{◌≡◌};
 ghost use Rattle.sdt_fault.specs.Answers.{status};
 ghost use Rattle.sdt_fault.specs.declared.answer.Fault.TheVariants as fault;
+ghost use Rattle.sdt_fault.specs.declared.refusal.Refusal.TheVariants.{TooLarge};
 
 use crate::NoMemory;
 use crate::contents::Text;
+use crate::kinds::Quantity;
 use crate::refusal::Refusal;
 use std::alloc::{AllocError, AllocFailed};
 
@@ -65,6 +67,15 @@ pub fn status_of(answer: &Answer) -> u8
         Answer::SinkFault => 4,
         Answer::Stopped(_) => 5,
         Answer::NoMemory => 6,
+    }
+}
+
+impl Fault {
+    /// That there would be more of something than its limit.
+    pub fn too_large(quantity: Quantity, limit: u64) -> Fault
+        ensures { result ≡ fault.Refused (TooLarge quantity limit) }
+    {
+        Fault::Refused(Refusal::TooLarge { quantity, limit })
     }
 }
 

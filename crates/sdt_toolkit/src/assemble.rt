@@ -14,7 +14,6 @@ use armasm_core::{MOST_BYTES, assemble};
 use chunk_file::size_law;
 use sdt_fault::answer::{Answer, Fault};
 use sdt_fault::kinds::Quantity;
-use sdt_fault::refusal::Refusal;
 use sdt_fault::{Bytes, Text};
 use sdt_outside::Store;
 use std::alloc::Global;
@@ -44,13 +43,10 @@ fn object_file<S: Store>(
 }
 
 /// Of a source that has more than `MOST_BYTES` bytes.
-pub fn too_large() -> Fault
+pub fn long_source() -> Fault
     ensures { result ≡ fault.Refused (TooLarge SourceBytes most_bytes) }
 {
-    Fault::Refused(Refusal::TooLarge {
-        quantity: Quantity::SourceBytes,
-        limit: MOST_BYTES as u64,
-    })
+    Fault::too_large(Quantity::SourceBytes, MOST_BYTES as u64)
 }
 
 /// Writes the object of a source. A file of more than `MOST_BYTES` bytes is not read to its end.
@@ -60,7 +56,7 @@ pub fn assemble_file<S: Store>(alloc: Global, store: &mut S, source: &Text, outp
 {
     let text = match read_input_up_to(alloc, store, source, MOST_BYTES as u32) {
         Ok(Some(text)) => text,
-        Ok(None) => return fault_answer(too_large()),
+        Ok(None) => return fault_answer(long_source()),
         Err(end) => return end_answer(end),
     };
     match object_file(alloc, store, source, text.as_slice()) {

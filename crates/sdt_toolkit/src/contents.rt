@@ -92,10 +92,6 @@ fn kept(content: &Content) -> usize {
     }
 }
 
-fn left_behind(left: usize, count: usize) -> Result<usize, NoMemory> {
-    left.checked_sub(count).ok_or(NoMemory)
-}
-
 /// The most bytes of inputs that a command keeps at once.
 const MOST_KEPT: usize = 1 << 30;
 
@@ -117,7 +113,7 @@ fn read_contents<S: Store>(
     ensures read_faults { S.read_faults store.old ≤ S.read_faults store.new }
     ensures write_faults { S.write_faults store.new ≡ S.write_faults store.old }
 {
-    let mut left = left_behind(MOST_KEPT, before)?;
+    let mut left = MOST_KEPT.checked_sub(before).ok_or(NoMemory)?;
     let mut contents = Vec::new(alloc);
     for name in names {
         match file_content(alloc, store, is_source(sources, name), name) {
@@ -127,7 +123,7 @@ fn read_contents<S: Store>(
                     drop(contents);
                     return Err(InputEnd::NoMemory);
                 };
-                let Ok(rest) = left_behind(left, count) else {
+                let Some(rest) = left.checked_sub(count) else {
                     drop(contents);
                     return Err(InputEnd::NoMemory);
                 };

@@ -25,7 +25,6 @@ use elf_image::write_elf;
 use link_model::{Image, LoadRegion, Named};
 use sdt_fault::answer::Fault;
 use sdt_fault::kinds::Quantity;
-use sdt_fault::refusal::Refusal;
 use sdt_fault::{Bytes, List, NoMemory, Text};
 use std::alloc::Global;
 use tool_library::Linkable;
@@ -158,15 +157,6 @@ pub fn image_of(
 
 // ---- its files
 
-pub fn too_large() -> Fault
-    ensures { result ≡ fault.Refused links.too_large }
-{
-    Fault::Refused(Refusal::TooLarge {
-        quantity: Quantity::FileBytes,
-        limit: 0xFFFF_FFFF,
-    })
-}
-
 fn has_long_load(loads: &[LoadRegion]) -> bool
     ensures { result ≡ list_any (λ l. links.is_long_load l) loads.now }
 {
@@ -190,12 +180,12 @@ fn region_files(alloc: Global, image: &Image, out: &Text) -> Result<List<OutFile
     ensures short { IfOk result (λ files. All (λ f. length f.bytes < 2 ^ 32) files) }
 {
     if has_long_load(image.loads.as_slice()) {
-        return Err(too_large());
+        return Err(Fault::too_large(Quantity::FileBytes, 0xFFFF_FFFF));
     }
     let files = load_files(alloc, image, out)?;
     if has_long_file(files.as_slice()) {
         drop(files);
-        return Err(too_large());
+        return Err(Fault::too_large(Quantity::FileBytes, 0xFFFF_FFFF));
     }
     Ok(files)
 }
@@ -211,7 +201,7 @@ pub fn one_file(alloc: Global, out: &Text, bytes: Bytes) -> Result<List<OutFile>
     let files = list_of_one(alloc, OutFile { name, bytes })?;
     if has_long_file(files.as_slice()) {
         drop(files);
-        return Err(too_large());
+        return Err(Fault::too_large(Quantity::FileBytes, 0xFFFF_FFFF));
     }
     Ok(List::from_vec(files))
 }
@@ -242,7 +232,7 @@ fn elf_file(alloc: Global, image: &Image, out: &Text) -> Result<List<OutFile>, F
     ensures short { IfOk result (λ files. All (λ f. length f.bytes < 2 ^ 32) files) }
 {
     if is_long_elf(image.loads.as_slice()) {
-        return Err(too_large());
+        return Err(Fault::too_large(Quantity::FileBytes, 0xFFFF_FFFF));
     }
     let bytes = write_elf(alloc, image)?;
     one_file(alloc, out, bytes)

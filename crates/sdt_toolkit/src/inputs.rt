@@ -7,7 +7,7 @@ ghost use Rattle.sdt_toolkit.specs.Reads.{Told};
 ghost use Rattle.sdt_toolkit.specs.Contents.{AgreesUnder, AllAgree, IsShort};
 ghost use Rattle.tool_library.specs.Linkables.{IsValidInput};
 
-use crate::assemble::too_large;
+use crate::assemble::long_source;
 use crate::contents::{Content, is_source};
 use crate::gathering::{named, put};
 use crate::sound::object_fits;
@@ -83,7 +83,7 @@ fn content_input<S: Store>(
 {
     match content {
         Content::Whole(bytes) => input(alloc, store, sources, name, bytes.as_slice()),
-        Content::Long => Err(too_large()),
+        Content::Long => Err(long_source()),
     }
 }
 

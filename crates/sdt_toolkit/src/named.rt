@@ -13,7 +13,7 @@ ghost use Rattle.sdt_toolkit.specs.Inputs.{AreValid, Tells, archives_among, obje
 ghost use Rattle.sdt_toolkit.specs.Links as links;
 ghost use Rattle.sdt_toolkit.specs.Links.{HasNamedImage, filed};
 
-use crate::images::{Parts, elf_size, one_file, parts_of, too_large};
+use crate::images::{Parts, elf_size, one_file, parts_of};
 use crate::laws::images_start;
 use crate::sound::{archives_fit, objects_fit};
 use armlink_core::{NamedImage, link_named_scatter};
@@ -21,6 +21,7 @@ use bin_image::OutFile;
 use elf_image::{ElfSymbol, Section, Tables, write_named_elf};
 use link_model::{LoadRegion, Named};
 use sdt_fault::answer::Fault;
+use sdt_fault::kinds::Quantity;
 use sdt_fault::{List, Text};
 use std::alloc::Global;
 use tool_library::Linkable;
@@ -121,7 +122,7 @@ pub fn named_file(alloc: Global, named: &NamedImage, out: &Text) -> Result<List<
     ensures short { IfOk result (λ files. All (λ f. length f.bytes < 2 ^ 32) files) }
 {
     if is_long_named(named.image.loads.as_slice(), &named.tables) {
-        return Err(too_large());
+        return Err(Fault::too_large(Quantity::FileBytes, 0xFFFF_FFFF));
     }
     let bytes = write_named_elf(alloc, &named.image, &named.tables)?;
     one_file(alloc, out, bytes)

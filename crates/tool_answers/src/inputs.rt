@@ -93,11 +93,6 @@ pub fn read_input_up_to<S: Store>(
     }
 }
 
-/// How many bytes are left for others behind a file's.
-fn left_behind(left: usize, bytes: &Bytes) -> Result<usize, NoMemory> {
-    left.checked_sub(bytes.as_slice().len()).ok_or(NoMemory)
-}
-
 /// The most bytes of inputs that a command keeps at once.
 const MOST_BYTES: usize = 1 << 30;
 
@@ -121,7 +116,7 @@ pub fn read_inputs<S: Store>(
     for name in names {
         match read_input(alloc, store, name) {
             Ok(bytes) => {
-                left = left_behind(left, &bytes)?;
+                left = left.checked_sub(bytes.as_slice().len()).ok_or(NoMemory)?;
                 contents.push(bytes)?
             }
             Err(end) => return Err(end),

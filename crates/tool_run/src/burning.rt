@@ -15,7 +15,6 @@ use hex_image::{Burn, Piece, write_ihex, write_srec};
 use run_opening::{Image, Load};
 use sdt_fault::answer::{Answer, Fault};
 use sdt_fault::kinds::Quantity;
-use sdt_fault::refusal::Refusal;
 use sdt_fault::{List, NoMemory, Text};
 use sdt_outside::Store;
 use std::alloc::Global;
@@ -62,15 +61,6 @@ fn is_long(text: &Text) -> bool
     text.as_slice().len() >= 0x1_0000_0000
 }
 
-fn too_large() -> Fault
-    ensures { result ≡ fault.Refused burns.too_large }
-{
-    Fault::Refused(Refusal::TooLarge {
-        quantity: Quantity::FileBytes,
-        limit: 0xFFFF_FFFF,
-    })
-}
-
 /// The text of an image, or TooLarge where it would have 2^32 bytes or more.
 fn burnt(alloc: Global, form: BurnForm, image: Image) -> Result<Text, Fault>
     requires { AreInSpace image.loads }
@@ -80,7 +70,7 @@ fn burnt(alloc: Global, form: BurnForm, image: Image) -> Result<Text, Fault>
     let burn = burn_in(alloc, image)?;
     let text = text_of(alloc, form, &burn)?;
     if is_long(&text) {
-        return Err(too_large());
+        return Err(Fault::too_large(Quantity::FileBytes, 0xFFFF_FFFF));
     }
     Ok(text)
 }

@@ -15,7 +15,7 @@ pub returns-in-Ok-None : goal.returns-in-Ok-None
 returns-in-Ok-None g c = λ shown faults.
     let o = unprinted shown faults (g.S.Store.files c.args.store.now) (g.S.Store.files c.read_input_up_to.new.store) (g.S.Store.read_faults c.args.store.now) (g.S.Store.read_faults c.read_input_up_to.new.store) (g.S.Store.write_faults c.args.store.now) (g.S.Store.write_faults c.read_input_up_to.new.store) in
     let found = rw c.in-Ok-None.field-0-is at c.in-Ok-None.ensures.found in
-    rw (c.fault_answer.ensures, c.too_large.ensures)
+    rw (c.fault_answer.ensures, c.long_source.ensures)
     (too_long c.args.source.now c.args.output found.0 o found.1 found.2 (record { files = c.read_input_up_to.ensures.files; sink = refl }))
 
 pub returns-in-Ok : goal.returns-in-Ok

@@ -8,5 +8,5 @@ returns-in-Whole-clause-value g c = λ bytes agrees.
 
 pub returns-in-Long-clause-value : goal.returns-in-Long-clause-value
 returns-in-Long-clause-value g c = λ bytes agrees.
-    rw c.too_large.ensures (long_input (g.S.Store.files c.args.store.now) (g.S.Store.read_faults c.args.store.now) (g.S.Store.read_faults c.args.store.now) c.args.sources c.args.name.now c.args.content.now
+    rw c.long_source.ensures (long_input (g.S.Store.files c.args.store.now) (g.S.Store.read_faults c.args.store.now) (g.S.Store.read_faults c.args.store.now) c.args.sources c.args.name.now c.args.content.now
     bytes c.in-Long.is agrees)
