@@ -24,7 +24,7 @@ use sdt_word::word_at;
 use std::alloc::Global;
 
 /// What OBJ_HEAD says of an area; `count` is the number of its relocations.
-#[derive(Debug, Drop)]
+#[derive(Drop)]
 pub struct AreaHead {
     pub name: Text,
     pub attributes: u32,

@@ -15,7 +15,7 @@ use std::marker::Model;
 
 /// Frames of 4,096 bytes each, at most 65,536 of them. Contracts see them as one list of bytes. There is memory for all of
 /// them, but bytes are set to 0 only when a byte of their frame, or of a later one, is first written.
-#[derive(Debug, Drop)]
+#[derive(Drop)]
 pub struct Frames {
     block: Block,
     /// How many more bytes there are behind those that are made in the block, all of them 0.

@@ -16,14 +16,14 @@ use sdt_word::{Range32, Width};
 use std::alloc::Global;
 
 /// A bank of memory, and whether it is protected from stores.
-#[derive(Clone, Copy, Debug)]
+#[derive(Clone, Copy)]
 pub struct Bank {
     pub range: Range32,
     pub read_only: bool,
 }
 
 /// Why a store isn't made.
-#[derive(Clone, Copy, PartialEq, Eq, Debug)]
+#[derive(Clone, Copy, PartialEq, Eq)]
 pub enum BusFault {
     /// No bank and no device has the whole access.
     Absent,
@@ -35,7 +35,7 @@ pub enum BusFault {
 
 /// A page that one bank has whole and that has a frame, and what takes its addresses to their places among the bytes of all
 /// frames, where it is added to them and wraps.
-#[derive(Clone, Copy, Debug)]
+#[derive(Clone, Copy)]
 pub struct Window {
     pub page: u32,
     pub shift: u32,
@@ -69,7 +69,7 @@ const CLOSED: Window = Window {
 /// which a search begins. The windows spare a fetch, and a load or a store of data, the search: that of fetches moves where a
 /// fetch found its bytes by a search, and that of data where a store did. They are no part of what memory means, and decide no
 /// answer.
-#[derive(Debug, Drop)]
+#[derive(Drop)]
 pub struct Memory {
     pub alloc: Global,
     pub banks: Vec<Bank>,

@@ -8,7 +8,7 @@ ghost use Rattle.arm7_bus.specs.Places.{place_of};
 use sdt_word::{Range32, Width};
 
 /// The first `count` ranges of the list, in order.
-#[derive(Clone, Copy, Debug)]
+#[derive(Clone, Copy)]
 pub struct Stores {
     pub list: [Range32; 16],
     pub count: u32,
@@ -17,7 +17,7 @@ pub struct Stores {
 
 /// The first `count` ranges of the list, in order, and behind them the `run` words from `run_at` on: a block's words are noted
 /// by two numbers.
-#[derive(Clone, Copy, Debug)]
+#[derive(Clone, Copy)]
 pub struct Notes {
     pub list: [Range32; 16],
     pub count: u32,

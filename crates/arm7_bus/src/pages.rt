@@ -32,7 +32,7 @@ pub fn place_in(frame: u16, a: u32) -> u32
 
 /// The frame of each page, the frames, how many of them are in use, and how many there are. The table is
 /// empty until memory is started.
-#[derive(Debug, Drop)]
+#[derive(Drop)]
 pub struct Pages {
     pub table: Table,
     pub frames: Frames,

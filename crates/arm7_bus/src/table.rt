@@ -12,7 +12,7 @@ use std::marker::Model;
 const PART: usize = 4096;
 
 /// The frame, or none, of each page. Contracts see it as one list.
-#[derive(Debug, Drop)]
+#[derive(Drop)]
 pub struct Table {
     /// Where each part's entries begin. Those of all parts that aren't made are the first ones, which stay None.
     starts: Vec<usize>,

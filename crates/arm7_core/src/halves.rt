@@ -6,7 +6,7 @@ ghost use Rattle.thumb_isa.specs.ThumbRows.{IsUnread, ReadsThumb};
 use thumb_isa::{ThumbInstr, ThumbShift, decode_thumb, thumb_reading_law};
 
 /// A half-word with what it reads as.
-#[derive(Clone, Copy, Debug)]
+#[derive(Clone, Copy)]
 struct Entry {
     half: u16,
     found: ThumbInstr,
@@ -72,7 +72,7 @@ impl Entry {
 
 /// The half-words that were read last, each at a place that its address tells. It decides nothing: it only saves reading
 /// a half-word again.
-#[derive(Drop, Debug)]
+#[derive(Drop)]
 pub struct Halves {
     entries: [Entry; 256],
 }

@@ -8,7 +8,7 @@ use arm_isa::{ArmInstr, Operation, decode_arm};
 use sdt_word::{Condition, ShiftKind};
 
 /// A word with what it reads as.
-#[derive(Clone, Copy, Debug)]
+#[derive(Clone, Copy)]
 struct Entry {
     word: u32,
     found: ArmInstr,
@@ -74,7 +74,7 @@ impl Entry {
 
 /// The words that were read last, each at a place that its address tells, and the half-words. It decides nothing: it only
 /// saves reading a word again.
-#[derive(Drop, Debug)]
+#[derive(Drop)]
 pub struct Known {
     entries: [Entry; 256],
     pub halves: Halves,

@@ -15,7 +15,7 @@ use arm7_model::{ArmState, Banks, Event, step_is_valid};
 use sdt_outside::Device;
 
 /// An ARM7TDMI.
-#[derive(Drop, Debug)]
+#[derive(Drop)]
 pub struct Machine {
     pub state: ArmState,
     known: Known,

@@ -15,14 +15,14 @@ use std::alloc::Global;
 use std::collections::BTreeMap;
 
 /// The bytes of an area, and of each relocation its second word, by offset.
-#[derive(Debug, Drop)]
+#[derive(Drop)]
 pub struct AreaBuilder {
     bytes: Vec<u8>,
     relocs: BTreeMap<u32, u32>,
 }
 
 /// An area that is finished, with its relocations in order of offset.
-#[derive(Debug, Drop)]
+#[derive(Drop)]
 pub struct Finished {
     pub bytes: Bytes,
     pub relocs: List<Reloc>,

@@ -18,7 +18,7 @@ use sdt_fault::{List, NoMemory, Text};
 use std::alloc::Global;
 
 /// An area while the object is emitted.
-#[derive(Debug, Drop)]
+#[derive(Drop)]
 pub struct AreaBuild {
     pub name: Text,
     pub attributes: u32,

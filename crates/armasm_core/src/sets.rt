@@ -14,7 +14,7 @@ use sdt_fault::NoMemory;
 use std::alloc::Global;
 
 /// Names of a source.
-#[derive(Debug, Drop)]
+#[derive(Drop)]
 pub struct Sets<'a> {
     /// The labels that are data.
     pub data: NameRefs<'a>,

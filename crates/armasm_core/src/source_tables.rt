@@ -12,7 +12,7 @@ use sdt_fault::NoMemory;
 use std::alloc::Global;
 
 /// What all lines of a layout share.
-#[derive(Debug, Drop)]
+#[derive(Drop)]
 pub struct SourceTables<'a> {
     pub names: &'a KnownNames,
     pub sets: Sets<'a>,

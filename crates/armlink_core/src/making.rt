@@ -22,7 +22,7 @@ use sdt_word::Range32;
 use std::alloc::Global;
 
 /// What a link of selected objects is.
-#[derive(Debug, Drop)]
+#[derive(Drop)]
 pub struct PlacedImage {
     pub linked: Linked,
     pub assigned: Assigned,

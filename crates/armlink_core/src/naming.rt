@@ -17,7 +17,7 @@ use sdt_fault::answer::Fault;
 use std::alloc::Global;
 
 /// An image, with the sections and the symbols of what was linked.
-#[derive(Debug, Drop)]
+#[derive(Drop)]
 pub struct NamedImage {
     pub image: Image,
     pub tables: Tables,

@@ -24,7 +24,7 @@ use sdt_word::Range32;
 use std::alloc::Global;
 
 /// A link whose objects are placed, and the form of image that they are placed as.
-#[derive(Debug, Drop)]
+#[derive(Drop)]
 pub struct PlacedLink {
     pub kind: Kind,
     pub parts: PlacedImage,

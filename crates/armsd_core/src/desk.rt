@@ -23,7 +23,7 @@ use sdt_outside::{Device, Sink, SinkError};
 use sdt_word::Range32;
 
 /// What a debugger keeps beside the machine and its bus.
-#[derive(Debug, Drop)]
+#[derive(Drop)]
 pub struct Notes {
     /// The breakpoints.
     pub points: Points,

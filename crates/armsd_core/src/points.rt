@@ -30,7 +30,7 @@ fn others(points: &[u32], a: u32) -> ArrayVec<u32, 64>
 }
 
 /// At most 64 breakpoints, in the order in which they were set.
-#[derive(Debug, Drop)]
+#[derive(Drop)]
 pub struct Points {
     list: ArrayVec<u32, 64>,
 }

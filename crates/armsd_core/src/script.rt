@@ -53,7 +53,7 @@ fn first_line(text: &[u8]) -> (&[u8], &[u8])
 }
 
 /// What is read so far: the commands, how many more may be `break` or `watch`, and how many devices are left.
-#[derive(Debug, Drop)]
+#[derive(Drop)]
 pub struct Reader {
     commands: Vec<Command>,
     points: u32,

@@ -25,7 +25,7 @@ use sdt_fault::{List, NoMemory};
 use std::alloc::Global;
 
 /// The offset of an address.
-#[derive(Debug, Drop)]
+#[derive(Drop)]
 pub enum Offset {
     /// None is written.
     Absent,
@@ -40,7 +40,7 @@ pub enum Offset {
 }
 
 /// An address as it is written.
-#[derive(Debug, Drop)]
+#[derive(Drop)]
 pub struct Addressed {
     pub rn: Register,
     pub indexing: Indexing,

@@ -38,7 +38,7 @@ use std::alloc::Global;
 type ParsedOperation = Result<Result<What, LineKind>, NoMemory>;
 
 /// Data processing as its word says it.
-#[derive(Clone, Copy, Debug)]
+#[derive(Clone, Copy)]
 pub struct Process {
     pub condition: Condition,
     pub operation: Operation,
@@ -309,7 +309,7 @@ fn multiplication(
 }
 
 /// A long multiplication as its word says it.
-#[derive(Clone, Copy, Debug)]
+#[derive(Clone, Copy)]
 pub struct LongProduct {
     pub condition: Condition,
     pub signed: bool,

@@ -16,7 +16,7 @@ use asm_model::{BlockMode, is_called};
 use sdt_word::Condition;
 
 /// What an operation word of ARM state says, without its condition.
-#[derive(Clone, Copy, PartialEq, Eq, Debug)]
+#[derive(Clone, Copy, PartialEq, Eq)]
 pub enum Mnemonic {
     /// AND to MVN.
     Data {
@@ -73,7 +73,7 @@ pub enum Mnemonic {
 }
 
 /// Which registers data processing names besides its second operand.
-#[derive(Clone, Copy, PartialEq, Eq, Debug)]
+#[derive(Clone, Copy, PartialEq, Eq)]
 pub enum Shape {
     /// Rd
     Move,
@@ -84,7 +84,7 @@ pub enum Shape {
 }
 
 /// A stem: what its words say, but for their suffixes.
-#[derive(Clone, Copy, Debug)]
+#[derive(Clone, Copy)]
 pub enum Stem {
     /// AND to MVN; behind a comparison stands no suffix.
     Data(Operation),

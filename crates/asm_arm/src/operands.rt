@@ -35,7 +35,7 @@ static SHIFTS: [(&[u8], ShiftKind); 4] = [
 ];
 
 /// The operands of a line, up to four.
-#[derive(Clone, Copy, Debug)]
+#[derive(Clone, Copy)]
 pub enum Cut<'a> {
     None,
     One(&'a [Token]),
@@ -46,7 +46,7 @@ pub enum Cut<'a> {
 }
 
 /// The shift of a register, as a line says it.
-#[derive(Debug, Drop)]
+#[derive(Drop)]
 pub enum Scale {
     /// `LSL #a`
     By { kind: ShiftKind, amount: Expr },
@@ -57,7 +57,7 @@ pub enum Scale {
 }
 
 /// The second operand of data processing.
-#[derive(Debug, Drop)]
+#[derive(Drop)]
 pub enum Second {
     /// `#v`
     Number(Expr),

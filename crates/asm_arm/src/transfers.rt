@@ -29,7 +29,7 @@ use std::alloc::Global;
 type ParsedOperation = Result<Result<What, LineKind>, NoMemory>;
 
 /// A transfer of a word or a byte as its word says it.
-#[derive(Clone, Copy, Debug)]
+#[derive(Clone, Copy)]
 pub struct Transfer {
     pub condition: Condition,
     pub load: bool,
@@ -286,7 +286,7 @@ pub fn word_transfer(
 }
 
 /// A transfer of a half-word or a signed byte as its word says it.
-#[derive(Clone, Copy, Debug)]
+#[derive(Clone, Copy)]
 pub struct HalfTransfer {
     pub condition: Condition,
     pub load: bool,

@@ -18,7 +18,7 @@ use sdt_fault::kinds::LineKind;
 use std::alloc::Global;
 
 /// The attributes of an area.
-#[derive(Clone, Copy, Debug)]
+#[derive(Clone, Copy)]
 pub struct AreaMarks {
     pub contents: Contents,
     pub read_only: bool,

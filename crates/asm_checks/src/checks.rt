@@ -21,7 +21,7 @@ use sdt_fault::kinds::LineKind;
 use std::alloc::Global;
 
 /// What lines leave for the checks of those behind them.
-#[derive(Debug, Drop)]
+#[derive(Drop)]
 pub struct Checks {
     alloc: Global,
     /// The contents of the area in which the last line stands.

@@ -15,7 +15,7 @@ use sdt_fault::kinds::LineKind;
 const LIMIT: u32 = 0x100_0000;
 
 /// Where a statement stands.
-#[derive(Clone, Copy, Debug)]
+#[derive(Clone, Copy)]
 pub struct Position {
     /// Its area, counted from 0; None before the first.
     pub area: Option<u32>,

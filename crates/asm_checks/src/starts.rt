@@ -15,7 +15,7 @@ use std::alloc::Global;
 use std::marker::Model;
 
 /// An area by its lines so far.
-#[derive(Debug, Drop)]
+#[derive(Drop)]
 pub struct AreaStart {
     pub name: SharedText,
     /// The object format's attributes.
@@ -23,7 +23,7 @@ pub struct AreaStart {
 }
 
 /// The areas in order of their first lines.
-#[derive(Debug, Drop)]
+#[derive(Drop)]
 pub struct Starts {
     alloc: Global,
     areas: Vec<AreaStart>,

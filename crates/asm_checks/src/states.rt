@@ -13,7 +13,7 @@ use std::alloc::Global;
 use std::collections::BTreeMap;
 
 /// Of each area with an instruction, by its number, whether the first is one of Thumb state.
-#[derive(Debug, Drop)]
+#[derive(Drop)]
 pub struct States {
     first: BTreeMap<u32, bool>,
 }

@@ -8,7 +8,7 @@ use sdt_fault::NoMemory;
 const KEPT_BYTES: usize = 1 << 30;
 
 /// What was counted.
-#[derive(Clone, Copy, Debug)]
+#[derive(Clone, Copy)]
 pub struct Kept {
     /// How many flat lines.
     lines: usize,

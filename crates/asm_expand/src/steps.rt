@@ -7,7 +7,7 @@ use sdt_fault::Text;
 use sdt_fault::kinds::LineKind;
 
 /// How many constructs are open, and how many files that GET opened.
-#[derive(Clone, Copy, Debug)]
+#[derive(Clone, Copy)]
 pub struct Depth {
     pub constructs: usize,
     pub files: usize,

@@ -250,7 +250,7 @@ fn with_alignment(
 }
 
 /// Attributes as they are written: their words, and the numbers of alignments among them.
-#[derive(Debug, Drop)]
+#[derive(Drop)]
 pub struct Written {
     pub words: Vec<Attribute>,
     /// Whether an operand is no attribute.

@@ -128,7 +128,7 @@ pub fn label_field(
 }
 
 /// The tokens of a line.
-#[derive(Clone, Copy, Debug)]
+#[derive(Clone, Copy)]
 pub struct Sentence<'a> {
     pub label: Option<Token>,
     pub operation: Option<Token>,

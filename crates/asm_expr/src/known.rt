@@ -15,7 +15,7 @@ use std::alloc::Global;
 use std::marker::Model;
 
 /// Names in an order, found by an index. Of entries with one name the first is found.
-#[derive(Debug, Drop)]
+#[derive(Drop)]
 pub struct KnownNames {
     entries: Vec<LaidName>,
     /// The place of the first entry with each name.

@@ -10,7 +10,7 @@ use sdt_fault::NoMemory;
 use std::alloc::Global;
 
 /// What is due.
-#[derive(Clone, Copy, Debug)]
+#[derive(Clone, Copy)]
 pub enum Stage {
     Operand,
     /// The name behind `?` or `:DEF:`.
@@ -19,7 +19,7 @@ pub enum Stage {
 }
 
 /// What waits on the stack.
-#[derive(Clone, Copy, Debug)]
+#[derive(Clone, Copy)]
 pub enum Held {
     Open,
     Before(UnaryOp),
@@ -27,7 +27,7 @@ pub enum Held {
 }
 
 /// What was read of an expression.
-#[derive(Debug, Drop)]
+#[derive(Drop)]
 pub struct Parser {
     due: Stage,
     items: Vec<ExprItem>,

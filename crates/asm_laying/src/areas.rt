@@ -24,7 +24,7 @@ use std::alloc::Global;
 use std::collections::BTreeMap;
 
 /// The areas so far.
-#[derive(Debug, Drop)]
+#[derive(Drop)]
 pub struct Areas {
     /// The number of each area, by its name.
     pub numbers: BTreeMap<SharedText, u32>,

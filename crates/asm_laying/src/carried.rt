@@ -7,7 +7,7 @@ ghost use Rattle.asm_laying.specs.Carried.{stepped};
 use asm_model::{Contents, DirectiveLine, What};
 
 /// What the statements before another say of it, but for its area.
-#[derive(Clone, Copy, Debug)]
+#[derive(Clone, Copy)]
 pub struct CarriedState {
     /// Whether it stands in Thumb state.
     pub thumb: bool,

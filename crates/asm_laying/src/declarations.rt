@@ -17,7 +17,7 @@ use sdt_fault::NoMemory;
 use std::alloc::Global;
 
 /// What a statement leaves behind it.
-#[derive(Debug)]
+
 pub struct Declared {
     pub behind: CarriedState,
     /// Whether it declares a name that is declared before it, or one name twice.

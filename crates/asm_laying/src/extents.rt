@@ -28,14 +28,14 @@ use sdt_fault::{List as Listed, NoMemory};
 use std::alloc::Global;
 
 /// What a statement takes up, and of each value that may be a string whether it is one.
-#[derive(Debug, Drop)]
+#[derive(Drop)]
 pub struct SizedStatement {
     pub extent: Result<Extent, LineKind>,
     pub strings: Listed<bool>,
 }
 
 /// The bytes of values that may be strings, and of each whether it is one.
-#[derive(Debug, Drop)]
+#[derive(Drop)]
 pub struct Counted {
     pub bytes: u32,
     pub strings: Vec<bool>,

@@ -23,7 +23,7 @@ use sdt_fault::{List as Listed, NoMemory};
 use std::alloc::Global;
 
 /// A name for an expression, where a statement defines one.
-#[derive(Debug, Drop)]
+#[derive(Drop)]
 pub struct Equated {
     /// Its entry, with the kind of its fault where the value isn't known.
     pub entry: Option<LaidName>,
@@ -32,7 +32,7 @@ pub struct Equated {
 }
 
 /// What laying a statement needs of the values of its expressions.
-#[derive(Debug, Drop)]
+#[derive(Drop)]
 pub struct StatementValues {
     pub extent: Result<Extent, LineKind>,
     /// The storage map behind the statement.

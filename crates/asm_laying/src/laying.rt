@@ -25,7 +25,7 @@ use sdt_fault::{List as Listed, NoMemory};
 use std::alloc::Global;
 
 /// A statement where it stands, with what its values are made of.
-#[derive(Debug, Drop)]
+#[derive(Drop)]
 pub struct LaidStatement<'a> {
     pub line: PlacedLine<'a>,
     /// The number of its literal's entry in the pools of its area.
@@ -35,7 +35,7 @@ pub struct LaidStatement<'a> {
 }
 
 /// What laying a statement tells of it.
-#[derive(Debug, Drop)]
+#[derive(Drop)]
 pub struct LaidOutcome<'a> {
     /// Its area, counted from 0; None before the first.
     pub area: Option<u32>,
@@ -48,7 +48,7 @@ pub struct LaidOutcome<'a> {
 }
 
 /// The state behind the lines so far.
-#[derive(Debug, Drop)]
+#[derive(Drop)]
 pub struct Laying {
     behind: CarriedState,
     areas: Areas,
@@ -60,7 +60,7 @@ pub struct Laying {
 }
 
 /// What lines leave behind the last of them.
-#[derive(Debug, Drop)]
+#[derive(Drop)]
 pub struct Ended {
     /// Where each area ends.
     pub ends: Ends,

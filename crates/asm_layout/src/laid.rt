@@ -7,7 +7,7 @@ use asm_pool::Pools;
 use sdt_fault::List;
 
 /// The areas in the order of their first lines, the statements in the order of the source, and the names.
-#[derive(Debug, Drop)]
+#[derive(Drop)]
 pub struct Layout<'a> {
     pub areas: List<LaidArea>,
     pub statements: List<LaidStatement<'a>>,
@@ -15,7 +15,7 @@ pub struct Layout<'a> {
 }
 
 /// An area; its attributes have its alignment.
-#[derive(Debug, Drop)]
+#[derive(Drop)]
 pub struct LaidArea {
     pub name: SharedText,
     pub attributes: u32,

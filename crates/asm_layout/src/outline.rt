@@ -17,7 +17,7 @@ use sdt_fault::NoMemory;
 use std::alloc::Global;
 
 /// What laying a line needs to know of the whole source.
-#[derive(Debug, Drop)]
+#[derive(Drop)]
 pub struct Outline {
     /// All names, which mean something later.
     pub names: KnownNames,
@@ -31,7 +31,7 @@ pub struct Outline {
 }
 
 /// The names of a source, and those that are for expressions.
-#[derive(Debug, Drop)]
+#[derive(Drop)]
 struct Listed<'a> {
     names: KnownNames,
     /// The first definitions of names for expressions.

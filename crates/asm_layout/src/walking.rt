@@ -26,7 +26,7 @@ use sdt_fault::kinds::LineKind;
 use std::alloc::Global;
 
 /// What lines leave for those behind them.
-#[derive(Debug, Drop)]
+#[derive(Drop)]
 pub struct Walk<'a> {
     alloc: Global,
     pub laying: Laying,
@@ -40,7 +40,7 @@ pub struct Walk<'a> {
 }
 
 /// What is known of a line before it is kept.
-#[derive(Debug, Drop)]
+#[derive(Drop)]
 struct CheckedLine<'a> {
     laid: LaidOutcome<'a>,
     /// Whether its area is one of Thumb code.

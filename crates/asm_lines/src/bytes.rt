@@ -20,7 +20,7 @@ fn kind_of(c: u8) -> u8
 }
 
 /// A class of bytes.
-#[derive(Clone, Copy, Debug)]
+#[derive(Clone, Copy)]
 pub enum Class {
     /// Space and tab.
     Blank,

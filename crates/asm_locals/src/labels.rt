@@ -104,7 +104,7 @@ fn number_behind(letter: u8, other: u8, text: &[u8]) -> Option<usize>
 }
 
 /// On which side of a line labels are looked for.
-#[derive(Clone, Copy, PartialEq, Eq, Debug)]
+#[derive(Clone, Copy, PartialEq, Eq)]
 pub enum Way {
     Back,
     Forth,
@@ -121,7 +121,7 @@ fn number_on(way: Way, text: &[u8]) -> Option<usize>
 }
 
 /// The nearest label of each number, on one side of a line.
-#[derive(Debug, Drop)]
+#[derive(Drop)]
 pub struct Nearest {
     pub way: Way,
     /// By number, the label's statement, counted from 0.

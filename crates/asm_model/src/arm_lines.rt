@@ -10,7 +10,7 @@ use arm_isa::{HalfKind, Operation};
 use sdt_word::{Condition, ShiftKind};
 
 /// An instruction as a line says it. A register that the form leaves out is register 0.
-#[derive(Debug, Drop)]
+#[derive(Drop)]
 pub enum ArmLine {
     /// `ADD{c}{S} Rd,Rn,#v`; MOV and MVN have no Rn, comparisons no Rd.
     DataImmediate {

@@ -5,7 +5,7 @@ use crate::shared_texts::SharedText;
 use sdt_fault::List;
 
 /// A directive, whichever of its names is written.
-#[derive(Clone, Copy, PartialEq, Eq, Debug)]
+#[derive(Clone, Copy, PartialEq, Eq)]
 pub enum Directive {
     Area,
     Entry,
@@ -44,7 +44,7 @@ pub enum Directive {
 }
 
 /// An item of data, with the directive that puts it.
-#[derive(Clone, Copy, PartialEq, Eq, Debug)]
+#[derive(Clone, Copy, PartialEq, Eq)]
 pub enum DataItem {
     /// DCD or `&`
     Word,
@@ -57,7 +57,7 @@ pub enum DataItem {
 }
 
 /// How a data item holds its values.
-#[derive(Clone, Copy, PartialEq, Eq, Debug)]
+#[derive(Clone, Copy, PartialEq, Eq)]
 pub enum Held {
     /// Words, which may be relocated.
     Relocatable,
@@ -68,7 +68,7 @@ pub enum Held {
 }
 
 /// What a directive asks of the label field.
-#[derive(Clone, Copy, PartialEq, Eq, Debug)]
+#[derive(Clone, Copy, PartialEq, Eq)]
 pub enum LabelNeed {
     /// A label may stand there.
     Optional,
@@ -79,7 +79,7 @@ pub enum LabelNeed {
 }
 
 /// What a line says with a directive. A name that the directive defines is the line's label.
-#[derive(Debug, Drop)]
+#[derive(Drop)]
 pub enum DirectiveLine {
     Area {
         name: SharedText,
@@ -140,7 +140,7 @@ pub enum DirectiveLine {
 }
 
 /// The attributes of an area, with those that are not written.
-#[derive(Debug, Drop)]
+#[derive(Drop)]
 pub struct AreaAttributes {
     pub contents: Contents,
     /// Code is read-only and data read-write unless said.
@@ -156,7 +156,7 @@ pub struct AreaAttributes {
 }
 
 /// What an area holds.
-#[derive(Clone, Copy, PartialEq, Eq, Debug)]
+#[derive(Clone, Copy, PartialEq, Eq)]
 pub enum Contents {
     Code,
     Data,
@@ -165,7 +165,7 @@ pub enum Contents {
 }
 
 /// A word among the attributes of an area.
-#[derive(Clone, Copy, PartialEq, Eq, Debug)]
+#[derive(Clone, Copy, PartialEq, Eq)]
 pub enum Attribute {
     Code,
     Data,
@@ -180,7 +180,7 @@ pub enum Attribute {
 }
 
 /// What stands behind the name of an import.
-#[derive(Clone, Copy, PartialEq, Eq, Debug)]
+#[derive(Clone, Copy, PartialEq, Eq)]
 pub enum ImportMark {
     Absent,
     /// `[WEAK]` or `,WEAK`
@@ -190,7 +190,7 @@ pub enum ImportMark {
 }
 
 /// What an RN name stands for.
-#[derive(Debug, Drop)]
+#[derive(Drop)]
 pub enum RnOperand {
     /// A register, 0 to 15.
     Register(u8),
@@ -198,7 +198,7 @@ pub enum RnOperand {
 }
 
 /// What ALIGN aligns to.
-#[derive(Debug, Drop)]
+#[derive(Drop)]
 pub enum Boundary {
     /// A word.
     Word,

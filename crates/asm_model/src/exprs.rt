@@ -5,12 +5,12 @@ use crate::values::Value;
 use sdt_fault::List;
 
 /// The items of an expression, each operator after its operands.
-#[derive(Debug, Drop)]
+#[derive(Drop)]
 pub struct Expr {
     pub items: List<ExprItem>,
 }
 
-#[derive(Debug, Drop)]
+#[derive(Drop)]
 pub enum ExprItem {
     Name(SharedText),
     /// A reference to a local label, as it is written.
@@ -29,7 +29,7 @@ pub enum ExprItem {
 }
 
 /// The operators before their operand.
-#[derive(Clone, Copy, PartialEq, Eq, Debug)]
+#[derive(Clone, Copy, PartialEq, Eq)]
 pub enum UnaryOp {
     Plus,
     Minus,
@@ -45,7 +45,7 @@ pub enum UnaryOp {
 }
 
 /// The operators between their operands.
-#[derive(Clone, Copy, PartialEq, Eq, Debug)]
+#[derive(Clone, Copy, PartialEq, Eq)]
 pub enum BinaryOp {
     Multiply,
     Divide,
@@ -76,7 +76,7 @@ pub enum BinaryOp {
 }
 
 /// What a token is in an expression.
-#[derive(Debug, Drop)]
+#[derive(Drop)]
 pub enum Part {
     Operand(ExprItem),
     Open,

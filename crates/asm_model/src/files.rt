@@ -8,7 +8,7 @@ use std::marker::Model;
 use std::rc::Rc;
 
 /// The name of a source file, which all of its lines share.
-#[derive(Debug, Drop)]
+#[derive(Drop)]
 pub struct FileName {
     name: Rc<Text>,
 }

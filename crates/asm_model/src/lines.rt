@@ -4,7 +4,7 @@ use crate::files::FileName;
 use crate::shared_texts::SharedText;
 
 /// A line of a source, without its end. Its number counts from 1 in the file that `source` names.
-#[derive(Debug, Drop)]
+#[derive(Drop)]
 pub struct Line {
     pub source: FileName,
     pub number: u32,
@@ -12,7 +12,7 @@ pub struct Line {
 }
 
 /// A line that expansion leaves: the text after substitution, and the file and line where it stands.
-#[derive(Debug, Drop)]
+#[derive(Drop)]
 pub struct Flat {
     pub source: FileName,
     pub number: u32,

@@ -6,7 +6,7 @@ use sdt_fault::List;
 use sdt_fault::kinds::LineKind;
 
 /// What a name means.
-#[derive(Debug, Drop)]
+#[derive(Drop)]
 pub enum Meaning {
     /// The source defines the name, and a line doesn't know yet what it means.
     Later,
@@ -25,7 +25,7 @@ pub enum Meaning {
 }
 
 /// A name that a source defines or imports.
-#[derive(Debug, Drop)]
+#[derive(Drop)]
 pub struct LaidName {
     pub name: SharedText,
     pub meaning: Meaning,
@@ -40,7 +40,7 @@ pub struct LaidName {
 }
 
 /// The names, and the place, the storage map and the state of a statement.
-#[derive(Debug, Drop)]
+#[derive(Drop)]
 pub struct Names {
     pub list: List<LaidName>,
     /// The statement's area, counted from 0; None before the first.

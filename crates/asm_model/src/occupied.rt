@@ -8,7 +8,7 @@ use crate::directives::{AreaAttributes, Boundary, DataItem, DirectiveLine};
 use crate::exprs::Expr;
 
 /// What a directive occupies of its area.
-#[derive(Clone, Copy, Debug)]
+#[derive(Clone, Copy)]
 pub enum Occupied<'a> {
     /// Nothing, in or outside of areas.
     Unplaced,

@@ -6,14 +6,14 @@ use sdt_fault::List;
 use sdt_word::ShiftKind;
 
 /// A register, 0 to 15, or a name that an RN directive gives one.
-#[derive(Debug, Drop)]
+#[derive(Drop)]
 pub enum Register {
     Number(u8),
     Named(RegisterName),
 }
 
 /// The shift of a register operand.
-#[derive(Debug, Drop)]
+#[derive(Drop)]
 pub enum Shift {
     /// None is written, which stands for `LSL #0`.
     Unshifted,
@@ -24,7 +24,7 @@ pub enum Shift {
 }
 
 /// Where a transfer adds its offset to the base.
-#[derive(Clone, Copy, PartialEq, Eq, Debug)]
+#[derive(Clone, Copy, PartialEq, Eq)]
 pub enum Indexing {
     /// `[Rn,..]`
     Offset,
@@ -39,7 +39,7 @@ pub enum Indexing {
 }
 
 /// The place that a transfer with a number as its offset names.
-#[derive(Debug, Drop)]
+#[derive(Drop)]
 pub enum Address {
     /// `[Rn,#v]{!}` or `[Rn],#v`; without a number v is 0.
     Based {
@@ -54,7 +54,7 @@ pub enum Address {
 }
 
 /// The offset of a transfer of half-words or signed bytes.
-#[derive(Debug, Drop)]
+#[derive(Drop)]
 pub enum HalfOffset {
     Number { offset: Expr },
     /// `Rm`, or `-Rm` where `subtract`.
@@ -62,7 +62,7 @@ pub enum HalfOffset {
 }
 
 /// The order in which LDM and STM go through memory.
-#[derive(Clone, Copy, PartialEq, Eq, Debug)]
+#[derive(Clone, Copy, PartialEq, Eq)]
 pub enum BlockMode {
     IncrementAfter,
     IncrementBefore,
@@ -71,20 +71,20 @@ pub enum BlockMode {
 }
 
 /// A register of a list, or all from one to another.
-#[derive(Debug, Drop)]
+#[derive(Drop)]
 pub enum ListItem {
     One(Register),
     Range { first: Register, last: Register },
 }
 
 /// A register list, as it is written; `{PC}` is the list of pc alone.
-#[derive(Debug, Drop)]
+#[derive(Drop)]
 pub struct RegisterList {
     pub items: List<ListItem>,
 }
 
 /// A status register.
-#[derive(Clone, Copy, PartialEq, Eq, Debug)]
+#[derive(Clone, Copy, PartialEq, Eq)]
 pub enum StatusRegister {
     /// CPSR
     Current,
@@ -93,7 +93,7 @@ pub enum StatusRegister {
 }
 
 /// Fields of a status register, which MSR writes.
-#[derive(Clone, Copy, PartialEq, Eq, Debug)]
+#[derive(Clone, Copy, PartialEq, Eq)]
 pub struct StatusFields {
     pub register: StatusRegister,
     /// 1 to 15: a bit for each of the letters f, s, x and c, f the highest.
@@ -101,14 +101,14 @@ pub struct StatusFields {
 }
 
 /// The last operand of Thumb's ADD and SUB with two registers before it.
-#[derive(Debug, Drop)]
+#[derive(Drop)]
 pub enum ThumbOperand {
     Register(Register),
     Number(Expr),
 }
 
 /// The place from which Thumb's LDR loads by pc.
-#[derive(Debug, Drop)]
+#[derive(Drop)]
 pub enum LiteralAddress {
     /// `[pc,#v]`
     Offset(Expr),

@@ -9,7 +9,7 @@ use std::marker::Model;
 use std::rc::Rc;
 
 /// A name of a register, of the size of a pointer, so that the operands of a line stay small.
-#[derive(Debug, Drop)]
+#[derive(Drop)]
 pub struct RegisterName {
     name: Rc<SharedText>,
 }

@@ -16,7 +16,7 @@ use std::marker::Model;
 use std::rc::Rc;
 
 /// A line or a name: a part of a text whose bytes its copies and parts share.
-#[derive(Debug, Drop)]
+#[derive(Drop)]
 pub struct SharedText {
     whole: Rc<Bytes>,
     start: u32,

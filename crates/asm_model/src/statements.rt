@@ -11,7 +11,7 @@ use sdt_word::Condition;
 
 /// What a line says, with the file and line where its text stands. A local label is kept as its digits behind
 /// a bar, until `asm_locals` gives it a name that no line can spell; behind that, references are such names too.
-#[derive(Debug, Drop)]
+#[derive(Drop)]
 pub struct Statement {
     pub source: FileName,
     pub number: u32,
@@ -21,7 +21,7 @@ pub struct Statement {
     pub is_long: bool,
 }
 
-#[derive(Debug, Drop)]
+#[derive(Drop)]
 pub enum What {
     /// The line has no operation.
     Nothing,
@@ -33,7 +33,7 @@ pub enum What {
 
 /// A pseudo-instruction; the state in which it stands decides its instructions. In Thumb state the condition
 /// is AL.
-#[derive(Debug, Drop)]
+#[derive(Drop)]
 pub enum PseudoLine {
     /// `LDR{c} Rd,=v`
     LoadConstant {

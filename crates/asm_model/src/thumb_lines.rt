@@ -8,7 +8,7 @@ use thumb_isa::{HighOperation, ImmediateOperation, SignedTransfer, ThumbOperatio
 
 /// An instruction as a line says it. A name that RN gives a register stands where one of r0 to r7 could; the
 /// instruction is that of the row which the register itself gives.
-#[derive(Debug, Drop)]
+#[derive(Drop)]
 pub enum ThumbLine {
     /// `LSL`, `LSR`, `ASR Rd,Rs,#i`
     ShiftImmediate {

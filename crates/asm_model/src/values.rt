@@ -8,7 +8,7 @@ use sdt_fault::kinds::LineKind;
 use sdt_fault::{Bytes, NoMemory};
 use std::alloc::{AllocError, AllocFailed, Global};
 
-#[derive(PartialEq, Eq, PartialOrd, Ord, Debug, Drop)]
+#[derive(PartialEq, Eq, PartialOrd, Ord, Drop)]
 pub enum Value {
     Number(u32),
     Truth(bool),
@@ -43,7 +43,7 @@ impl Value {
 }
 
 /// Why an expression has no value.
-#[derive(Clone, Copy, PartialEq, Eq, Debug)]
+#[derive(Clone, Copy, PartialEq, Eq)]
 pub enum EvalFault {
     Kind(LineKind),
     NoMemory,

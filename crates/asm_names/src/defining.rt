@@ -10,7 +10,7 @@ use sdt_fault::NoMemory;
 use std::alloc::Global;
 
 /// What a statement defines by its label. A label on ROUT defines nothing.
-#[derive(Clone, Copy, Debug)]
+#[derive(Clone, Copy)]
 pub enum Defines<'a> {
     Unnamed,
     Label(&'a SharedText),

@@ -3,14 +3,14 @@
 use asm_model::{Expr, SharedText};
 
 /// A name for an expression, by the statement that defines it.
-#[derive(Clone, Copy, Debug)]
+#[derive(Clone, Copy)]
 pub struct Equal<'a> {
     pub name: &'a SharedText,
     pub value: &'a Expr,
 }
 
 /// Which names can be evaluated, and when.
-#[derive(Debug, Drop)]
+#[derive(Drop)]
 pub struct Order {
     /// The numbers of the names that can be evaluated, each behind those that its expression mentions.
     pub places: Vec<u32>,

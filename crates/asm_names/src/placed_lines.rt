@@ -3,7 +3,7 @@
 use asm_model::Statement;
 
 /// Where a statement stands, with what its expressions and its label's entry are made of.
-#[derive(Clone, Copy, Debug)]
+#[derive(Clone, Copy)]
 pub struct StatementPlace {
     /// The statement's area, counted from 0; None before the first.
     pub area: Option<u32>,
@@ -18,7 +18,7 @@ pub struct StatementPlace {
 }
 
 /// A statement where it stands.
-#[derive(Clone, Copy, Debug)]
+#[derive(Clone, Copy)]
 pub struct PlacedLine<'a> {
     pub statement: &'a Statement,
     pub place: StatementPlace,

@@ -20,7 +20,7 @@ use std::marker::Model;
 const LIMIT: u32 = 0x100_0000;
 
 /// An area behind the statements that are placed in it.
-#[derive(Debug, Drop)]
+#[derive(Drop)]
 pub struct AreaEnd {
     end: u32,
     pools: Pools,

@@ -13,7 +13,7 @@ use std::alloc::Global;
 use std::marker::Model;
 
 /// For each area of a source, by its number, where its statements end that are placed so far, and its pools.
-#[derive(Debug, Drop)]
+#[derive(Drop)]
 pub struct Ends {
     alloc: Global,
     areas: Vec<AreaEnd>,

@@ -4,7 +4,7 @@ use asm_model::Value;
 use asm_pool::Pools;
 
 /// What a statement takes up in its area.
-#[derive(Debug, Drop)]
+#[derive(Drop)]
 pub enum Extent {
     Block { alignment: u32, bytes: u32 },
     /// Bytes up to an offset that is a multiple plus an offset.
@@ -16,7 +16,7 @@ pub enum Extent {
 }
 
 /// Where a statement stands in its area.
-#[derive(Clone, Copy, PartialEq, Eq, Debug)]
+#[derive(Clone, Copy, PartialEq, Eq)]
 pub struct PlacedExtent {
     pub offset: u32,
     /// In bytes.
@@ -26,11 +26,11 @@ pub struct PlacedExtent {
 }
 
 /// A statement would end behind the last offset that an area may have, 2^24.
-#[derive(Clone, Copy, PartialEq, Eq, Debug)]
+#[derive(Clone, Copy, PartialEq, Eq)]
 pub struct TooLarge;
 
 /// An area when all its statements are placed.
-#[derive(Debug, Drop)]
+#[derive(Drop)]
 pub struct LaidPools {
     /// The area's size in bytes, with its pools.
     pub size: u32,

@@ -12,7 +12,7 @@ use std::collections::BTreeMap;
 use std::marker::Model;
 
 /// The literals that an area loads from its pools. Equal literals share an entry between one pool and the next.
-#[derive(Debug, Drop)]
+#[derive(Drop)]
 pub struct Pools {
     alloc: Global,
     /// Those of all entries, by their numbers.

@@ -15,7 +15,7 @@ use sdt_fault::{NoMemory, Text};
 use std::alloc::Global;
 
 /// What lines say.
-#[derive(Debug, Drop)]
+#[derive(Drop)]
 pub struct Reading {
     /// The statements of the lines that can be read.
     pub statements: Vec<Statement>,
@@ -26,7 +26,7 @@ pub struct Reading {
 }
 
 /// A line that can't be read, with the kind that is told of it.
-#[derive(Debug, Drop)]
+#[derive(Drop)]
 pub struct Unread {
     pub source: Text,
     pub number: u32,

@@ -17,7 +17,7 @@ use asm_sets::{NameMap, NameSet};
 use sdt_fault::kinds::LineKind;
 
 /// What the names of a line's registers are judged by.
-#[derive(Clone, Copy, Debug)]
+#[derive(Clone, Copy)]
 pub struct Scope<'a> {
     /// All names for registers of the source.
     pub all: &'a NameSet,

@@ -19,7 +19,7 @@ use sdt_fault::kinds::LineKind;
 use std::alloc::Global;
 
 /// The names for registers of a source, and which register each of them stands for that is known so far.
-#[derive(Debug, Drop)]
+#[derive(Drop)]
 pub struct Registers {
     alloc: Global,
     /// All names for registers of the source.

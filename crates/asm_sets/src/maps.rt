@@ -11,7 +11,7 @@ use std::alloc::Global;
 use std::marker::Model;
 
 /// Names, each once and with a value, in the order in which they were added.
-#[derive(Debug, Drop)]
+#[derive(Drop)]
 pub struct NameMap<V> {
     entries: IndexMap<SharedText, V>,
 }

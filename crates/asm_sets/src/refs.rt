@@ -12,7 +12,7 @@ use std::alloc::Global;
 use std::marker::Model;
 
 /// Names, each once.
-#[derive(Debug, Drop)]
+#[derive(Drop)]
 pub struct NameRefs<'a> {
     names: IndexSet<&'a [u8]>,
 }

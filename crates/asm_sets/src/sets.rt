@@ -13,7 +13,7 @@ use std::alloc::Global;
 use std::marker::Model;
 
 /// Names, each once, in the order in which they were added.
-#[derive(Debug, Drop)]
+#[derive(Drop)]
 pub struct NameSet {
     names: IndexSet<SharedText>,
 }

@@ -12,7 +12,7 @@ use std::slice;
 use thumb_isa::ThumbInstr;
 
 /// What a word is relocated by.
-#[derive(Debug, Drop)]
+#[derive(Drop)]
 pub enum RelocationTarget {
     Nothing,
     /// An area of the source, counted from 0.
@@ -21,14 +21,14 @@ pub enum RelocationTarget {
 }
 
 /// What a word holds before it is relocated.
-#[derive(Debug, Drop)]
+#[derive(Drop)]
 pub struct Stored {
     pub number: u32,
     pub target: RelocationTarget,
 }
 
 /// One of the things that a statement puts into its area, where all else is zero.
-#[derive(Debug, Drop)]
+#[derive(Drop)]
 pub enum Emitted {
     Bytes(Bytes),
     Word {
@@ -52,7 +52,7 @@ pub enum Emitted {
 }
 
 /// What a statement puts into its area, one behind the other. Nearly each puts one thing or none, for which no list is kept.
-#[derive(Debug, Drop)]
+#[derive(Drop)]
 pub enum Emission {
     Nothing,
     One(Emitted),
@@ -100,7 +100,7 @@ fn pair(alloc: Global, first: Emitted, second: Emitted) -> Result<Emission, NoMe
 }
 
 /// What a line puts into its area, and what its RN gives.
-#[derive(Debug, Drop)]
+#[derive(Drop)]
 pub struct LineUnits {
     /// From the line's offset on, one behind the other.
     pub units: Emission,

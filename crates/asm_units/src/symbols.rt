@@ -11,7 +11,7 @@ use std::alloc::Global;
 use std::marker::Model;
 
 /// Symbols in order of their first need.
-#[derive(Debug, Drop)]
+#[derive(Drop)]
 pub struct Symbols {
     names: NameSet,
 }

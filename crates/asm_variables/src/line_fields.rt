@@ -9,7 +9,7 @@ use asm_lines::bytes::{Class, is_digit, is_letter, run_len};
 use asm_lines::scan::{longest_token, starts_operation};
 
 /// The label field, the operation, and what stands behind it.
-#[derive(Clone, Copy, Debug)]
+#[derive(Clone, Copy)]
 pub struct Words<'a> {
     pub label: &'a [u8],
     pub operation: &'a [u8],
@@ -76,7 +76,7 @@ pub fn words_of(text: &[u8]) -> Words<'_>
 }
 
 /// Where a word stands in a line that isn't read.
-#[derive(Clone, Copy, Debug)]
+#[derive(Clone, Copy)]
 pub enum Field {
     Label,
     Operation,

@@ -16,7 +16,7 @@ use sdt_fault::kinds::LineKind;
 use std::alloc::Global;
 
 /// Where lines that are skipped end, with how many of them are passed, or which of them has a fault.
-#[derive(Clone, Copy, Debug)]
+#[derive(Clone, Copy)]
 pub enum Skipping {
     Closed(usize),
     Turned(usize),
@@ -25,7 +25,7 @@ pub enum Skipping {
 }
 
 /// Where the lines of a macro's body end: before the line with this number, which is MEND, or at one with a fault.
-#[derive(Clone, Copy, Debug)]
+#[derive(Clone, Copy)]
 pub enum Taking {
     Whole(usize),
     Bad(usize, LineKind),
@@ -33,7 +33,7 @@ pub enum Taking {
 }
 
 /// What a word does to the innermost opening.
-#[derive(Clone, Copy, Debug)]
+#[derive(Clone, Copy)]
 pub enum Effect {
     Nothing,
     Opens(Opening),
@@ -43,7 +43,7 @@ pub enum Effect {
 }
 
 /// What a line leaves.
-#[derive(Clone, Copy, Debug)]
+#[derive(Clone, Copy)]
 pub enum OpeningAfter {
     Stays,
     Turns,
@@ -52,7 +52,7 @@ pub enum OpeningAfter {
 }
 
 /// What a line is inside a definition.
-#[derive(Clone, Copy, Debug)]
+#[derive(Clone, Copy)]
 pub enum BodyPart {
     Stays,
     Ends,

@@ -23,7 +23,7 @@ use std::alloc::Global;
 use std::mem;
 
 /// Which names have values.
-#[derive(Clone, Copy, Debug)]
+#[derive(Clone, Copy)]
 pub enum Visible {
     /// Variables, and numbers of EQUs.
     Everything,

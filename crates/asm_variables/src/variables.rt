@@ -14,7 +14,7 @@ use sdt_fault::digits::push_hexadecimal_places;
 use std::alloc::Global;
 
 /// The global variables, and the variables and arguments of the call that is open.
-#[derive(Debug, Drop)]
+#[derive(Drop)]
 pub struct Tables {
     pub globals: IndexMap<SharedText, Value>,
     pub locals: IndexMap<SharedText, Value>,

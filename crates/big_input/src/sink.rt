@@ -5,7 +5,7 @@ ghost use Rattle.std.specs.Prelude.{None};
 use sdt_outside::{Sink, SinkError};
 
 /// A sink that takes each text and keeps and tells none. No call of it is counted as a fault.
-#[derive(Clone, Copy, Debug, Drop)]
+#[derive(Clone, Copy, Drop)]
 pub struct NoText;
 
 impl Sink for NoText {

@@ -9,7 +9,7 @@ use std::alloc::Global;
 
 /// A store that tells that it has no files, and takes none: a read finds nothing, and a write is refused for want of memory.
 /// No call of it is counted as a fault.
-#[derive(Clone, Copy, Debug, Drop)]
+#[derive(Clone, Copy, Drop)]
 pub struct NoFiles;
 
 impl Store for NoFiles {

@@ -12,7 +12,7 @@ use std::alloc::Global;
 use std::collections::BTreeMap;
 
 /// Load lines in their order, of which no two share an address.
-#[derive(Debug, Drop)]
+#[derive(Drop)]
 pub struct Loads {
     pub lines: Vec<MapLoad>,
     /// For the base of each range that has bytes the address behind its last byte.

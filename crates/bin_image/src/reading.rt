@@ -20,7 +20,7 @@ use sdt_fault::{List, NoMemory, Text};
 use std::alloc::Global;
 
 /// Which lines may follow.
-#[derive(Clone, Copy, PartialEq, Eq, Debug)]
+#[derive(Clone, Copy, PartialEq, Eq)]
 pub enum Stage {
     /// The first line.
     Head,
@@ -36,7 +36,7 @@ pub enum Stage {
 }
 
 /// What is read so far.
-#[derive(Debug, Drop)]
+#[derive(Drop)]
 pub struct Reader {
     stage: Stage,
     loads: Loads,

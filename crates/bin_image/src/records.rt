@@ -3,14 +3,14 @@
 use sdt_fault::{Bytes, List, Text};
 
 /// A file to be written.
-#[derive(Debug, Drop)]
+#[derive(Drop)]
 pub struct OutFile {
     pub name: Text,
     pub bytes: Bytes,
 }
 
 /// The map of a scatter image.
-#[derive(Debug, Drop)]
+#[derive(Drop)]
 pub struct MapFile {
     /// The load regions in the order of the description.
     pub loads: List<MapLoad>,
@@ -27,7 +27,7 @@ pub struct MapFile {
 }
 
 /// A load region: the file that has its bytes, their address and their number.
-#[derive(Debug, Drop)]
+#[derive(Drop)]
 pub struct MapLoad {
     pub name: Text,
     pub base: u32,
@@ -37,7 +37,7 @@ pub struct MapLoad {
 
 /// An execution region: its bytes are loaded at `load` and run at `base`, and `zero` bytes of 0 follow them
 /// there.
-#[derive(Debug, Drop)]
+#[derive(Drop)]
 pub struct MapRegion {
     pub name: Text,
     pub load: u32,

@@ -41,7 +41,7 @@ const PAGES: usize = 12;
 
 /// The bus as plain lists: a byte for each address, the used pages, the noted stores, and the serial port's last byte and
 /// number of bytes.
-#[derive(Debug, Drop)]
+#[derive(Drop)]
 struct Plain {
     bytes: Vec<u8>,
     used: [bool; PAGES],

@@ -3,20 +3,20 @@
 use sdt_fault::{Bytes, List};
 
 /// A named chunk.
-#[derive(Debug, Drop)]
+#[derive(Drop)]
 pub struct Chunk {
     pub name: [u8; 8],
     pub bytes: Bytes,
 }
 
 /// The entries of a chunk file's table in their order, with their chunks. `None` is an unused entry.
-#[derive(Debug, Drop)]
+#[derive(Drop)]
 pub struct Chunks {
     pub list: List<Option<Chunk>>,
 }
 
 /// Where a chunk stands in its file: `size` bytes from `offset` on.
-#[derive(Clone, Copy, PartialEq, Eq, Debug)]
+#[derive(Clone, Copy, PartialEq, Eq)]
 pub struct Span {
     pub name: [u8; 8],
     pub offset: u32,

@@ -3,7 +3,7 @@
 use sdt_fault::List;
 
 /// An executable: where it is entered, with bit 0 set for Thumb state, and what is loaded, in the file's order.
-#[derive(Debug, Drop)]
+#[derive(Drop)]
 pub struct Elf {
     pub entry: u32,
     pub segments: List<Segment>,
@@ -11,7 +11,7 @@ pub struct Elf {
 
 /// A segment: where its bytes stand in the file, the address that they are loaded at, how many there are, how many
 /// bytes it has in memory, where zeros follow the file's, and its permissions.
-#[derive(Clone, Copy, PartialEq, Eq, Debug)]
+#[derive(Clone, Copy, PartialEq, Eq)]
 pub struct Segment {
     pub offset: u32,
     pub address: u32,

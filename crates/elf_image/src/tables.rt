@@ -3,14 +3,14 @@
 use sdt_fault::{List, Text};
 
 /// What a section holds: bytes of the file, or zeros that stand in memory alone.
-#[derive(Clone, Copy, PartialEq, Eq, Debug)]
+#[derive(Clone, Copy, PartialEq, Eq)]
 pub enum SectionKind {
     Bytes,
     Zeros,
 }
 
 /// A section: its name, its address, where its bytes stand in the file (or would stand, for zeros), and how many it has.
-#[derive(Debug, Drop)]
+#[derive(Drop)]
 pub struct Section {
     pub name: Text,
     pub kind: SectionKind,
@@ -20,7 +20,7 @@ pub struct Section {
 }
 
 /// Whether other objects see a symbol, and whether it may be defined again.
-#[derive(Clone, Copy, PartialEq, Eq, Debug)]
+#[derive(Clone, Copy, PartialEq, Eq)]
 pub enum Binding {
     Local,
     Global,
@@ -28,7 +28,7 @@ pub enum Binding {
 }
 
 /// What a symbol names: nothing that is told, data, or code.
-#[derive(Clone, Copy, PartialEq, Eq, Debug)]
+#[derive(Clone, Copy, PartialEq, Eq)]
 pub enum SymbolKind {
     Untyped,
     Object,
@@ -36,14 +36,14 @@ pub enum SymbolKind {
 }
 
 /// Where a symbol stands: at an address that nothing moves, or in a section by its number, counted from 1.
-#[derive(Clone, Copy, PartialEq, Eq, Debug)]
+#[derive(Clone, Copy, PartialEq, Eq)]
 pub enum SymbolPlace {
     Absolute,
     Section(u16),
 }
 
 /// A symbol. Its value is an address, with bit 0 set for code of Thumb state, or a number.
-#[derive(Debug, Drop)]
+#[derive(Drop)]
 pub struct ElfSymbol {
     pub name: Text,
     pub value: u32,
@@ -54,7 +54,7 @@ pub struct ElfSymbol {
 
 /// The sections of an executable in order, without those of the tables themselves, and its symbols, those first that
 /// are local.
-#[derive(Debug, Drop)]
+#[derive(Drop)]
 pub struct Tables {
     pub sections: List<Section>,
     pub symbols: List<ElfSymbol>,

@@ -3,7 +3,7 @@
 use asm_model::{Line, SharedText};
 use sdt_fault::List;
 
-#[derive(Debug, Drop)]
+#[derive(Drop)]
 pub struct Parameter {
     pub name: SharedText,
     /// The text for which an argument of a lone bar stands.
@@ -11,7 +11,7 @@ pub struct Parameter {
 }
 
 /// What a macro's calls are written by.
-#[derive(Debug, Drop)]
+#[derive(Drop)]
 pub struct Prototype {
     pub name: SharedText,
     /// The parameter for which the label stands.
@@ -19,7 +19,7 @@ pub struct Prototype {
     pub parameters: List<Parameter>,
 }
 
-#[derive(Debug, Drop)]
+#[derive(Drop)]
 pub struct Macro {
     pub prototype: Prototype,
     pub body: List<Line>,

@@ -1,14 +1,14 @@
 //! The words of expansion.
 
 /// The types of variables.
-#[derive(Clone, Copy, Debug)]
+#[derive(Clone, Copy)]
 pub enum Sort {
     Arithmetic,
     Logical,
     Textual,
 }
 
-#[derive(Clone, Copy, Debug)]
+#[derive(Clone, Copy)]
 pub enum Operation {
     If,
     Else,
@@ -29,7 +29,7 @@ pub enum Operation {
 }
 
 /// What is open among lines that aren't read.
-#[derive(Clone, Copy, Debug)]
+#[derive(Clone, Copy)]
 pub enum Opening {
     /// An IF before its ELSE.
     Condition,

@@ -1,6 +1,6 @@
 //! Where a byte of a line stands.
 
-#[derive(Clone, Copy, Debug)]
+#[derive(Clone, Copy)]
 pub enum Standing {
     Open,
     Quoted,

@@ -13,7 +13,7 @@ use std::alloc::Global;
 use std::collections::BTreeMap;
 
 /// Pieces with bytes, in the order in which they were added, none of which meets another.
-#[derive(Debug, Drop)]
+#[derive(Drop)]
 pub struct Pieces {
     pub pieces: Vec<Piece>,
     /// For the base of each piece where it ends.

@@ -73,7 +73,7 @@ fn said(alloc: Global, form: Form, line: &[u8]) -> Result<Result<Item, RecordKin
 }
 
 /// What is read so far: the base of the data behind it, the start, whether the end stands before, and the pieces.
-#[derive(Debug, Drop)]
+#[derive(Drop)]
 pub struct Reader {
     base: u32,
     start: u32,

@@ -3,28 +3,28 @@
 use sdt_fault::{Bytes, List};
 
 /// Bytes from an address on.
-#[derive(Debug, Drop)]
+#[derive(Drop)]
 pub struct Piece {
     pub base: u32,
     pub bytes: Bytes,
 }
 
 /// An image: its pieces, and where it is started, with bit 0 set for Thumb state.
-#[derive(Debug, Drop)]
+#[derive(Drop)]
 pub struct Burn {
     pub pieces: List<Piece>,
     pub start: u32,
 }
 
 /// A form of records.
-#[derive(Clone, Copy, PartialEq, Eq, Debug)]
+#[derive(Clone, Copy, PartialEq, Eq)]
 pub enum Form {
     Ihex,
     Srec,
 }
 
 /// What a line says.
-#[derive(Debug, Drop)]
+#[derive(Drop)]
 pub enum Item {
     /// Bytes, and how far above the base they begin.
     Data { address: u32, bytes: Bytes },

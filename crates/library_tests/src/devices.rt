@@ -9,7 +9,7 @@ use std::process::Abort;
 use std::test::*;
 
 /// What is done to a device, and what it answers.
-#[derive(Clone, Copy, Debug)]
+#[derive(Clone, Copy)]
 enum Act {
     /// A read at an offset gives the value.
     Gives(u32, Width, u32),

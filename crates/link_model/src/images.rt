@@ -4,7 +4,7 @@ use crate::placing::Region;
 use sdt_fault::{Bytes, List, Text};
 
 /// The form of an image: files by a scatter description, the bytes alone, or an ARM image file.
-#[derive(Clone, Copy, PartialEq, Eq, Debug)]
+#[derive(Clone, Copy, PartialEq, Eq)]
 pub enum ImageKind {
     Scatter,
     Plain,
@@ -12,7 +12,7 @@ pub enum ImageKind {
 }
 
 /// A linked image. Addresses are those of execution.
-#[derive(Debug, Drop)]
+#[derive(Drop)]
 pub struct Image {
     pub kind: ImageKind,
     pub loads: List<LoadRegion>,
@@ -33,7 +33,7 @@ pub struct Image {
 }
 
 /// A load region and its bytes. Those of an AIF begin with 0x80 zero bytes, in the place of the header.
-#[derive(Debug, Drop)]
+#[derive(Drop)]
 pub struct LoadRegion {
     pub name: Text,
     pub base: u32,
@@ -43,7 +43,7 @@ pub struct LoadRegion {
 /// What the header of an AIF says: the sizes in bytes of the read-only part (with the header), of the
 /// read-write part and of the zero-initialised part, the address that it was linked for, and whether it can
 /// run elsewhere.
-#[derive(Clone, Copy, PartialEq, Eq, Debug)]
+#[derive(Clone, Copy, PartialEq, Eq)]
 pub struct Aif {
     pub ro: u32,
     pub rw: u32,

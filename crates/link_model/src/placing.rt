@@ -16,21 +16,21 @@ pub fn to_u32(place: usize) -> Result<u32, NoMemory>
 }
 
 /// An area of a linked object, both by their numbers counted from 0.
-#[derive(Clone, Copy, PartialEq, Eq, Hash, Debug)]
+#[derive(Clone, Copy, PartialEq, Eq, Hash)]
 pub struct AreaName {
     pub object: u32,
     pub area: u32,
 }
 
 /// The areas of each region, in the order in which they stand there.
-#[derive(Debug, Drop)]
+#[derive(Drop)]
 pub struct Assigned {
     pub regions: List<List<AreaName>>,
 }
 
 /// An area with the number of its region and its execution address, which is 2^32 where an empty area stands
 /// at the end of memory.
-#[derive(Clone, Copy, PartialEq, Eq, Debug)]
+#[derive(Clone, Copy, PartialEq, Eq)]
 pub struct PlacedArea {
     pub area: AreaName,
     pub region: u32,
@@ -39,7 +39,7 @@ pub struct PlacedArea {
 
 /// A piece of code in a region by which branches there reach a target of the other state. The target is an
 /// offset in bytes, counted modulo 2^32, from the start of an area; `thumb` is the target's state.
-#[derive(Clone, Copy, PartialEq, Eq, Hash, Debug)]
+#[derive(Clone, Copy, PartialEq, Eq, Hash)]
 pub struct Veneer {
     pub region: u32,
     pub area: AreaName,
@@ -48,7 +48,7 @@ pub struct Veneer {
 }
 
 /// A veneer and its execution address, a multiple of 4.
-#[derive(Clone, Copy, PartialEq, Eq, Debug)]
+#[derive(Clone, Copy, PartialEq, Eq)]
 pub struct PlacedVeneer {
     pub veneer: Veneer,
     pub address: u32,
@@ -56,7 +56,7 @@ pub struct PlacedVeneer {
 
 /// Where regions, areas and veneers stand. `boot` is the address of the startup code, which a scatter image
 /// has and no other.
-#[derive(Debug, Drop)]
+#[derive(Drop)]
 pub struct Placement {
     pub regions: List<Region>,
     pub areas: List<PlacedArea>,
@@ -67,7 +67,7 @@ pub struct Placement {
 /// An execution region: the number of the load region that holds it, its load and execution addresses, and
 /// in bytes what is loaded and the zero-initialised part behind it. An address is 2^32 where an empty region
 /// stands at the end of memory; maps and tables of the startup code write it 0.
-#[derive(Debug, Drop)]
+#[derive(Drop)]
 pub struct Region {
     pub name: Text,
     pub load_region: u32,

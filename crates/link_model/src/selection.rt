@@ -5,7 +5,7 @@ use sdt_fault::{List, Text};
 
 /// An input of the linker, with the name that reports call it by and the name of its module, which a
 /// scatter description selects by. Reports call a library's member `LIB(MEMBER)`; its module is `MEMBER`.
-#[derive(Debug, Drop)]
+#[derive(Drop)]
 pub struct Named<T> {
     pub name: Text,
     pub module: Text,
@@ -14,7 +14,7 @@ pub struct Named<T> {
 
 /// The objects of a link in their order: those of the command line, then the chosen members in library
 /// order. An object is named by its number among them, counted from 0, and so are its symbols and areas.
-#[derive(Debug, Drop)]
+#[derive(Drop)]
 pub struct Linked {
     pub objects: List<Named<Object>>,
     /// Each symbol that an object exports, in order. No two have one name.
@@ -23,7 +23,7 @@ pub struct Linked {
 }
 
 /// A name, and the number of the symbol that defines it in the object of a number.
-#[derive(Debug, Drop)]
+#[derive(Drop)]
 pub struct Definition {
     pub name: Text,
     pub object: u32,
@@ -32,7 +32,7 @@ pub struct Definition {
 
 /// Where the program begins: the offset in bytes in an area of an object, in Thumb state where the area
 /// has Thumb code (attribute bit 20).
-#[derive(Clone, Copy, PartialEq, Eq, Debug)]
+#[derive(Clone, Copy, PartialEq, Eq)]
 pub struct LinkedEntry {
     pub object: u32,
     pub area: u32,

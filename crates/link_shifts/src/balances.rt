@@ -16,14 +16,14 @@ use sdt_fault::NoMemory;
 use std::alloc::Global;
 
 /// A field: where it begins, and a number for its kind.
-#[derive(Clone, Copy, PartialEq, Eq, Hash, Debug)]
+#[derive(Clone, Copy, PartialEq, Eq, Hash)]
 pub struct Spot {
     pub place: u32,
     pub code: u32,
 }
 
 /// How often what moves is added to a field, and how often its area's base is taken from what stays.
-#[derive(Clone, Copy, Debug)]
+#[derive(Clone, Copy)]
 pub struct Balance {
     pub more: u64,
     pub less: u64,

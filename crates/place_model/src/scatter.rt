@@ -4,7 +4,7 @@ use sdt_fault::{List, Text};
 
 /// The form of an image: files by a scatter description, the bytes alone, or an ARM image file. The last two
 /// have the regions RO, RW and ZI, one directly behind the other from a base, a multiple of 4.
-#[derive(Debug, Drop)]
+#[derive(Drop)]
 pub enum Kind {
     Scatter(Scatter),
     Plain { base: u32 },
@@ -13,13 +13,13 @@ pub enum Kind {
 
 /// A scatter description: its load regions in order, of which there is at least one. Their names differ, and
 /// so do those of all execution regions. Bases, offsets and maxima are multiples of 4.
-#[derive(Debug, Drop)]
+#[derive(Drop)]
 pub struct Scatter {
     pub loads: List<ScatterLoad>,
 }
 
 /// A load region: the file of its execution regions, of which there is at least one, is loaded at `base`.
-#[derive(Debug, Drop)]
+#[derive(Drop)]
 pub struct ScatterLoad {
     pub name: Text,
     pub base: u32,
@@ -28,7 +28,7 @@ pub struct ScatterLoad {
 }
 
 /// An execution region, and which areas it takes.
-#[derive(Debug, Drop)]
+#[derive(Drop)]
 pub struct ScatterRegion {
     pub name: Text,
     pub base: ScatterBase,
@@ -38,14 +38,14 @@ pub struct ScatterRegion {
 
 /// Where an execution region begins: at an address, or so many bytes behind the end of the one before it in
 /// its load region, or behind the load region's base.
-#[derive(Clone, Copy, PartialEq, Eq, Debug)]
+#[derive(Clone, Copy, PartialEq, Eq)]
 pub enum ScatterBase {
     At(u32),
     Plus(u32),
 }
 
 /// A selector on a line of the description: of one module or, where it is `None`, of any.
-#[derive(Debug, Drop)]
+#[derive(Drop)]
 pub struct Selection {
     pub line: u32,
     pub module: Option<Text>,
@@ -54,7 +54,7 @@ pub struct Selection {
 }
 
 /// Which areas a selector names: those of a name, or read-only, read-write or zero-initialised ones.
-#[derive(Debug, Drop)]
+#[derive(Drop)]
 pub enum Choice {
     Named(Text),
     Ro,
@@ -63,7 +63,7 @@ pub enum Choice {
 }
 
 /// Whether what is selected stands before or behind the other areas of its part of a region.
-#[derive(Clone, Copy, PartialEq, Eq, Debug)]
+#[derive(Clone, Copy, PartialEq, Eq)]
 pub enum Edge {
     First,
     Plain,

@@ -5,14 +5,14 @@ ghost use Rattle.std.specs.Prelude.{◌≡◌, ◌%◌, IsTrue};
 use sdt_fault::{Bytes, List};
 
 /// A file's bytes, to be loaded from an address on.
-#[derive(Debug, Drop)]
+#[derive(Drop)]
 pub struct Load {
     pub base: u32,
     pub bytes: Bytes,
 }
 
 /// The `size` bytes from `base` on, which are to be memory. They may end above 2^32.
-#[derive(Clone, Copy, PartialEq, Eq, Debug)]
+#[derive(Clone, Copy, PartialEq, Eq)]
 pub struct Need {
     pub base: u32,
     pub size: u64,
@@ -20,7 +20,7 @@ pub struct Need {
 
 /// The image of a run: its load files, the load and execution ranges with their zero parts, the address at which the
 /// machine starts, and whether it starts in Thumb state.
-#[derive(Debug, Drop)]
+#[derive(Drop)]
 pub struct Image {
     pub loads: List<Load>,
     pub needs: List<Need>,

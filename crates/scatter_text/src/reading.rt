@@ -20,7 +20,7 @@ use std::alloc::Global;
 use std::mem;
 
 /// Which parts may follow.
-#[derive(Clone, Copy, PartialEq, Eq, Debug)]
+#[derive(Clone, Copy, PartialEq, Eq)]
 pub enum Stage {
     /// A load region's name.
     Loads,
@@ -47,7 +47,7 @@ pub enum Stage {
 
 /// What is read so far: load regions, and the load region, the execution region, the module and the selection that
 /// are being read. What isn't is empty.
-#[derive(Debug, Drop)]
+#[derive(Drop)]
 pub struct Reader {
     stage: Stage,
     loads: List<ScatterLoad>,

@@ -8,7 +8,7 @@ use sdt_fault::kinds::ScatterKind;
 use std::alloc::{AllocError, AllocFailed};
 
 /// A fault at the part, or memory that was refused.
-#[derive(Debug, Drop)]
+#[derive(Drop)]
 pub enum Stop {
     At(ScatterKind),
     NoMemory,

@@ -12,7 +12,7 @@ use crate::refusal::Refusal;
 use std::alloc::{AllocError, AllocFailed};
 
 /// What a command answers.
-#[derive(Debug, Drop)]
+#[derive(Drop)]
 pub enum Answer {
     /// All was done; for `run`, the program ended by SWI 0x11.
     Done,
@@ -31,7 +31,7 @@ pub enum Answer {
 }
 
 /// Why a run ended.
-#[derive(Clone, Copy, PartialEq, Eq, Debug)]
+#[derive(Clone, Copy, PartialEq, Eq)]
 pub enum Stop {
     /// SWI 0x11.
     Exit,
@@ -48,7 +48,7 @@ pub enum Stop {
 }
 
 /// The error of an engine. `ReadFault` comes from the assembler's GET alone.
-#[derive(Debug, Drop)]
+#[derive(Drop)]
 pub enum Fault {
     Refused(Refusal),
     ReadFault(Text),

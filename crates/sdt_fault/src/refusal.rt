@@ -5,7 +5,7 @@ use crate::kinds::{CommandKind, FileKind, LineKind, Quantity, RecordKind, Scatte
 
 /// Why a command was refused. Its number, its word and the order of its fields are this project's; a
 /// place or line that would be 2^32 is told as 2^32 - 1.
-#[derive(Debug, Drop)]
+#[derive(Drop)]
 pub enum Refusal {
     /// The word at `place`, counted from 1, breaks a rule, or is missing.
     BadWords {

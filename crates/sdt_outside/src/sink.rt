@@ -31,7 +31,7 @@ pub trait Sink {
 }
 
 /// A sink in memory.
-#[derive(Debug, Drop)]
+#[derive(Drop)]
 pub struct MemorySink {
     /// What it got.
     pub bytes: Vec<u8>,

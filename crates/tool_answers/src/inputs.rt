@@ -11,7 +11,7 @@ use sdt_outside::{Store, StoreError};
 use std::alloc::{AllocError, AllocFailed, Global};
 
 /// Why an input was not read.
-#[derive(Debug, Drop)]
+#[derive(Drop)]
 pub enum InputEnd {
     /// There is no file of this name.
     Missing(Text),

@@ -12,7 +12,7 @@ use sdt_fault::answer::Fault;
 use std::alloc::Global;
 
 /// What a link takes.
-#[derive(Debug, Drop)]
+#[derive(Drop)]
 pub enum Linkable {
     Object(Object),
     Library(Archive),

@@ -10,7 +10,7 @@ use std::alloc::Global;
 use tool_answers::{InputEnd, named};
 
 /// Why an image was not read.
-#[derive(Debug, Drop)]
+#[derive(Drop)]
 pub enum ImageEnd {
     /// A file is missing, or what it holds is wrong.
     Refused(Refusal),

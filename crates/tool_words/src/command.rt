@@ -14,14 +14,14 @@ use sdt_fault::{List, NoMemory, Text};
 use std::alloc::{AllocError, AllocFailed, Global};
 
 /// A bank of memory, with its base and size in bytes.
-#[derive(Clone, Copy, PartialEq, Eq, Debug)]
+#[derive(Clone, Copy, PartialEq, Eq)]
 pub struct Bank {
     pub base: u32,
     pub size: u32,
 }
 
 /// Where the image of a run stands.
-#[derive(Debug, Drop)]
+#[derive(Drop)]
 pub enum RunImage {
     /// In the load files of this map.
     Map { file: Text },
@@ -37,7 +37,7 @@ pub enum RunImage {
 
 /// What to run: the image, the banks of memory and of read-only memory, and the most steps. With no bank
 /// at all, a run has its default bank.
-#[derive(Debug, Drop)]
+#[derive(Drop)]
 pub struct RunWords {
     pub image: RunImage,
     pub memory: List<Bank>,
@@ -47,7 +47,7 @@ pub struct RunWords {
 
 /// What to debug: the image, which is no text of Intel HEX or S-records, the banks of memory and of read-only memory, as
 /// of a run, and the file of the script.
-#[derive(Debug, Drop)]
+#[derive(Drop)]
 pub struct DebugWords {
     pub image: RunImage,
     pub memory: List<Bank>,
@@ -56,7 +56,7 @@ pub struct DebugWords {
 }
 
 /// Where the areas of an image that is made are placed.
-#[derive(Debug, Drop)]
+#[derive(Drop)]
 pub enum LinkPlacement {
     /// As this scatter file says, with startup code.
     Scatter { file: Text },
@@ -68,7 +68,7 @@ pub enum LinkPlacement {
 }
 
 /// Which files are written of an image that is made.
-#[derive(Clone, Copy, Debug)]
+#[derive(Clone, Copy)]
 pub enum Container {
     /// A file for each load region, and a map.
     LoadFiles,
@@ -83,7 +83,7 @@ pub enum Container {
 /// What to link: where the image is placed and what is written of it, the name of its file (of its load files, with
 /// what is put behind it, and of their map), one name or more of objects, libraries or sources, and the banks of memory
 /// that the image may use, where any is told (16 at most).
-#[derive(Debug, Drop)]
+#[derive(Drop)]
 pub struct LinkWords {
     pub placement: LinkPlacement,
     pub container: Container,
@@ -94,7 +94,7 @@ pub struct LinkWords {
 
 /// What to report of: where the image is placed, one name or more of objects, libraries or sources, and the banks of
 /// memory that the image may use, where any is told (16 at most).
-#[derive(Debug, Drop)]
+#[derive(Drop)]
 pub struct ReportWords {
     pub placement: LinkPlacement,
     pub names: List<Text>,
@@ -102,7 +102,7 @@ pub struct ReportWords {
 }
 
 /// As which text an image is burned.
-#[derive(Clone, Copy, PartialEq, Eq, Debug)]
+#[derive(Clone, Copy, PartialEq, Eq)]
 pub enum BurnForm {
     /// Intel HEX.
     IntelHex,
@@ -110,7 +110,7 @@ pub enum BurnForm {
     SRecords,
 }
 
-#[derive(Debug, Drop)]
+#[derive(Drop)]
 pub enum Command {
     /// Writes the object of a source.
     Assemble {
@@ -165,7 +165,7 @@ pub enum Command {
 }
 
 /// Why words ask for nothing.
-#[derive(Clone, Copy, PartialEq, Eq, Debug)]
+#[derive(Clone, Copy, PartialEq, Eq)]
 pub enum WordsFault {
     /// The place of the first word that breaks a rule, counted from 1; where something is missing, the
     /// number of words plus 1. A place that would be 2^32 or more is told as 2^32 - 1.

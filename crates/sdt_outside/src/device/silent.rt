@@ -7,7 +7,7 @@ use crate::device::{Device, Lines};
 use sdt_word::{Range32, Width};
 
 /// Reads 0, ignores writes and raises no line.
-#[derive(Debug, Drop)]
+#[derive(Drop)]
 pub struct Silent {
     range: Range32,
     touches: u64,

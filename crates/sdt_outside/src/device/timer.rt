@@ -7,7 +7,7 @@ use crate::device::{Device, Lines};
 use sdt_word::{Range32, Width};
 
 /// A timer of four words: period, control, count and acknowledge.
-#[derive(Debug, Drop)]
+#[derive(Drop)]
 pub struct Timer {
     pub base: u32,
     pub period: u32,

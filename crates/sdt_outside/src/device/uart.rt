@@ -7,7 +7,7 @@ use crate::device::{Device, Lines};
 use sdt_word::{Range32, Width};
 
 /// A serial port of two words: the last byte that was written, and the number of bytes.
-#[derive(Debug, Drop)]
+#[derive(Drop)]
 pub struct Uart {
     pub base: u32,
     /// The last byte, below 256.
