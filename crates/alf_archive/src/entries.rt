@@ -14,7 +14,7 @@ use sdt_word::word_at;
 use std::alloc::Global;
 
 /// The head of an entry: the number of its chunk, 0 for an unused entry, its length and its data's.
-#[derive(Clone, Copy, PartialEq, Eq)]
+#[derive(Clone, Copy)]
 pub struct Slot {
     pub index: u32,
     pub length: u32,

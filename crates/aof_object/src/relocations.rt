@@ -16,7 +16,7 @@ pub enum FieldKind {
 }
 
 /// A field of an area.
-#[derive(Clone, Copy, PartialEq, Eq, Hash)]
+#[derive(Clone, Copy)]
 pub struct Field {
     /// The offset where it begins, without the mark of Thumb code.
     pub place: u32,
@@ -24,7 +24,7 @@ pub struct Field {
 }
 
 /// What a relocation names, by its number in the object.
-#[derive(Clone, Copy, PartialEq, Eq)]
+#[derive(Clone, Copy)]
 pub enum RelocationTarget {
     Symbol(u32),
     Area(u32),

@@ -23,7 +23,7 @@ use sdt_word::word_at;
 use std::alloc::Global;
 
 /// The area that a symbol's area-name word tells.
-#[derive(Clone, Copy, PartialEq, Eq)]
+#[derive(Clone, Copy)]
 pub struct Told {
     pub area: Option<u32>,
     pub home: Home,

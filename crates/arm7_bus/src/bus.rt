@@ -33,15 +33,15 @@ use sdt_word::{Range32, Width};
 use std::alloc::Global;
 
 /// No bank and no device has the whole access.
-#[derive(Clone, Copy, PartialEq, Eq)]
+#[derive(Clone, Copy)]
 pub struct Absent;
 
 /// There is no device of this number.
-#[derive(Clone, Copy, PartialEq, Eq)]
+#[derive(Clone, Copy)]
 pub struct NoDevice;
 
 /// More pages would be used than there are frames.
-#[derive(Clone, Copy, PartialEq, Eq)]
+#[derive(Clone, Copy)]
 pub struct PagesFull;
 
 /// Two devices have this address, the least that two of them have. The devices are handed back.

@@ -1,7 +1,7 @@
 //! What one step was.
 
 /// An exception that the processor takes (ARM Architecture Reference Manual, exceptions).
-#[derive(Clone, Copy, PartialEq, Eq)]
+#[derive(Clone, Copy)]
 pub enum Exception {
     Undefined,
     SoftwareInterrupt,
@@ -12,7 +12,7 @@ pub enum Exception {
 }
 
 /// What one step of the machine was.
-#[derive(Clone, Copy, PartialEq, Eq)]
+#[derive(Clone, Copy)]
 pub enum Event {
     /// An ordinary instruction, or one whose condition failed.
     Ran,

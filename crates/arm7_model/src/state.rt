@@ -1,7 +1,7 @@
 //! The registers of the ARM7TDMI (ARM Architecture Reference Manual, programmer's model).
 
 /// The registers that aren't visible.
-#[derive(Clone, Copy, PartialEq, Eq)]
+#[derive(Clone, Copy)]
 pub struct Banks {
     /// r8 to r12 of FIQ mode or, in FIQ mode, those of the other modes.
     pub high: [u32; 5],
@@ -14,7 +14,7 @@ pub struct Banks {
 
 /// The registers of the processor: the visible ones, the banked ones, CPSR, and the SPSRs of FIQ, IRQ,
 /// supervisor, abort and undefined mode in this order. Bits 27 to 8 of a status register are 0.
-#[derive(Clone, Copy, PartialEq, Eq)]
+#[derive(Clone, Copy)]
 pub struct ArmState {
     pub r: [u32; 16],
     pub banks: Banks,
@@ -24,7 +24,7 @@ pub struct ArmState {
 
 /// The modes, whose numbers are the low five bits of a status register: 0x10, 0x11, 0x12, 0x13, 0x17,
 /// 0x1B and 0x1F in this order.
-#[derive(Clone, Copy, PartialEq, Eq)]
+#[derive(Clone, Copy)]
 pub enum Mode {
     User,
     Fiq,

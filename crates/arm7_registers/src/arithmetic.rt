@@ -10,7 +10,7 @@ use crate::shifter::Operand;
 use arm_isa::Operation;
 
 /// A result with its carry and overflow.
-#[derive(Clone, Copy, PartialEq, Eq)]
+#[derive(Clone, Copy)]
 pub struct Computation {
     pub value: u32,
     pub carry: bool,

@@ -9,7 +9,7 @@ ghost use Rattle.arm7_registers.specs.Values.{shifted_of};
 use sdt_word::{ShiftKind, is_set, rotate};
 
 /// An operand and the carry that the shifter gives with it.
-#[derive(Clone, Copy, PartialEq, Eq)]
+#[derive(Clone, Copy)]
 pub struct Operand {
     pub value: u32,
     pub carry: bool,

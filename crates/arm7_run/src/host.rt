@@ -18,7 +18,7 @@ use sdt_fault::answer::Stop;
 use sdt_outside::{Device, Sink};
 
 /// How a run goes on behind a step.
-#[derive(Clone, Copy, PartialEq, Eq)]
+#[derive(Clone, Copy)]
 enum Turn {
     /// With the next step.
     On,
@@ -35,7 +35,7 @@ enum Turn {
 }
 
 /// How a run ended.
-#[derive(Clone, Copy, PartialEq, Eq)]
+#[derive(Clone, Copy)]
 pub struct RunEnd {
     pub stop: Stop,
     /// The number of steps that were made. A step that was found unpredictable, or that had no frame, isn't among them.

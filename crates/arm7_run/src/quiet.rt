@@ -12,14 +12,14 @@ use arm7_model::Event;
 use sdt_outside::Device;
 
 /// A step behind which the host has something to do: what it was, and where it began.
-#[derive(Clone, Copy, PartialEq, Eq)]
+#[derive(Clone, Copy)]
 pub struct Asked {
     pub event: Event,
     pub at: u32,
 }
 
 /// How many steps were made before the host had something to do, and what that is; nothing, where all were made.
-#[derive(Clone, Copy, PartialEq, Eq)]
+#[derive(Clone, Copy)]
 pub struct Quiet {
     pub made: u64,
     pub asked: Option<Asked>,

@@ -30,7 +30,7 @@ use sdt_word::{Width, field, is_set, word_at};
 /// A block: whether the base moves before each word, whether it moves up, whether the list names user mode's
 /// registers or returns, whether the moved base is written back, the base's register, and the list, a bit for
 /// each register.
-#[derive(Clone, Copy, PartialEq, Eq)]
+#[derive(Clone, Copy)]
 pub struct Block {
     pub pre: bool,
     pub up: bool,

@@ -3,7 +3,7 @@
 use arm7_model::Exception;
 
 /// How an instruction ended. Only one that ran has changed registers or memory.
-#[derive(Clone, Copy, PartialEq, Eq)]
+#[derive(Clone, Copy)]
 pub enum Outcome {
     /// It ran.
     Ran,

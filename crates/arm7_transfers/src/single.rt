@@ -20,7 +20,7 @@ use sdt_word::Width;
 /// The base of a load or store: its register, an offset that is added to it or, where `up` is false, taken
 /// away, whether that is done before the access, and whether the moved base is written back. After an access
 /// it always is.
-#[derive(Clone, Copy, PartialEq, Eq)]
+#[derive(Clone, Copy)]
 pub struct Base {
     pub pre: bool,
     pub up: bool,

@@ -7,7 +7,7 @@ ghost use Rattle.arm_isa.specs.Codes.{half_code, operation_code};
 use sdt_word::{Condition, ShiftKind};
 
 /// What a data-processing instruction does, by its code, 0 to 15 in this order.
-#[derive(Clone, Copy, PartialEq, Eq, Hash)]
+#[derive(Clone, Copy)]
 pub enum Operation {
     And,
     Eor,
@@ -28,7 +28,7 @@ pub enum Operation {
 }
 
 /// What a half-word transfer moves, by its code, 1 to 3 in this order.
-#[derive(Clone, Copy, PartialEq, Eq, Hash)]
+#[derive(Clone, Copy)]
 pub enum HalfKind {
     Half,
     SignedByte,
@@ -36,7 +36,7 @@ pub enum HalfKind {
 }
 
 /// An instruction of ARM state.
-#[derive(Clone, Copy, PartialEq, Eq, Hash)]
+#[derive(Clone, Copy)]
 pub enum ArmInstr {
     /// `ADD{c}{S} Rd,Rn,#v`, v the byte rotated right by twice the rotation.
     DataImmediate {

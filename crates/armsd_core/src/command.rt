@@ -3,7 +3,7 @@
 use sdt_word::Range32;
 
 /// A command of a script.
-#[derive(Clone, Copy, PartialEq, Eq)]
+#[derive(Clone, Copy)]
 pub enum Command {
     /// `break A`: the address becomes a breakpoint.
     Break(u32),

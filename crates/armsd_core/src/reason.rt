@@ -6,7 +6,7 @@ ghost use Rattle.armsd_core.specs.Reasons as reasons;
 use sdt_fault::answer::Stop;
 
 /// Why a Step or a Go ends. The machine stops for good by all but the first three.
-#[derive(Clone, Copy, PartialEq, Eq)]
+#[derive(Clone, Copy)]
 pub enum Reason {
     /// All its steps were made.
     Count,

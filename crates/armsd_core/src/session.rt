@@ -15,7 +15,7 @@ use arm7_core::Machine;
 use sdt_outside::{Device, Sink};
 
 /// How a session ended.
-#[derive(Clone, Copy, PartialEq, Eq)]
+#[derive(Clone, Copy)]
 pub enum DebugEnd {
     /// By `quit`, or by the end of its commands.
     Ended,

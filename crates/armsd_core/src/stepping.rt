@@ -20,7 +20,7 @@ use sdt_outside::{Device, Sink};
 use sdt_word::Range32;
 
 /// Steps that were made: why they ended, which isn't there where the sink failed, and how many count.
-#[derive(Clone, Copy, PartialEq, Eq)]
+#[derive(Clone, Copy)]
 pub struct Made {
     pub reason: Option<Reason>,
     pub steps: u64,

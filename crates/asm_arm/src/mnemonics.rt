@@ -16,7 +16,7 @@ use asm_model::{BlockMode, is_called};
 use sdt_word::Condition;
 
 /// What an operation word of ARM state says, without its condition.
-#[derive(Clone, Copy, PartialEq, Eq)]
+#[derive(Clone, Copy)]
 pub enum Mnemonic {
     /// AND to MVN.
     Data {
@@ -73,7 +73,7 @@ pub enum Mnemonic {
 }
 
 /// Which registers data processing names besides its second operand.
-#[derive(Clone, Copy, PartialEq, Eq)]
+#[derive(Clone, Copy)]
 pub enum Shape {
     /// Rd
     Move,

@@ -104,7 +104,7 @@ fn number_behind(letter: u8, other: u8, text: &[u8]) -> Option<usize>
 }
 
 /// On which side of a line labels are looked for.
-#[derive(Clone, Copy, PartialEq, Eq)]
+#[derive(Clone, Copy)]
 pub enum Way {
     Back,
     Forth,

@@ -5,7 +5,7 @@ use crate::shared_texts::SharedText;
 use sdt_fault::List;
 
 /// A directive, whichever of its names is written.
-#[derive(Clone, Copy, PartialEq, Eq)]
+#[derive(Clone, Copy)]
 pub enum Directive {
     Area,
     Entry,
@@ -44,7 +44,7 @@ pub enum Directive {
 }
 
 /// An item of data, with the directive that puts it.
-#[derive(Clone, Copy, PartialEq, Eq)]
+#[derive(Clone, Copy)]
 pub enum DataItem {
     /// DCD or `&`
     Word,
@@ -57,7 +57,7 @@ pub enum DataItem {
 }
 
 /// How a data item holds its values.
-#[derive(Clone, Copy, PartialEq, Eq)]
+#[derive(Clone, Copy)]
 pub enum Held {
     /// Words, which may be relocated.
     Relocatable,
@@ -68,7 +68,7 @@ pub enum Held {
 }
 
 /// What a directive asks of the label field.
-#[derive(Clone, Copy, PartialEq, Eq)]
+#[derive(Clone, Copy)]
 pub enum LabelNeed {
     /// A label may stand there.
     Optional,
@@ -156,7 +156,7 @@ pub struct AreaAttributes {
 }
 
 /// What an area holds.
-#[derive(Clone, Copy, PartialEq, Eq)]
+#[derive(Clone, Copy)]
 pub enum Contents {
     Code,
     Data,
@@ -165,7 +165,7 @@ pub enum Contents {
 }
 
 /// A word among the attributes of an area.
-#[derive(Clone, Copy, PartialEq, Eq)]
+#[derive(Clone, Copy)]
 pub enum Attribute {
     Code,
     Data,
@@ -180,7 +180,7 @@ pub enum Attribute {
 }
 
 /// What stands behind the name of an import.
-#[derive(Clone, Copy, PartialEq, Eq)]
+#[derive(Clone, Copy)]
 pub enum ImportMark {
     Absent,
     /// `[WEAK]` or `,WEAK`

@@ -29,7 +29,7 @@ pub enum ExprItem {
 }
 
 /// The operators before their operand.
-#[derive(Clone, Copy, PartialEq, Eq)]
+#[derive(Clone, Copy)]
 pub enum UnaryOp {
     Plus,
     Minus,
@@ -45,7 +45,7 @@ pub enum UnaryOp {
 }
 
 /// The operators between their operands.
-#[derive(Clone, Copy, PartialEq, Eq)]
+#[derive(Clone, Copy)]
 pub enum BinaryOp {
     Multiply,
     Divide,

@@ -24,7 +24,7 @@ pub enum Shift {
 }
 
 /// Where a transfer adds its offset to the base.
-#[derive(Clone, Copy, PartialEq, Eq)]
+#[derive(Clone, Copy)]
 pub enum Indexing {
     /// `[Rn,..]`
     Offset,
@@ -62,7 +62,7 @@ pub enum HalfOffset {
 }
 
 /// The order in which LDM and STM go through memory.
-#[derive(Clone, Copy, PartialEq, Eq)]
+#[derive(Clone, Copy)]
 pub enum BlockMode {
     IncrementAfter,
     IncrementBefore,
@@ -84,7 +84,7 @@ pub struct RegisterList {
 }
 
 /// A status register.
-#[derive(Clone, Copy, PartialEq, Eq)]
+#[derive(Clone, Copy)]
 pub enum StatusRegister {
     /// CPSR
     Current,
@@ -93,7 +93,7 @@ pub enum StatusRegister {
 }
 
 /// Fields of a status register, which MSR writes.
-#[derive(Clone, Copy, PartialEq, Eq)]
+#[derive(Clone, Copy)]
 pub struct StatusFields {
     pub register: StatusRegister,
     /// 1 to 15: a bit for each of the letters f, s, x and c, f the highest.

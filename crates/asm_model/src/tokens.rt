@@ -1,7 +1,7 @@
 //! Tokens: slices of a line, each with its kind.
 
 /// The form of a token.
-#[derive(Clone, Copy, PartialEq, Eq)]
+#[derive(Clone, Copy)]
 pub enum TokenKind {
     /// Letters, digits and `_`, not beginning with a digit.
     Name,
@@ -22,7 +22,7 @@ pub enum TokenKind {
 }
 
 /// The bytes from `start` up to `end` of a line.
-#[derive(Clone, Copy, PartialEq, Eq)]
+#[derive(Clone, Copy)]
 pub struct Token {
     pub kind: TokenKind,
     pub start: u32,
@@ -30,7 +30,7 @@ pub struct Token {
 }
 
 /// What a line may have at a place.
-#[derive(Clone, Copy, PartialEq, Eq)]
+#[derive(Clone, Copy)]
 pub enum Due {
     Label,
     Operation,

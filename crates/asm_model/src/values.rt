@@ -43,7 +43,7 @@ impl Value {
 }
 
 /// Why an expression has no value.
-#[derive(Clone, Copy, PartialEq, Eq)]
+#[derive(Clone, Copy)]
 pub enum EvalFault {
     Kind(LineKind),
     NoMemory,

@@ -16,7 +16,7 @@ pub enum Extent {
 }
 
 /// Where a statement stands in its area.
-#[derive(Clone, Copy, PartialEq, Eq)]
+#[derive(Clone, Copy)]
 pub struct PlacedExtent {
     pub offset: u32,
     /// In bytes.
@@ -26,7 +26,7 @@ pub struct PlacedExtent {
 }
 
 /// A statement would end behind the last offset that an area may have, 2^24.
-#[derive(Clone, Copy, PartialEq, Eq)]
+#[derive(Clone, Copy)]
 pub struct TooLarge;
 
 /// An area when all its statements are placed.

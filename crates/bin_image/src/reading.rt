@@ -20,7 +20,7 @@ use sdt_fault::{List, NoMemory, Text};
 use std::alloc::Global;
 
 /// Which lines may follow.
-#[derive(Clone, Copy, PartialEq, Eq)]
+#[derive(Clone, Copy)]
 pub enum Stage {
     /// The first line.
     Head,

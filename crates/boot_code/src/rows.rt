@@ -7,7 +7,7 @@ use sdt_fault::NoMemory;
 use std::alloc::Global;
 
 /// A copy of `size` bytes from `source` to `target`.
-#[derive(Clone, Copy, PartialEq, Eq)]
+#[derive(Clone, Copy)]
 pub struct CopyRow {
     pub source: u32,
     pub target: u32,
@@ -15,7 +15,7 @@ pub struct CopyRow {
 }
 
 /// A zero part of `size` bytes from `base` on.
-#[derive(Clone, Copy, PartialEq, Eq)]
+#[derive(Clone, Copy)]
 pub struct ZeroRow {
     pub base: u32,
     pub size: u32,

@@ -16,7 +16,7 @@ pub struct Chunks {
 }
 
 /// Where a chunk stands in its file: `size` bytes from `offset` on.
-#[derive(Clone, Copy, PartialEq, Eq)]
+#[derive(Clone, Copy)]
 pub struct Span {
     pub name: [u8; 8],
     pub offset: u32,

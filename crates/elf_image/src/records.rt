@@ -11,7 +11,7 @@ pub struct Elf {
 
 /// A segment: where its bytes stand in the file, the address that they are loaded at, how many there are, how many
 /// bytes it has in memory, where zeros follow the file's, and its permissions.
-#[derive(Clone, Copy, PartialEq, Eq)]
+#[derive(Clone, Copy)]
 pub struct Segment {
     pub offset: u32,
     pub address: u32,

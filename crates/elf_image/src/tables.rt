@@ -3,7 +3,7 @@
 use sdt_fault::{List, Text};
 
 /// What a section holds: bytes of the file, or zeros that stand in memory alone.
-#[derive(Clone, Copy, PartialEq, Eq)]
+#[derive(Clone, Copy)]
 pub enum SectionKind {
     Bytes,
     Zeros,
@@ -20,7 +20,7 @@ pub struct Section {
 }
 
 /// Whether other objects see a symbol, and whether it may be defined again.
-#[derive(Clone, Copy, PartialEq, Eq)]
+#[derive(Clone, Copy)]
 pub enum Binding {
     Local,
     Global,
@@ -28,7 +28,7 @@ pub enum Binding {
 }
 
 /// What a symbol names: nothing that is told, data, or code.
-#[derive(Clone, Copy, PartialEq, Eq)]
+#[derive(Clone, Copy)]
 pub enum SymbolKind {
     Untyped,
     Object,
@@ -36,7 +36,7 @@ pub enum SymbolKind {
 }
 
 /// Where a symbol stands: at an address that nothing moves, or in a section by its number, counted from 1.
-#[derive(Clone, Copy, PartialEq, Eq)]
+#[derive(Clone, Copy)]
 pub enum SymbolPlace {
     Absolute,
     Section(u16),

@@ -17,7 +17,7 @@ pub struct Burn {
 }
 
 /// A form of records.
-#[derive(Clone, Copy, PartialEq, Eq)]
+#[derive(Clone, Copy)]
 pub enum Form {
     Ihex,
     Srec,

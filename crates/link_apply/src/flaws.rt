@@ -8,7 +8,7 @@ use crate::numbers::{bias, biased_displacement, pc_offset, total};
 use link_values::BranchTarget;
 
 /// The form, the sum of a byte or a half-word, or the distance of a branch.
-#[derive(Clone, Copy, PartialEq, Eq)]
+#[derive(Clone, Copy)]
 pub enum Flaw {
     Malformed,
     Overflow,

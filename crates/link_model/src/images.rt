@@ -4,7 +4,7 @@ use crate::placing::Region;
 use sdt_fault::{Bytes, List, Text};
 
 /// The form of an image: files by a scatter description, the bytes alone, or an ARM image file.
-#[derive(Clone, Copy, PartialEq, Eq)]
+#[derive(Clone, Copy)]
 pub enum ImageKind {
     Scatter,
     Plain,
@@ -43,7 +43,7 @@ pub struct LoadRegion {
 /// What the header of an AIF says: the sizes in bytes of the read-only part (with the header), of the
 /// read-write part and of the zero-initialised part, the address that it was linked for, and whether it can
 /// run elsewhere.
-#[derive(Clone, Copy, PartialEq, Eq)]
+#[derive(Clone, Copy)]
 pub struct Aif {
     pub ro: u32,
     pub rw: u32,

@@ -30,7 +30,7 @@ pub struct Assigned {
 
 /// An area with the number of its region and its execution address, which is 2^32 where an empty area stands
 /// at the end of memory.
-#[derive(Clone, Copy, PartialEq, Eq)]
+#[derive(Clone, Copy)]
 pub struct PlacedArea {
     pub area: AreaName,
     pub region: u32,
@@ -48,7 +48,7 @@ pub struct Veneer {
 }
 
 /// A veneer and its execution address, a multiple of 4.
-#[derive(Clone, Copy, PartialEq, Eq)]
+#[derive(Clone, Copy)]
 pub struct PlacedVeneer {
     pub veneer: Veneer,
     pub address: u32,

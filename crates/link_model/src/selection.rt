@@ -32,7 +32,7 @@ pub struct Definition {
 
 /// Where the program begins: the offset in bytes in an area of an object, in Thumb state where the area
 /// has Thumb code (attribute bit 20).
-#[derive(Clone, Copy, PartialEq, Eq)]
+#[derive(Clone, Copy)]
 pub struct LinkedEntry {
     pub object: u32,
     pub area: u32,

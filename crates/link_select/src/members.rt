@@ -11,7 +11,7 @@ use sdt_fault::NoMemory;
 use std::alloc::Global;
 
 /// Where a member is: the number of its library and its number there, both counted from 0.
-#[derive(Clone, Copy, PartialEq, Eq)]
+#[derive(Clone, Copy)]
 pub struct MemberPlace {
     pub archive: usize,
     pub member: usize,

@@ -19,7 +19,7 @@ use sdt_fault::NoMemory;
 use std::alloc::Global;
 
 /// Which of the symbols that objects give are listed.
-#[derive(Clone, Copy, PartialEq, Eq)]
+#[derive(Clone, Copy)]
 pub enum Listed {
     /// The mapping symbols at labels.
     Marks,

@@ -19,7 +19,7 @@ use sdt_fault::{List, NoMemory, Text};
 use std::alloc::Global;
 
 /// What stands at an address.
-#[derive(Clone, Copy, PartialEq, Eq)]
+#[derive(Clone, Copy)]
 pub enum Content {
     Arm,
     Thumb,

@@ -21,7 +21,7 @@ use sdt_fault::{List, NoMemory, Text};
 use std::alloc::Global;
 
 /// A place in an area of a linked object, by an offset in bytes.
-#[derive(Clone, Copy, PartialEq, Eq)]
+#[derive(Clone, Copy)]
 pub struct AreaOffset {
     pub object: u32,
     pub area: u32,
@@ -29,7 +29,7 @@ pub struct AreaOffset {
 }
 
 /// What a branch by a veneer leads to: a place, and whether it is of Thumb code.
-#[derive(Clone, Copy, PartialEq, Eq)]
+#[derive(Clone, Copy)]
 pub struct BranchTarget {
     pub place: AreaOffset,
     pub thumb: bool,
@@ -37,7 +37,7 @@ pub struct BranchTarget {
 
 /// A symbol's number, whether it is of Thumb code and whether it is a datum there, and its place where it
 /// stands in an area.
-#[derive(Clone, Copy, PartialEq, Eq)]
+#[derive(Clone, Copy)]
 pub struct SymbolValue {
     pub number: u64,
     pub thumb: bool,

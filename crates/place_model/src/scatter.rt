@@ -38,7 +38,7 @@ pub struct ScatterRegion {
 
 /// Where an execution region begins: at an address, or so many bytes behind the end of the one before it in
 /// its load region, or behind the load region's base.
-#[derive(Clone, Copy, PartialEq, Eq)]
+#[derive(Clone, Copy)]
 pub enum ScatterBase {
     At(u32),
     Plus(u32),
@@ -63,7 +63,7 @@ pub enum Choice {
 }
 
 /// Whether what is selected stands before or behind the other areas of its part of a region.
-#[derive(Clone, Copy, PartialEq, Eq)]
+#[derive(Clone, Copy)]
 pub enum Edge {
     First,
     Plain,

@@ -12,7 +12,7 @@ pub struct Load {
 }
 
 /// The `size` bytes from `base` on, which are to be memory. They may end above 2^32.
-#[derive(Clone, Copy, PartialEq, Eq)]
+#[derive(Clone, Copy)]
 pub struct Need {
     pub base: u32,
     pub size: u64,

@@ -20,7 +20,7 @@ use std::alloc::Global;
 use std::mem;
 
 /// Which parts may follow.
-#[derive(Clone, Copy, PartialEq, Eq)]
+#[derive(Clone, Copy)]
 pub enum Stage {
     /// A load region's name.
     Loads,

@@ -31,7 +31,7 @@ pub enum Answer {
 }
 
 /// Why a run ended.
-#[derive(Clone, Copy, PartialEq, Eq)]
+#[derive(Clone, Copy)]
 pub enum Stop {
     /// SWI 0x11.
     Exit,

@@ -4,7 +4,7 @@ ghost use Rattle.std.specs.Prelude.{◌≡◌};
 ghost use Rattle.sdt_fault.specs.Kinds.{line_word, file_word, scatter_word, quantity_word, command_word, record_word};
 
 /// What is wrong with a line of a source, in the order in which the kinds of one line are told.
-#[derive(Clone, Copy, PartialEq, Eq)]
+#[derive(Clone, Copy)]
 pub enum LineKind {
     /// The line has no form of the language.
     Syntax,
@@ -38,7 +38,7 @@ pub enum LineKind {
 }
 
 /// What is wrong with a file, at the offset that is told with it.
-#[derive(Clone, Copy, PartialEq, Eq)]
+#[derive(Clone, Copy)]
 pub enum FileKind {
     Truncated,
     Magic,
@@ -75,7 +75,7 @@ pub enum FileKind {
 }
 
 /// What is wrong with a scatter description.
-#[derive(Clone, Copy, PartialEq, Eq)]
+#[derive(Clone, Copy)]
 pub enum ScatterKind {
     Syntax,
     Number,
@@ -86,7 +86,7 @@ pub enum ScatterKind {
 }
 
 /// A quantity with a limit.
-#[derive(Clone, Copy, PartialEq, Eq)]
+#[derive(Clone, Copy)]
 pub enum Quantity {
     SourceBytes,
     FileBytes,
@@ -98,7 +98,7 @@ pub enum Quantity {
 }
 
 /// What is wrong with a line of a debugger's script.
-#[derive(Clone, Copy, PartialEq, Eq)]
+#[derive(Clone, Copy)]
 pub enum CommandKind {
     Syntax,
     Number,
@@ -106,7 +106,7 @@ pub enum CommandKind {
 }
 
 /// What is wrong with a record of an Intel HEX or S-record text.
-#[derive(Clone, Copy, PartialEq, Eq)]
+#[derive(Clone, Copy)]
 pub enum RecordKind {
     Syntax,
     Length,

@@ -15,7 +15,7 @@ pub use crate::lists::List;
 use std::alloc::{AllocError, AllocFailed};
 
 /// Memory was refused. It says nothing else.
-#[derive(Clone, Copy, PartialEq, Eq)]
+#[derive(Clone, Copy)]
 pub struct NoMemory;
 
 impl From<AllocError> for NoMemory {

@@ -23,7 +23,7 @@ use sdt_word::{Condition, ShiftKind, field, rotate};
 use std::alloc::Global;
 
 // What data-processing instructions share.
-#[derive(Clone, Copy, PartialEq, Eq)]
+#[derive(Clone, Copy)]
 struct DataHead {
     condition: Condition,
     operation: Operation,
@@ -33,7 +33,7 @@ struct DataHead {
 }
 
 // What transfers of one register share.
-#[derive(Clone, Copy, PartialEq, Eq)]
+#[derive(Clone, Copy)]
 struct TransferHead {
     condition: Condition,
     load: bool,

@@ -11,7 +11,7 @@ use std::alloc::Global;
 
 /// Where a transfer reaches: before or after an offset is added to the base or taken away, which may be
 /// written back.
-#[derive(Clone, Copy, PartialEq, Eq)]
+#[derive(Clone, Copy)]
 pub struct ListedPlace {
     pub pre: bool,
     pub up: bool,

@@ -15,7 +15,7 @@ pub use crate::device::timer::Timer;
 pub use crate::device::uart::Uart;
 
 /// What a device is, as far as accesses and ticks tell.
-#[derive(Clone, Copy, PartialEq, Eq)]
+#[derive(Clone, Copy)]
 pub enum DeviceState {
     /// Reads 0, ignores writes and raises no line.
     Quiet,
@@ -36,7 +36,7 @@ pub enum DeviceState {
 }
 
 /// Interrupt lines.
-#[derive(Clone, Copy, PartialEq, Eq)]
+#[derive(Clone, Copy)]
 pub struct Lines {
     pub irq: bool,
     pub fiq: bool,

@@ -4,7 +4,7 @@ ghost use Rattle.std.specs.Prelude.{◌≡◌, ◌<◌, ◌≤◌, MatchOption};
 ghost use Rattle.sdt_word.specs.Codes.{bytes_in, condition_code, shift_code};
 
 /// A condition by the code of bits 31 to 28 of an ARM instruction, 0 to 14 in this order.
-#[derive(Clone, Copy, PartialEq, Eq, Hash)]
+#[derive(Clone, Copy)]
 pub enum Condition {
     Eq,
     Ne,
@@ -24,7 +24,7 @@ pub enum Condition {
 }
 
 /// A kind of shift by its code, 0 to 3 in this order.
-#[derive(Clone, Copy, PartialEq, Eq, Hash)]
+#[derive(Clone, Copy)]
 pub enum ShiftKind {
     Lsl,
     Lsr,
@@ -33,7 +33,7 @@ pub enum ShiftKind {
 }
 
 /// The width of an access to memory.
-#[derive(Clone, Copy, PartialEq, Eq, Hash)]
+#[derive(Clone, Copy)]
 pub enum Width {
     Byte,
     Half,

@@ -7,7 +7,7 @@ ghost use Rattle.thumb_isa.specs.Codes.{high_code, immediate_code, signed_code, 
 use sdt_word::Condition;
 
 /// A shift by a number, by its code, 0 to 2 in this order.
-#[derive(Clone, Copy, PartialEq, Eq, Hash)]
+#[derive(Clone, Copy)]
 pub enum ThumbShift {
     Lsl,
     Lsr,
@@ -15,7 +15,7 @@ pub enum ThumbShift {
 }
 
 /// An operation with a byte, by its code, 0 to 3 in this order.
-#[derive(Clone, Copy, PartialEq, Eq, Hash)]
+#[derive(Clone, Copy)]
 pub enum ImmediateOperation {
     Mov,
     Cmp,
@@ -24,7 +24,7 @@ pub enum ImmediateOperation {
 }
 
 /// An operation of two low registers, by its code, 0 to 15 in this order.
-#[derive(Clone, Copy, PartialEq, Eq, Hash)]
+#[derive(Clone, Copy)]
 pub enum ThumbOperation {
     And,
     Eor,
@@ -45,7 +45,7 @@ pub enum ThumbOperation {
 }
 
 /// An operation that may name high registers, by its code, 0 to 3 in this order.
-#[derive(Clone, Copy, PartialEq, Eq, Hash)]
+#[derive(Clone, Copy)]
 pub enum HighOperation {
     Add,
     Cmp,
@@ -54,7 +54,7 @@ pub enum HighOperation {
 }
 
 /// A transfer of a half-word or of a signed byte, by its code, 0 to 3 in this order.
-#[derive(Clone, Copy, PartialEq, Eq, Hash)]
+#[derive(Clone, Copy)]
 pub enum SignedTransfer {
     StoreHalf,
     LoadSignedByte,
@@ -63,7 +63,7 @@ pub enum SignedTransfer {
 }
 
 /// An instruction of Thumb state.
-#[derive(Clone, Copy, PartialEq, Eq, Hash)]
+#[derive(Clone, Copy)]
 pub enum ThumbInstr {
     /// `LSL`, `LSR`, `ASR Rd,Rs,#i`
     ShiftImmediate {

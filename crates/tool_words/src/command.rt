@@ -14,7 +14,7 @@ use sdt_fault::{List, NoMemory, Text};
 use std::alloc::{AllocError, AllocFailed, Global};
 
 /// A bank of memory, with its base and size in bytes.
-#[derive(Clone, Copy, PartialEq, Eq)]
+#[derive(Clone, Copy)]
 pub struct Bank {
     pub base: u32,
     pub size: u32,
@@ -102,7 +102,7 @@ pub struct ReportWords {
 }
 
 /// As which text an image is burned.
-#[derive(Clone, Copy, PartialEq, Eq)]
+#[derive(Clone, Copy)]
 pub enum BurnForm {
     /// Intel HEX.
     IntelHex,
@@ -165,7 +165,7 @@ pub enum Command {
 }
 
 /// Why words ask for nothing.
-#[derive(Clone, Copy, PartialEq, Eq)]
+#[derive(Clone, Copy)]
 pub enum WordsFault {
     /// The place of the first word that breaks a rule, counted from 1; where something is missing, the
     /// number of words plus 1. A place that would be 2^32 or more is told as 2^32 - 1.

@@ -7,7 +7,7 @@ use sdt_fault::NoMemory;
 use std::alloc::Global;
 
 /// A command.
-#[derive(Clone, Copy, PartialEq, Eq)]
+#[derive(Clone, Copy)]
 pub enum Verb {
     /// `asm`
     Assemble,
@@ -34,7 +34,7 @@ pub enum Verb {
 }
 
 /// An option of some command.
-#[derive(Clone, Copy, PartialEq, Eq)]
+#[derive(Clone, Copy)]
 pub enum Flag {
     /// `-c`
     Create,
@@ -83,7 +83,7 @@ pub enum Flag {
 }
 
 /// What a word is to a command.
-#[derive(Clone, Copy, PartialEq, Eq)]
+#[derive(Clone, Copy)]
 pub enum Role {
     Name,
     /// One of the command's options.
@@ -93,7 +93,7 @@ pub enum Role {
 }
 
 /// The word at a place, counted from 0, and the number of its values, which follow it.
-#[derive(Clone, Copy, PartialEq, Eq)]
+#[derive(Clone, Copy)]
 pub struct Item {
     pub at: usize,
     pub role: Role,

@@ -126,7 +126,7 @@ pub fn mode_of(verb: Verb, items: &[Item]) -> Option<Flag>
 }
 
 /// What a command's options choose together, on which it depends which options may stand beside them.
-#[derive(Clone, Copy, PartialEq, Eq)]
+#[derive(Clone, Copy)]
 pub struct Choice {
     pub mode: Option<Flag>,
     /// Whether the image that is made is to move itself (`-reloc`).
