@@ -11,6 +11,7 @@ ghost use Rattle.asm_model.specs.declared.directives.DirectiveLine.TheVariants a
 
 use crate::areas::attributes;
 use crate::kinds::both;
+use crate::listing::{only, with_last};
 use crate::operands::{first_operand, is};
 use crate::or_kind;
 use crate::parts::{piece_of, shared_inside, shared_piece};
@@ -31,6 +32,7 @@ pub fn bare(line: DirectiveLine, tokens: &[Token]) -> Result<DirectiveLine, Line
     if tokens.is_empty() {
         return Ok(line);
     }
+    drop(line);
     Err(LineKind::Syntax)
 }
 
@@ -139,9 +141,7 @@ fn with_one_more(
     ensures { IfOk result (λ all. all ≡ readings.on_both (λ es e. es ++ e ∷ []) so_far reading) }
 {
     let (list, expression) = or_kind!(both(so_far, reading));
-    let mut items = list.into_vec();
-    items.push(expression)?;
-    Ok(Ok(List::from_vec(items)))
+    Ok(Ok(with_last(list, expression)?))
 }
 
 /// The expression of one operand alone.
@@ -153,9 +153,7 @@ fn one_expression(
     ensures { IfOk result (λ all. says.Expressions text.now (operand.now ∷ []) all) }
 {
     let expression = or_kind!(shared_expression(alloc, text, operand)?);
-    let mut items = Vec::with_capacity(alloc, 1)?;
-    items.push(expression)?;
-    Ok(Ok(List::from_vec(items)))
+    Ok(Ok(only(alloc, expression)?))
 }
 
 /// Operands, each of them an expression.

@@ -6,8 +6,9 @@ ghost use Rattle.asm_model.specs.Meaning as meaning;
 ghost use Rattle.asm_model.specs.Readings as readings;
 ghost use Rattle.asm_expr.specs.Evaluating as evaluating;
 ghost use Rattle.asm_expr.specs.Seeing.{seen_names};
+ghost use Rattle.asm_expr.specs.Steps.{TakesTwo};
 
-use crate::kinds::both;
+use crate::kinds::earlier;
 use crate::names::entry_named;
 use crate::operators::{binary, unary};
 use crate::or_kind;
@@ -78,6 +79,25 @@ fn applied(
     }
 }
 
+/// An operator between two values, or the kind that is told of them.
+fn between(
+    alloc: Global,
+    seen: &Seen<'_>,
+    op: BinaryOp,
+    left: &Result<Value, LineKind>,
+    right: &Result<Value, LineKind>,
+) -> Result<Result<Value, LineKind>, NoMemory>
+    ensures { IfOk result (λ value. value
+        ≡ readings.then_both left.now right.now (meaning.binary (seen_names seen.now) op)) }
+{
+    match (left, right) {
+        (Ok(left), Ok(right)) => binary(alloc, seen, op, left, right),
+        (Ok(_), Err(kind)) => Ok(Err(*kind)),
+        (Err(kind), Ok(_)) => Ok(Err(*kind)),
+        (Err(kind), Err(other)) => Ok(Err(earlier(*kind, *other))),
+    }
+}
+
 /// An operator between two operands.
 fn on_both(
     alloc: Global,
@@ -91,8 +111,9 @@ fn on_both(
         (meaning.known (evaluating.operand_of right.entry))
         (meaning.binary (seen_names seen.now) op)) }
 {
-    let (left, right) = or_kind!(both(known(alloc, left)?, known(alloc, right)?));
-    binary(alloc, seen, op, &left, &right)
+    let left = known(alloc, left)?;
+    let right = known(alloc, right)?;
+    between(alloc, seen, op, &left, &right)
 }
 
 /// An item that is an operand.
@@ -140,6 +161,19 @@ fn act_unary(alloc: Global, op: UnaryOp, stack: &mut Vec<Slot<'_>>) -> Result<()
     Ok(())
 }
 
+/// The two values on the top; None where there are fewer, of which none is left.
+fn two<T: Drop>(stack: &mut Vec<T>) -> Option<(T, T)>
+    ensures { TakesTwo stack.old.items result stack.new.items }
+{
+    let Some(right) = stack.pop() else {
+        return None;
+    };
+    let Some(left) = stack.pop() else {
+        return None;
+    };
+    Some((left, right))
+}
+
 /// An operator between the two operands on the top.
 fn act_binary(
     alloc: Global,
@@ -150,11 +184,7 @@ fn act_binary(
     ensures { OnOk result (evaluating.operands_of stack.new.items
         ≡ evaluating.act_binary (seen_names seen.now) op (evaluating.operands_of stack.old.items)) }
 {
-    let Some(right) = stack.pop() else {
-        stack.push(Slot::Fault(LineKind::Syntax))?;
-        return Ok(());
-    };
-    let Some(left) = stack.pop() else {
+    let Some((left, right)) = two(stack) else {
         stack.push(Slot::Fault(LineKind::Syntax))?;
         return Ok(());
     };
@@ -201,13 +231,13 @@ fn ended(alloc: Global, stack: &mut Vec<Slot<'_>>) -> Result<Result<Value, LineK
     ensures { IfOk result (λ value. value
         ≡ evaluating.ended (evaluating.operands_of stack.old.items)) }
 {
-    let Some(top) = stack.pop() else {
-        return Ok(Err(LineKind::Syntax));
-    };
-    if let Some(_) = stack.pop() {
+    if stack.len() != 1 {
         return Ok(Err(LineKind::Syntax));
     }
-    known(alloc, top)
+    match stack.pop() {
+        None => Ok(Err(LineKind::Syntax)),
+        Some(top) => known(alloc, top),
+    }
 }
 
 /// The value of items. One alone, as most expressions have, needs no stack.

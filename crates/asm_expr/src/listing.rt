@@ -1,0 +1,24 @@
+//! Lists of one item, and with one item more.
+
+ghost use Rattle.std.specs.Prelude.{◌≡◌, ◌∷◌, ◌++◌, [], IfOk};
+
+use sdt_fault::{List, NoMemory};
+use std::alloc::Global;
+
+/// The list of one item.
+pub(crate) fn only<T: Drop>(alloc: Global, item: T) -> Result<List<T>, NoMemory>
+    ensures { IfOk result (λ all. all ≡ item ∷ []) }
+{
+    let mut items = Vec::with_capacity(alloc, 1)?;
+    items.push(item)?;
+    Ok(List::from_vec(items))
+}
+
+/// A list, with an item behind it.
+pub(crate) fn with_last<T: Drop>(list: List<T>, item: T) -> Result<List<T>, NoMemory>
+    ensures { IfOk result (λ all. all ≡ list ++ item ∷ []) }
+{
+    let mut items = list.into_vec();
+    items.push(item)?;
+    Ok(List::from_vec(items))
+}
