@@ -8,7 +8,7 @@ use Rattle.asm_model.specs.declared.exprs.ExprItem.{ExprItem}
 use Rattle.asm_model.specs.declared.exprs.ExprItem.TheVariants as item
 use Rattle.asm_model.specs.declared.exprs.Part.{Part}
 use Rattle.asm_model.specs.Grammar.{Tree, postfix, plain, Spells, operand, of_name, before, grouped, between, tighter, IsSpelled}
-use Rattle.asm_model.specs.Meaning.{Operand, operand_of_item, operand_of_tree, meaning}
+use Rattle.asm_model.specs.Meaning.{Operand, known, operand_of_item, operand_of_tree, meaning}
 use Rattle.asm_expr.specs.Evaluating.{act, run, ended}
 use Rattle.asm_model.proofs.TreeLemmas.{plain_operand}
 
@@ -22,6 +22,18 @@ act_plain names item.Map s e = refl
 act_plain names item.CodeSize s e = refl
 act_plain names (item.Unary op) s e = absurd (cc)
 act_plain names (item.Binary op) s e = absurd (cc)
+
+-- an item alone leaves its operand
+pub ended_alone : (names : Names) (i : ExprItem) → ended (act names i []) ≡ known (operand_of_item names i)
+ended_alone names (item.Name n) = refl
+ended_alone names (item.Local n) = refl
+ended_alone names (item.Constant v) = refl
+ended_alone names item.TooLarge = refl
+ended_alone names item.Here = refl
+ended_alone names item.Map = refl
+ended_alone names item.CodeSize = refl
+ended_alone names (item.Unary op) = refl
+ended_alone names (item.Binary op) = refl
 
 -- the items of a tree put its operand on the stack
 run_tree : (names : Names) (l : ℕ) (ps : List Part) (t : Tree) → Spells l ps t → (rest : List ExprItem) (s : List Operand)

@@ -2,6 +2,7 @@ pub mod DigitLemmas
 pub mod DirectiveLemmas
 pub mod EvalLemmas
 mod KnownLemmas
+mod MadeLemmas
 pub mod NameLemmas
 pub mod OperandLemmas
 pub mod ParseLaws

@@ -17,7 +17,9 @@ use crate::or_kind;
 use crate::parts::{piece_of, shared_inside, shared_piece};
 use crate::read::shared_expression;
 use crate::readings::{area, bare, boundary, expressions, import, name_alone, register};
-use asm_model::{DataItem, Directive, DirectiveLine, Expr, LabelNeed, SharedText, Token, TokenKind};
+use asm_model::{
+    DataItem, Directive, DirectiveLine, Expr, LabelNeed, SharedText, Token, TokenKind,
+};
 use sdt_fault::NoMemory;
 use sdt_fault::kinds::LineKind;
 use std::alloc::Global;

@@ -40,11 +40,7 @@ fn entry_copy(alloc: Global, entry: &LaidName) -> Result<LaidName, NoMemory>
 }
 
 /// Copies of names, behind those that are there.
-fn add_copies(
-    alloc: Global,
-    list: &[LaidName],
-    names: &mut KnownNames,
-) -> Result<(), NoMemory>
+fn add_copies(alloc: Global, list: &[LaidName], names: &mut KnownNames) -> Result<(), NoMemory>
     ensures { OnOk result (names.new ≡ names.old ++ list.now) }
 {
     'names: for entry in list {

@@ -374,11 +374,7 @@ fn string_of(alloc: Global, n: u32) -> Result<Result<Bytes, LineKind>, NoMemory>
 }
 
 /// An operator before a number.
-fn before_number(
-    alloc: Global,
-    op: UnaryOp,
-    n: u32,
-) -> Result<Result<Value, LineKind>, NoMemory>
+fn before_number(alloc: Global, op: UnaryOp, n: u32) -> Result<Result<Value, LineKind>, NoMemory>
     ensures { IfOk result (λ v. v ≡ meaning.unary_of op (value.Number n)) }
 {
     match op {

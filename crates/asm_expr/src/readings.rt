@@ -117,6 +117,18 @@ fn import_mark(text: &SharedText, tokens: &[Token]) -> Result<ImportMark, LineKi
     }
 }
 
+/// A token as a name, and the mark that stands behind it.
+fn name_and_mark(
+    text: &SharedText,
+    token: Token,
+    behind: &[Token],
+) -> Result<Result<(SharedText, ImportMark), LineKind>, NoMemory>
+    ensures { IfOk result (λ import. import ≡ says.import_of text.now (token ∷ behind.now)) }
+{
+    let name = name_of(text, token)?;
+    Ok(both(name, import_mark(text, behind)))
+}
+
 /// A name and its mark.
 pub fn import(
     text: &SharedText,
@@ -126,10 +138,7 @@ pub fn import(
 {
     match tokens {
         [] => Ok(Err(LineKind::Syntax)),
-        [token, behind @ ..] => {
-            let name = name_of(text, *token)?;
-            Ok(both(name, import_mark(text, behind)))
-        }
+        [token, behind @ ..] => name_and_mark(text, *token, behind),
     }
 }
 
@@ -205,8 +214,10 @@ fn area_with(
 ) -> Result<DirectiveLine, LineKind>
     ensures { result ≡ readings.on_both (λ n a. line.Area n a) name attributes }
 {
-    let (name, attributes) = both(name, attributes)?;
-    Ok(DirectiveLine::Area { name, attributes })
+    match both(name, attributes) {
+        Ok((name, attributes)) => Ok(DirectiveLine::Area { name, attributes }),
+        Err(kind) => Err(kind),
+    }
 }
 
 /// The operands of AREA.
@@ -276,10 +287,12 @@ fn behind_multiple(
 ) -> Result<DirectiveLine, LineKind>
     ensures { result ≡ readings.on_both (λ m o. line.Align (limit.Behind m o)) multiple offset }
 {
-    let (multiple, offset) = both(multiple, offset)?;
-    Ok(DirectiveLine::Align {
-        boundary: Boundary::Behind { multiple, offset },
-    })
+    match both(multiple, offset) {
+        Ok((multiple, offset)) => Ok(DirectiveLine::Align {
+            boundary: Boundary::Behind { multiple, offset },
+        }),
+        Err(kind) => Err(kind),
+    }
 }
 
 /// One operand of ALIGN.

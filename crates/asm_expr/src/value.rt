@@ -9,6 +9,7 @@ ghost use Rattle.asm_expr.specs.Seeing.{seen_names};
 ghost use Rattle.asm_expr.specs.Steps.{TakesTwo};
 
 use crate::kinds::earlier;
+use crate::listing::push;
 use crate::names::entry_named;
 use crate::operators::{binary, unary};
 use crate::or_kind;
@@ -153,12 +154,10 @@ fn act_unary(alloc: Global, op: UnaryOp, stack: &mut Vec<Slot<'_>>) -> Result<()
         ≡ evaluating.act_unary op (evaluating.operands_of stack.old.items)) }
 {
     let Some(top) = stack.pop() else {
-        stack.push(Slot::Fault(LineKind::Syntax))?;
-        return Ok(());
+        return push(stack, Slot::Fault(LineKind::Syntax));
     };
     let value = applied(alloc, op, top)?;
-    stack.push(slot_of(value))?;
-    Ok(())
+    push(stack, slot_of(value))
 }
 
 /// The two values on the top; None where there are fewer, of which none is left.
@@ -185,12 +184,10 @@ fn act_binary(
         ≡ evaluating.act_binary (seen_names seen.now) op (evaluating.operands_of stack.old.items)) }
 {
     let Some((left, right)) = two(stack) else {
-        stack.push(Slot::Fault(LineKind::Syntax))?;
-        return Ok(());
+        return push(stack, Slot::Fault(LineKind::Syntax));
     };
     let value = on_both(alloc, seen, op, left, right)?;
-    stack.push(slot_of(value))?;
-    Ok(())
+    push(stack, slot_of(value))
 }
 
 /// One item more.
@@ -208,8 +205,7 @@ fn act<'a>(
         ExprItem::Binary(op) => act_binary(alloc, seen, *op, stack),
         _ => {
             let slot = operand(alloc, seen, item)?;
-            stack.push(slot)?;
-            Ok(())
+            push(stack, slot)
         }
     }
 }
@@ -240,6 +236,21 @@ fn ended(alloc: Global, stack: &mut Vec<Slot<'_>>) -> Result<Result<Value, LineK
     }
 }
 
+/// The value of one item alone.
+fn value_alone(
+    alloc: Global,
+    seen: &Seen<'_>,
+    item: &ExprItem,
+) -> Result<Result<Value, LineKind>, NoMemory>
+    ensures { IfOk result (λ value. value
+        ≡ meaning.known (meaning.operand_of_item (seen_names seen.now) item.now)) }
+{
+    if let ExprItem::Constant(value) = item {
+        return Ok(Ok(value.try_clone(alloc)?));
+    }
+    known(alloc, operand(alloc, seen, item)?)
+}
+
 /// The value of items. One alone, as most expressions have, needs no stack.
 fn value_of(
     alloc: Global,
@@ -250,8 +261,7 @@ fn value_of(
         ≡ evaluating.ended (evaluating.run (seen_names seen.now) items.now [])) }
 {
     match items {
-        [ExprItem::Constant(value)] => Ok(Ok(value.try_clone(alloc)?)),
-        [item] => known(alloc, operand(alloc, seen, item)?),
+        [item] => value_alone(alloc, seen, item),
         _ => by_stack(alloc, seen, items),
     }
 }
