@@ -1,6 +1,7 @@
 pub mod DigitLemmas
 pub mod DirectiveLemmas
 pub mod EvalLemmas
+mod FormLemmas
 mod KnownLemmas
 mod MadeLemmas
 pub mod NameLemmas
@@ -11,5 +12,6 @@ pub mod ReadingLemmas
 pub mod RegisterLemmas
 pub mod RowLemmas
 pub mod SayingLemmas
+mod SlotLemmas
 pub mod Spelled
 pub mod StackLemmas

@@ -41,3 +41,10 @@ pub stated_of : (flat : Flat) (source : List ℕ) (label : Result (Option (List 
     → label ≡ Ok l → said ≡ Ok d → source ≡ flat.source
     → Ok (Some (record { source = source; number = flat.number; label = l; what = Directive d; is_long = false })) ≡ on_both (statement_of flat) label said
 stated_of flat source label said l d el ew es = rw (el, ew, es) refl
+
+-- what is made of one reading
+pub mapped_ok : {A B : Type 0} (f : A → B) (a r : Result A LineKind) (x : A) (y : B) → r ≡ a → r ≡ Ok x → y ≡ f x → Ok y ≡ mapped f a
+mapped_ok f a r x y e o ey = ap Ok ey ∙ ap (mapped f) (sym o ∙ e)
+
+pub mapped_err : {A B : Type 0} (f : A → B) (a r : Result A LineKind) (k : LineKind) → r ≡ a → r ≡ Err k → Err k ≡ mapped f a
+mapped_err f a r k e o = ap (mapped f) (sym o ∙ e)
