@@ -1,11 +1,11 @@
 //! Branches.
 
-ghost use Rattle.std.specs.Prelude.{◌≡◌, ◌+◌, Ok, IfOk};
+ghost use Rattle.std.specs.Prelude.{◌≡◌, ◌≤◌, ◌&&◌, not, Ok, IfOk};
 ghost use Rattle.std.specs.Option.{option_copied};
 ghost use Rattle.arm_isa.specs.declared.instr.ArmInstr.TheVariants as instr;
 ghost use Rattle.asm_model.specs.declared.arm_lines.ArmLine.TheVariants as arm;
 ghost use Rattle.asm_model.specs.declared.values.Value.TheVariants as value;
-ghost use Rattle.asm_model.specs.Meaning as meaning;
+ghost use Rattle.asm_model.specs.Labels as labels;
 ghost use Rattle.asm_model.specs.Meaning.{named_in};
 ghost use Rattle.asm_model.specs.Readings.{and_then, mapped};
 ghost use Rattle.asm_model.specs.Symbols as symbols;
@@ -14,10 +14,11 @@ ghost use Rattle.source_model.specs.ArmForms as forms;
 ghost use Rattle.source_model.specs.Contexts as contexts;
 ghost use Rattle.source_model.specs.Contexts.{value_of};
 ghost use Rattle.source_model.specs.Units as units;
+ghost use Rattle.asm_instructions.specs.Leads as leads;
 ghost use Rattle.asm_instructions.specs.Lookups.{context_of, is_settled_at};
 
 use crate::lookups::{Lookup, entry_stands_at, lone_place, may_have_symbol};
-use crate::values::{from_pc, value_there};
+use crate::values::value_there;
 use arm_isa::ArmInstr;
 use asm_model::{Expr, LaidName, Meaning, SharedText, Value};
 use sdt_fault::NoMemory;
@@ -109,51 +110,81 @@ pub fn offset_at(place: Option<(u32, u32)>) -> u32
     }
 }
 
-/// The displacement to an entry's offset plus a number.
-fn displacement_to(lookup: &Lookup<'_>, entry: Option<&LaidName>, plus: u32) -> u32
-    ensures { result ≡ contexts.from_pc (context_of lookup.now)
-        (forms.offset_at (meaning.entry_stands_at (option_copied entry.entry)) + plus) }
+/// How far an offset lies behind pc, which stands so far ahead of the line, modulo 2^32.
+pub fn behind(lookup: &Lookup<'_>, ahead: u32, offset: u32) -> u32
+    requires { ahead ≤ 8 }
+    ensures { result ≡ leads.behind ahead (context_of lookup.now) offset }
 {
-    from_pc(lookup, offset_at(entry_stands_at(entry)).wrapping_add(plus))
+    let pc = u64::from(lookup.line.place.offset) + u64::from(ahead);
+    let back = 0x1_0000_0000_u64.saturating_sub(pc);
+    ((u64::from(offset) + back) % 0x1_0000_0000) as u32
+}
+
+/// Whether a branch may be left to the linker: where it may at all, if a symbol may have the name.
+fn can_link(link: bool, entry: Option<&LaidName>, symbol: &SharedText) -> bool
+    ensures { result ≡ (link && (contexts.is_symbol_entry (option_copied entry.entry) && not
+        (labels.is_hidden symbol.now))) }
+{
+    if link {
+        return may_have_symbol(entry, symbol);
+    }
+    false
 }
 
 /// The displacement that a branch to a symbol with this entry plus a number holds, and the symbol where it is left to the
 /// linker: it then counts as 0.
 fn place_lead(
     lookup: &Lookup<'_>,
+    ahead: u32,
+    link: bool,
     entry: Option<&LaidName>,
     symbol: &SharedText,
     plus: u32,
 ) -> Result<Lead, NoMemory>
-    requires { option_copied entry ≡ named_in symbol.now lookup.now.names.now }
+    requires near { ahead ≤ 8 }
+    requires entry { option_copied entry ≡ named_in symbol.now lookup.now.names.now }
     ensures displacement { IfOk result (λ lead. lead.0
-        ≡ forms.branch_displacement (context_of lookup.now) (Ok (value.Place symbol.now plus))) }
+        ≡ leads.led ahead link (context_of lookup.now) (Ok (value.Place symbol.now plus))) }
     ensures symbol { IfOk result (λ lead. lead.1
         ≡ units.linked_symbol (context_of lookup.now) (Ok (value.Place symbol.now plus))) }
 {
     if symbol.as_slice().is_empty() {
-        return Ok((Ok(from_pc(lookup, plus)), None));
+        return Ok((Ok(behind(lookup, ahead, plus)), None));
     }
     if is_settled(lookup, entry) {
-        return Ok((Ok(displacement_to(lookup, entry, plus)), None));
+        let offset = offset_at(entry_stands_at(entry)).wrapping_add(plus);
+        return Ok((Ok(behind(lookup, ahead, offset)), None));
     }
     let left = symbol.share()?;
-    if may_have_symbol(entry, symbol) {
-        return Ok((Ok(from_pc(lookup, plus)), Some(left)));
+    if can_link(link, entry, symbol) {
+        return Ok((Ok(behind(lookup, ahead, plus)), Some(left)));
     }
     Ok((Err(LineKind::BadOperand), Some(left)))
 }
 
 /// The displacement that a branch to a target holds, and the symbol that is left to the linker.
-fn lead_of(lookup: &Lookup<'_>, target: Result<Value, LineKind>) -> Result<Lead, NoMemory>
+fn lead_of(
+    lookup: &Lookup<'_>,
+    ahead: u32,
+    link: bool,
+    target: Result<Value, LineKind>,
+) -> Result<Lead, NoMemory>
+    requires { ahead ≤ 8 }
     ensures displacement { IfOk result (λ lead. lead.0
-        ≡ forms.branch_displacement (context_of lookup.now) target) }
+        ≡ leads.led ahead link (context_of lookup.now) target) }
     ensures symbol { IfOk result (λ lead. lead.1
         ≡ units.linked_symbol (context_of lookup.now) target) }
 {
     match target {
         Ok(Value::Place { symbol, plus }) => {
-            place_lead(lookup, lookup.names.find(&symbol), &symbol, plus)
+            place_lead(
+                lookup,
+                ahead,
+                link,
+                lookup.names.find(&symbol),
+                &symbol,
+                plus,
+            )
         }
         Ok(Value::Number(_)) => Ok((Err(LineKind::BadOperand), None)),
         Ok(_) => Ok((Err(LineKind::WrongType), None)),
@@ -161,21 +192,28 @@ fn lead_of(lookup: &Lookup<'_>, target: Result<Value, LineKind>) -> Result<Lead,
     }
 }
 
-/// The same of an expression. A label alone, as most are, is found once.
-fn lead_there(alloc: Global, lookup: &Lookup<'_>, target: &Expr) -> Result<Lead, NoMemory>
-    requires { IsRead target.now }
+/// The same of an expression, for a line of either state. A label alone, as most are, is found once.
+pub fn lead_there(
+    alloc: Global,
+    lookup: &Lookup<'_>,
+    ahead: u32,
+    link: bool,
+    target: &Expr,
+) -> Result<Lead, NoMemory>
+    requires near { ahead ≤ 8 }
+    requires read { IsRead target.now }
     ensures displacement { IfOk result (λ lead. lead.0
-        ≡ forms.branch_displacement (context_of lookup.now)
+        ≡ leads.led ahead link (context_of lookup.now)
         (value_of (context_of lookup.now) target.now)) }
     ensures symbol { IfOk result (λ lead. lead.1
         ≡ units.linked_symbol (context_of lookup.now)
         (value_of (context_of lookup.now) target.now)) }
 {
     match lone_place(lookup, target) {
-        Some(entry) => place_lead(lookup, Some(entry), &entry.name, 0),
+        Some(entry) => place_lead(lookup, ahead, link, Some(entry), &entry.name, 0),
         None => {
             let value = value_there(alloc, lookup, target)?;
-            lead_of(lookup, value)
+            lead_of(lookup, ahead, link, value)
         }
     }
 }
@@ -211,7 +249,7 @@ pub fn branch(
     ensures symbol { IfOk result (λ unit. unit.1
         ≡ units.branch_symbol (context_of lookup.now) (arm.Branch condition link target.now)) }
 {
-    let (displacement, symbol) = lead_there(alloc, lookup, target)?;
+    let (displacement, symbol) = lead_there(alloc, lookup, 8, true, target)?;
     Ok((branch_by(condition, link, displacement), symbol))
 }
 
@@ -225,6 +263,6 @@ pub fn target_symbol(
     ensures { IfOk result (λ s. s ≡ units.linked_symbol (context_of lookup.now)
         (value_of (context_of lookup.now) target.now)) }
 {
-    let (_, symbol) = lead_there(alloc, lookup, target)?;
+    let (_, symbol) = lead_there(alloc, lookup, 8, true, target)?;
     Ok(symbol)
 }

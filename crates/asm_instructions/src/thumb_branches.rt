@@ -1,42 +1,27 @@
 //! Branches of Thumb state.
 
-ghost use Rattle.std.specs.Prelude.{◌≡◌, ◌+◌, ◌<◌, ◌≤◌, ◌^◌, ◌&&◌, not, Ok, IfOk};
-ghost use Rattle.std.specs.Option.{option_copied};
+ghost use Rattle.std.specs.Prelude.{◌≡◌, ◌<◌, ◌≤◌, ◌^◌, IfOk};
 ghost use Rattle.asm_model.specs.declared.thumb_lines.ThumbLine.TheVariants as thumb;
-ghost use Rattle.asm_model.specs.declared.values.Value.TheVariants as value;
-ghost use Rattle.asm_model.specs.Labels as labels;
-ghost use Rattle.asm_model.specs.Meaning as meaning;
-ghost use Rattle.asm_model.specs.Meaning.{named_in};
 ghost use Rattle.asm_model.specs.Readings.{and_then, mapped};
 ghost use Rattle.asm_model.specs.Said.{IsRead};
-ghost use Rattle.source_model.specs.ArmForms as arm_forms;
-ghost use Rattle.source_model.specs.Contexts as contexts;
 ghost use Rattle.source_model.specs.Contexts.{value_of};
 ghost use Rattle.source_model.specs.ThumbForms as forms;
 ghost use Rattle.source_model.specs.Units as units;
 ghost use Rattle.asm_instructions.specs.Lookups.{context_of};
 
-use crate::branches::{Lead, is_settled, offset_at};
-use crate::lookups::{Lookup, entry_stands_at, lone_place, may_have_symbol};
+use crate::branches::{Lead, lead_there};
+use crate::lookups::Lookup;
 use crate::thumb_data::{ThumbResult, ThumbUnit};
 use crate::thumb_values::offset_below;
-use crate::values::{number_there, value_there};
+use crate::values::number_there;
 use asm_expr::or_kind;
-use asm_model::{Expr, LaidName, SharedText, Value};
+use asm_model::Expr;
 use sdt_fault::NoMemory;
 use sdt_fault::kinds::LineKind;
 use sdt_word::Condition;
 use source_model::ThumbCode;
 use std::alloc::Global;
 use thumb_isa::ThumbInstr;
-
-/// How far an offset lies behind pc as the line's instruction reads it, modulo 2^32.
-fn behind_pc(lookup: &Lookup<'_>, offset: u32) -> u32
-    ensures { result ≡ forms.behind_pc (context_of lookup.now) offset }
-{
-    let back = 0x1_0000_0000_u64.saturating_sub(u64::from(lookup.line.place.offset) + 4);
-    ((u64::from(offset) + back) % 0x1_0000_0000) as u32
-}
 
 /// A displacement modulo 2^32 in half-words, as a field below a limit.
 fn half_words(limit: u32, displacement: u32) -> Result<u32, LineKind>
@@ -55,99 +40,6 @@ fn half_words(limit: u32, displacement: u32) -> Result<u32, LineKind>
         return Ok(displacement / 2 % limit);
     }
     Err(LineKind::OutOfRange)
-}
-
-/// The displacement to an entry's offset plus a number.
-fn displacement_to(lookup: &Lookup<'_>, entry: Option<&LaidName>, plus: u32) -> u32
-    ensures { result ≡ forms.behind_pc (context_of lookup.now)
-        (arm_forms.offset_at (meaning.entry_stands_at (option_copied entry.entry)) + plus) }
-{
-    behind_pc(lookup, offset_at(entry_stands_at(entry)).wrapping_add(plus))
-}
-
-/// Whether a branch may be left to the linker: BL may, where a symbol may have the name.
-fn can_link(link: bool, entry: Option<&LaidName>, symbol: &SharedText) -> bool
-    ensures { result ≡ (link && (contexts.is_symbol_entry (option_copied entry.entry) && not
-        (labels.is_hidden symbol.now))) }
-{
-    if link {
-        return may_have_symbol(entry, symbol);
-    }
-    false
-}
-
-/// The displacement to a symbol with this entry plus a number, and the symbol where it is left to the linker: it then
-/// counts as 0.
-fn place_lead(
-    link: bool,
-    lookup: &Lookup<'_>,
-    entry: Option<&LaidName>,
-    symbol: &SharedText,
-    plus: u32,
-) -> Result<Lead, NoMemory>
-    requires { option_copied entry ≡ named_in symbol.now lookup.now.names.now }
-    ensures displacement { IfOk result (λ lead. lead.0
-        ≡ forms.thumb_displacement link (context_of lookup.now)
-        (Ok (value.Place symbol.now plus))) }
-    ensures symbol { IfOk result (λ lead. lead.1
-        ≡ units.linked_symbol (context_of lookup.now) (Ok (value.Place symbol.now plus))) }
-{
-    if symbol.as_slice().is_empty() {
-        return Ok((Ok(behind_pc(lookup, plus)), None));
-    }
-    if is_settled(lookup, entry) {
-        return Ok((Ok(displacement_to(lookup, entry, plus)), None));
-    }
-    let left = symbol.share()?;
-    if can_link(link, entry, symbol) {
-        return Ok((Ok(behind_pc(lookup, plus)), Some(left)));
-    }
-    Ok((Err(LineKind::BadOperand), Some(left)))
-}
-
-/// The displacement to a target, and the symbol that is left to the linker.
-fn lead_of(
-    link: bool,
-    lookup: &Lookup<'_>,
-    target: Result<Value, LineKind>,
-) -> Result<Lead, NoMemory>
-    ensures displacement { IfOk result (λ lead. lead.0
-        ≡ forms.thumb_displacement link (context_of lookup.now) target) }
-    ensures symbol { IfOk result (λ lead. lead.1
-        ≡ units.linked_symbol (context_of lookup.now) target) }
-{
-    match target {
-        Ok(Value::Place { symbol, plus }) => {
-            place_lead(link, lookup, lookup.names.find(&symbol), &symbol, plus)
-        }
-        Ok(Value::Number(_)) => Ok((Err(LineKind::BadOperand), None)),
-        Ok(_) => Ok((Err(LineKind::WrongType), None)),
-        Err(kind) => Ok((Err(kind), None)),
-    }
-}
-
-/// The same of an expression. A label alone, as most are, is found once.
-fn lead_there(
-    alloc: Global,
-    lookup: &Lookup<'_>,
-    link: bool,
-    target: &Expr,
-) -> Result<Lead, NoMemory>
-    requires { IsRead target.now }
-    ensures displacement { IfOk result (λ lead. lead.0
-        ≡ forms.thumb_displacement link (context_of lookup.now)
-        (value_of (context_of lookup.now) target.now)) }
-    ensures symbol { IfOk result (λ lead. lead.1
-        ≡ units.linked_symbol (context_of lookup.now)
-        (value_of (context_of lookup.now) target.now)) }
-{
-    match lone_place(lookup, target) {
-        Some(entry) => place_lead(link, lookup, Some(entry), &entry.name, 0),
-        None => {
-            let value = value_there(alloc, lookup, target)?;
-            lead_of(link, lookup, value)
-        }
-    }
 }
 
 fn field_of(limit: u32, displacement: Result<u32, LineKind>) -> Result<u32, LineKind>
@@ -177,7 +69,7 @@ fn field_to(
     ensures symbol { IfOk result (λ lead. lead.1 ≡ units.linked_symbol (context_of lookup.now)
         (value_of (context_of lookup.now) target.now)) }
 {
-    let (displacement, symbol) = lead_there(alloc, lookup, link, target)?;
+    let (displacement, symbol) = lead_there(alloc, lookup, 4, link, target)?;
     Ok((field_of(limit, displacement), symbol))
 }
 

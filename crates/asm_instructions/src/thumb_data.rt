@@ -62,13 +62,15 @@ pub fn shift_immediate(
         (thumb.ShiftImmediate shift rd.now rs.now amount.now)) }
 {
     let number = number_there(alloc, lookup, amount)?;
-    let ((rd, rs), amount) = or_kind!(both(low_two(lookup, rd, rs), amount_of(shift, number)));
-    Ok(Ok(ThumbCode::One(ThumbInstr::ShiftImmediate {
-        shift,
-        amount,
-        rs,
-        rd,
-    })))
+    match both(low_two(lookup, rd, rs), amount_of(shift, number)) {
+        Err(kind) => Ok(Err(kind)),
+        Ok(((rd, rs), amount)) => Ok(Ok(ThumbCode::One(ThumbInstr::ShiftImmediate {
+            shift,
+            amount,
+            rs,
+            rd,
+        }))),
+    }
 }
 
 pub fn data_register(

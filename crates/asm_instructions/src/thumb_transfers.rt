@@ -211,13 +211,15 @@ pub fn transfer_half(
         (thumb.TransferHalf load rd.now rn.now offset.now)) }
 {
     let number = number_there(alloc, lookup, offset)?;
-    let ((rd, rn), offset) = or_kind!(both(low_two(lookup, rd, rn), offset_below(2, 32, number)));
-    Ok(Ok(ThumbCode::One(ThumbInstr::TransferHalf {
-        load,
-        offset,
-        rn,
-        rd,
-    })))
+    match both(low_two(lookup, rd, rn), offset_below(2, 32, number)) {
+        Err(kind) => Ok(Err(kind)),
+        Ok(((rd, rn), offset)) => Ok(Ok(ThumbCode::One(ThumbInstr::TransferHalf {
+            load,
+            offset,
+            rn,
+            rd,
+        }))),
+    }
 }
 
 pub fn transfer_stack(

@@ -1,8 +1,48 @@
-use Rattle.std.proofs.Common.{sym, ap, ◌∙◌}
+use Rattle.std.proofs.Common.{◌≡◌, sym, ap, ◌∙◌, subst}
+use Rattle.std.specs.Prelude.{IfOk}
 use Rattle.source_model.specs.ArmForms.{arm_instruction}
 use Rattle.asm_instructions.specs.Lookups.{context_of}
 use Rattle.asm_instructions.proofs.arm_lines.instruction_there.Goals as goal
 
+pub returns-in-DataImmediate : goal.returns-in-DataImmediate
+returns-in-DataImmediate c =
+    subst (λ l. IfOk c.data_number.result (λ i. i ≡ arm_instruction (context_of c.args.lookup.now) l)) (sym c.in-DataImmediate.is) c.data_number.ensures
+
+pub returns-in-DataShifted : goal.returns-in-DataShifted
+returns-in-DataShifted c =
+    subst (λ l. IfOk c.data_shifted.result (λ i. i ≡ arm_instruction (context_of c.args.lookup.now) l)) (sym c.in-DataShifted.is) c.data_shifted.ensures
+
+pub returns-in-WriteStatusImmediate : goal.returns-in-WriteStatusImmediate
+returns-in-WriteStatusImmediate c =
+    subst (λ l. IfOk c.status_number.result (λ i. i ≡ arm_instruction (context_of c.args.lookup.now) l)) (sym c.in-WriteStatusImmediate.is) c.status_number.ensures
+
+pub returns-in-TransferImmediate : goal.returns-in-TransferImmediate
+returns-in-TransferImmediate c =
+    subst (λ l. IfOk c.transfer.result (λ i. i ≡ arm_instruction (context_of c.args.lookup.now) l)) (sym c.in-TransferImmediate.is) c.transfer.ensures
+
+pub returns-in-TransferShifted : goal.returns-in-TransferShifted
+returns-in-TransferShifted c =
+    subst (λ l. IfOk c.transfer_shifted.result (λ i. i ≡ arm_instruction (context_of c.args.lookup.now) l)) (sym c.in-TransferShifted.is) c.transfer_shifted.ensures
+
+pub returns-in-TransferHalf : goal.returns-in-TransferHalf
+returns-in-TransferHalf c =
+    subst (λ l. IfOk c.transfer_half.result (λ i. i ≡ arm_instruction (context_of c.args.lookup.now) l)) (sym c.in-TransferHalf.is) c.transfer_half.ensures
+
+pub returns-in-SoftwareInterrupt : goal.returns-in-SoftwareInterrupt
+returns-in-SoftwareInterrupt c =
+    subst (λ l. IfOk c.interrupt.result (λ i. i ≡ arm_instruction (context_of c.args.lookup.now) l)) (sym c.in-SoftwareInterrupt.is) c.interrupt.ensures
+
+pub returns-in-DataRegisterShifted : goal.returns-in-DataRegisterShifted
+returns-in-DataRegisterShifted c = c.data_register_shifted.ensures ∙ ap (arm_instruction (context_of c.args.lookup.now)) (sym c.in-DataRegisterShifted.is)
+
+pub returns-in-Multiply : goal.returns-in-Multiply
+returns-in-Multiply c = c.multiply.ensures ∙ ap (arm_instruction (context_of c.args.lookup.now)) (sym c.in-Multiply.is)
+
+pub returns-in-MultiplyLong : goal.returns-in-MultiplyLong
+returns-in-MultiplyLong c = c.multiply_long.ensures ∙ ap (arm_instruction (context_of c.args.lookup.now)) (sym c.in-MultiplyLong.is)
+
+pub returns-in-Swap : goal.returns-in-Swap
+returns-in-Swap c = c.swap.ensures ∙ ap (arm_instruction (context_of c.args.lookup.now)) (sym c.in-Swap.is)
+
 pub returns-in-TransferBlock : goal.returns-in-TransferBlock
-returns-in-TransferBlock c =
-    c.transfer_block.ensures ∙ ap (arm_instruction (context_of c.args.lookup.now)) (sym c.in-TransferBlock.is)
+returns-in-TransferBlock c = c.transfer_block.ensures ∙ ap (arm_instruction (context_of c.args.lookup.now)) (sym c.in-TransferBlock.is)
