@@ -1,12 +1,16 @@
 //! The bench on which the steps of a case are carried out.
 
-use crate::cases::{Action, Case, DeviceKind, Fault, Seat, Setting, Step, Wish, failed};
-use crate::devices::{Left, left_of, push_state};
-use crate::words::{first_difference, line_start, push_shown};
+use crate::devices::{Left, Seat, put_left};
+use crate::forms::Verb;
+use crate::sections::{Section, body};
+use crate::settings::set;
+use crate::steps::{Step, read_step};
+use crate::told::{Told, push_shown};
+use crate::wishes::{want_of_file, want_of_run};
 use sdt_fault::answer::{Answer, status_of};
 use sdt_fault::report::text_of;
-use sdt_fault::{Bytes, NoMemory, Text};
-use sdt_outside::{Device, DeviceState, MemorySink, MemoryStore, Timer, Uart};
+use sdt_fault::{NoMemory, Text};
+use sdt_outside::{Device, MemorySink, MemoryStore, Timer, Uart};
 use std::alloc::Global;
 
 /// The room of the sink where a case doesn't say.
@@ -24,83 +28,106 @@ pub trait Tool {
     ) -> Answer;
 }
 
-// What came of the last command, and which of it the case asked for.
+/// What the next command finds, what came of the last one, and which of that the case asked for.
 #[derive(Drop)]
-struct Outcome {
-    line: usize,
-    answer: Answer,
-    sink: MemorySink,
-    devices: Vec<Left>,
-    answer_wanted: bool,
-    text_wanted: bool,
+pub struct Bench {
+    pub store: MemoryStore,
+    pub room: u64,
+    pub seats: Vec<Seat>,
+    /// The line of the last command; None where there was none.
+    pub line: Option<usize>,
+    pub status: u8,
+    pub answer: Text,
+    pub sink: MemorySink,
+    pub left: Vec<Left>,
+    pub is_answer_wanted: bool,
+    pub is_text_wanted: bool,
 }
 
-#[derive(Drop)]
-struct Bench {
-    store: MemoryStore,
-    room: u64,
-    seats: Vec<Seat>,
-    outcome: Option<Outcome>,
+impl Bench {
+    pub fn new(alloc: Global) -> Bench {
+        Bench {
+            store: MemoryStore::new(alloc),
+            room: ROOM,
+            seats: Vec::new(alloc),
+            line: None,
+            status: 0,
+            answer: Text::from_vec(Vec::new(alloc)),
+            sink: MemorySink {
+                bytes: Vec::new(alloc),
+                room: 0,
+                faults: 0,
+            },
+            left: Vec::new(alloc),
+            is_answer_wanted: false,
+            is_text_wanted: false,
+        }
+    }
 }
 
-/// Carries out a case. The fault is that of its first step that fails.
-pub fn check_case<T: Tool>(alloc: Global, tool: &T, case: &Case) -> Result<(), Fault> {
-    let mut bench = Bench {
-        store: MemoryStore::new(alloc),
-        room: ROOM,
-        seats: Vec::new(alloc),
-        outcome: None,
-    };
-    let judged = carry_all_out(alloc, tool, &mut bench, case.steps.as_slice());
-    drop(bench);
-    judged
-}
-
-fn carry_all_out<T: Tool>(
+/// Carries out the steps of the case that the first of these sections begins. What is told is of the first that fails.
+pub fn carry_all_out<'a, T: Tool>(
     alloc: Global,
     tool: &T,
     bench: &mut Bench,
-    steps: &[Step],
-) -> Result<(), Fault> {
-    for step in steps {
-        carry_out(alloc, tool, bench, step)?;
+    step: &mut Step<'a>,
+    lines: &'a [&'a str],
+    sections: &'a [Section<'a>],
+    told: &mut Told,
+) -> Result<(), NoMemory> {
+    for (at, section) in sections.iter().enumerate().skip(1) {
+        if section.is_case {
+            break;
+        }
+        let next = sections.get(at.saturating_add(1));
+        read_step(alloc, step, section, body(lines, section.line, next), told)?;
+        carry_out(alloc, tool, bench, step, told)?;
+        if !told.text.is_empty() {
+            return Ok(());
+        }
     }
-    settle(alloc, &bench.outcome)
+    settle(bench, told)
 }
 
 fn carry_out<T: Tool>(
     alloc: Global,
     tool: &T,
     bench: &mut Bench,
-    step: &Step,
-) -> Result<(), Fault> {
-    match &step.action {
-        Action::Set(setting) => set(alloc, bench, step.line, setting),
-        Action::Run { words } => {
-            settle(alloc, &bench.outcome)?;
-            run(alloc, tool, bench, step.line, words.as_slice())
+    step: &Step<'_>,
+    told: &mut Told,
+) -> Result<(), NoMemory> {
+    match step.verb {
+        Verb::Run => {
+            let line = told.line;
+            settle(bench, told)?;
+            if told.text.is_empty() {
+                run(alloc, tool, bench, line, step.command.as_slice())?;
+            }
+            Ok(())
         }
-        Action::Want(wish) => want(alloc, bench, step.line, wish),
+        Verb::Holds | Verb::Length | Verb::Same | Verb::Absent => {
+            want_of_file(alloc, &bench.store, step, told)
+        }
+        Verb::Status | Verb::Answer | Verb::Printed | Verb::Shows | Verb::Gone => {
+            want_of_run(alloc, bench, step, told)
+        }
+        _ => set(alloc, bench, step, told),
     }
 }
 
 // Of a command its status or its answer was asked for, and its text where it printed one.
-fn settle(alloc: Global, outcome: &Option<Outcome>) -> Result<(), Fault> {
-    let Some(outcome) = outcome else {
+fn settle(bench: &Bench, told: &mut Told) -> Result<(), NoMemory> {
+    let Some(line) = bench.line else {
         return Ok(());
     };
-    if !outcome.answer_wanted {
-        return Err(failed(
-            alloc,
-            outcome.line,
-            "a status or an answer behind it",
-            "none",
-        ));
+    if !bench.is_answer_wanted {
+        told.line = line;
+        return told.differ("a status or an answer behind it", "none");
     }
-    if !outcome.text_wanted && !outcome.sink.bytes.is_empty() {
-        let mut came = String::new(alloc);
-        push_shown(&mut came, outcome.sink.bytes.as_slice(), 0)?;
-        return Err(failed(alloc, outcome.line, "no text", came.as_str()));
+    if !bench.is_text_wanted && !bench.sink.bytes.is_empty() {
+        told.line = line;
+        told.differ("no text", "")?;
+        return push_shown(&mut told.text, bench.sink.bytes.as_slice(), 0);
     }
     Ok(())
 }
@@ -111,290 +138,45 @@ fn run<T: Tool>(
     bench: &mut Bench,
     line: usize,
     words: &[String],
-) -> Result<(), Fault> {
-    let mut sink = MemorySink::with_room(alloc, bench.room)?;
-    let seats = bench.seats.as_slice();
-    let (answer, devices) = called(alloc, tool, words, &mut bench.store, &mut sink, seats)?;
-    bench.outcome = Some(Outcome {
-        line,
-        answer,
-        sink,
-        devices,
-        answer_wanted: false,
-        text_wanted: false,
-    });
-    Ok(())
+) -> Result<(), NoMemory> {
+    bench.line = Some(line);
+    bench.is_answer_wanted = false;
+    bench.is_text_wanted = false;
+    bench.left.clear();
+    bench.sink = MemorySink::with_room(alloc, bench.room)?;
+    let mut devices: Vec<Box<dyn Device>> = Vec::new(alloc);
+    for seat in bench.seats.iter() {
+        let device: Box<dyn Device> = if seat.is_timer {
+            Box::new(alloc, timer_on(seat))?
+        } else {
+            Box::new(alloc, Uart::new(seat.base))?
+        };
+        devices.push(device)?;
+    }
+    let done = run_with(alloc, tool, bench, words, &mut devices);
+    drop(devices);
+    done
 }
 
-// The answer of a command with new devices on these seats, and what it left of them.
-fn called<T: Tool>(
+fn timer_on(seat: &Seat) -> Timer {
+    let mut timer = Timer::new(seat.base);
+    timer.period = seat.period;
+    timer.control = seat.control;
+    timer
+}
+
+// Runs a command with these devices, which stand on the seats.
+fn run_with<T: Tool>(
     alloc: Global,
     tool: &T,
+    bench: &mut Bench,
     words: &[String],
-    store: &mut MemoryStore,
-    sink: &mut MemorySink,
-    seats: &[Seat],
-) -> Result<(Answer, Vec<Left>), NoMemory> {
-    let mut devices: Vec<Box<dyn Device>> = Vec::new(alloc);
-    for seat in seats {
-        match seat.kind {
-            DeviceKind::Timer { period, control } => {
-                let mut timer = Timer::new(seat.base);
-                timer.period = period;
-                timer.control = control;
-                devices.push(Box::new(alloc, timer)?)?;
-            }
-            DeviceKind::Uart => devices.push(Box::new(alloc, Uart::new(seat.base))?)?,
-        }
-    }
-    let answer = tool.run(alloc, words, store, sink, &mut devices);
-    Ok((answer, left_of(alloc, &mut devices, seats)?))
-}
-
-fn set(alloc: Global, bench: &mut Bench, line: usize, setting: &Setting) -> Result<(), Fault> {
-    match setting {
-        Setting::File { name, content } => put_file(
-            alloc,
-            &mut bench.store,
-            name,
-            content.as_slice(),
-        ),
-        Setting::Cut { name, length } => cut(alloc, &mut bench.store, line, name, *length),
-        Setting::Patch { name, at, bytes } => {
-            patch(alloc, &mut bench.store, line, name, *at, bytes.as_slice())
-        }
-        Setting::Failing { calls } => set_failing(&mut bench.store, calls.as_slice()),
-        Setting::Room { bytes } => {
-            bench.room = *bytes;
-            Ok(())
-        }
-        Setting::Device { seat } => {
-            bench.seats.push(*seat)?;
-            Ok(())
-        }
-    }
-}
-
-fn put_file(
-    alloc: Global,
-    store: &mut MemoryStore,
-    name: &Text,
-    content: &[u8],
-) -> Result<(), Fault> {
-    let name = name.try_clone(alloc)?;
-    store
-        .files
-        .insert(name, Bytes::from_slice(alloc, content)?)?;
-    Ok(())
-}
-
-fn file_of<'a>(
-    alloc: Global,
-    store: &'a MemoryStore,
-    line: usize,
-    name: &Text,
-) -> Result<&'a [u8], Fault> {
-    match store.files.get(name) {
-        Some(content) => Ok(content.as_slice()),
-        None => Err(failed(alloc, line, "a file of this name", "none")),
-    }
-}
-
-fn cut(
-    alloc: Global,
-    store: &mut MemoryStore,
-    line: usize,
-    name: &Text,
-    length: usize,
-) -> Result<(), Fault> {
-    let content = file_of(alloc, store, line, name)?;
-    let Some(kept) = content.get(..length) else {
-        return Err(failed(alloc, line, "a file of so many bytes", "fewer"));
-    };
-    let kept = Vec::from_slice(alloc, kept)?;
-    put_file(alloc, store, name, kept.as_slice())
-}
-
-fn patch(
-    alloc: Global,
-    store: &mut MemoryStore,
-    line: usize,
-    name: &Text,
-    at: usize,
-    bytes: &[u8],
-) -> Result<(), Fault> {
-    let content = file_of(alloc, store, line, name)?;
-    let Some(patched) = patched(alloc, content, at, bytes)? else {
-        return Err(failed(alloc, line, "a file with bytes at this place", "fewer"));
-    };
-    put_file(alloc, store, name, patched.as_slice())
-}
-
-// The content with other bytes at a place, if it has so many there.
-fn patched(
-    alloc: Global,
-    content: &[u8],
-    at: usize,
-    bytes: &[u8],
-) -> Result<Option<Vec<u8>>, NoMemory> {
-    let end = at.saturating_add(bytes.len());
-    if end > content.len() {
-        return Ok(None);
-    }
-    let mut patched = Vec::new(alloc);
-    patched.extend_from_slice(content.get(..at).unwrap_or(&[]))?;
-    patched.extend_from_slice(bytes)?;
-    patched.extend_from_slice(content.get(end..).unwrap_or(&[]))?;
-    Ok(Some(patched))
-}
-
-fn set_failing(store: &mut MemoryStore, calls: &[u64]) -> Result<(), Fault> {
-    store.calls = 0;
-    store.failing.clear();
-    store.failing.extend_from_slice(calls)?;
-    Ok(())
-}
-
-fn want(alloc: Global, bench: &mut Bench, line: usize, wish: &Wish) -> Result<(), Fault> {
-    match wish {
-        Wish::Status { status } => want_status(alloc, &mut bench.outcome, line, *status),
-        Wish::Answer { text } => want_answer(alloc, &mut bench.outcome, line, text.as_slice()),
-        Wish::Printed { text } => want_printed(alloc, &mut bench.outcome, line, text.as_slice()),
-        Wish::Holds { name, content } => {
-            let came = file_of(alloc, &bench.store, line, name)?;
-            want_equal(alloc, line, content.as_slice(), came)
-        }
-        Wish::Length { name, length } => {
-            let came = file_of(alloc, &bench.store, line, name)?;
-            want_length(alloc, line, *length, came.len())
-        }
-        Wish::Same { first, second } => {
-            let wanted = file_of(alloc, &bench.store, line, second)?;
-            let came = file_of(alloc, &bench.store, line, first)?;
-            want_equal(alloc, line, wanted, came)
-        }
-        Wish::Absent { name } => match bench.store.files.get(name) {
-            Some(_) => Err(failed(alloc, line, "no file of this name", "one")),
-            None => Ok(()),
-        },
-        Wish::Shows { base, state } => want_state(alloc, bench, line, *base, state),
-        Wish::Gone { base } => want_gone(alloc, bench, line, *base),
-    }
-}
-
-fn want_state(
-    alloc: Global,
-    bench: &Bench,
-    line: usize,
-    base: u32,
-    wanted: &DeviceState,
-) -> Result<(), Fault> {
-    let Some(came) = left_at(alloc, bench, line, base)? else {
-        return Err(failed(alloc, line, "a device at this address", "one that is gone"));
-    };
-    if came == wanted {
-        return Ok(());
-    }
-    let mut told = String::new(alloc);
-    push_state(&mut told, wanted)?;
-    let mut shown = String::new(alloc);
-    push_state(&mut shown, came)?;
-    Err(failed(alloc, line, told.as_str(), shown.as_str()))
-}
-
-fn want_gone(alloc: Global, bench: &Bench, line: usize, base: u32) -> Result<(), Fault> {
-    let Some(came) = left_at(alloc, bench, line, base)? else {
-        return Ok(());
-    };
-    let mut shown = String::new(alloc);
-    push_state(&mut shown, came)?;
-    Err(failed(alloc, line, "a device that is gone", shown.as_str()))
-}
-
-// The state in which the last command left the device at an address, if it left one.
-fn left_at(
-    alloc: Global,
-    bench: &Bench,
-    line: usize,
-    base: u32,
-) -> Result<Option<&DeviceState>, Fault> {
-    let Some(outcome) = &bench.outcome else {
-        return Err(failed(alloc, line, "a run in front of it", "none"));
-    };
-    for left in outcome.devices.iter() {
-        if left.base == base {
-            return Ok(left.state.as_ref());
-        }
-    }
-    Err(failed(alloc, line, "a device at this address", "none"))
-}
-
-fn want_status(
-    alloc: Global,
-    outcome: &mut Option<Outcome>,
-    line: usize,
-    wanted: u8,
-) -> Result<(), Fault> {
-    let Some(outcome) = outcome else {
-        return Err(failed(alloc, line, "a run in front of it", "none"));
-    };
-    outcome.answer_wanted = true;
-    let came = status_of(&outcome.answer);
-    if came == wanted {
-        return Ok(());
-    }
-    let wanted = format!(in alloc; "status {wanted}")?;
-    let mut told = format!(in alloc; "status {came} with the answer ")?;
-    push_shown(&mut told, text_of(alloc, &outcome.answer)?.as_slice(), 0)?;
-    Err(failed(alloc, line, wanted.as_str(), told.as_str()))
-}
-
-fn want_answer(
-    alloc: Global,
-    outcome: &mut Option<Outcome>,
-    line: usize,
-    wanted: &[u8],
-) -> Result<(), Fault> {
-    let Some(outcome) = outcome else {
-        return Err(failed(alloc, line, "a run in front of it", "none"));
-    };
-    outcome.answer_wanted = true;
-    let came = text_of(alloc, &outcome.answer)?;
-    want_equal(alloc, line, wanted, came.as_slice())
-}
-
-fn want_printed(
-    alloc: Global,
-    outcome: &mut Option<Outcome>,
-    line: usize,
-    wanted: &[u8],
-) -> Result<(), Fault> {
-    let Some(outcome) = outcome else {
-        return Err(failed(alloc, line, "a run in front of it", "none"));
-    };
-    outcome.text_wanted = true;
-    want_equal(alloc, line, wanted, outcome.sink.bytes.as_slice())
-}
-
-fn want_length(alloc: Global, line: usize, wanted: usize, came: usize) -> Result<(), Fault> {
-    if came == wanted {
-        return Ok(());
-    }
-    let wanted = format!(in alloc; "{wanted} bytes")?;
-    let came = format!(in alloc; "{came} bytes")?;
-    Err(failed(alloc, line, wanted.as_str(), came.as_str()))
-}
-
-fn want_equal(alloc: Global, line: usize, wanted: &[u8], came: &[u8]) -> Result<(), Fault> {
-    if wanted == came {
-        return Ok(());
-    }
-    let place = first_difference(wanted, came);
-    let from = line_start(came, place);
-    let mut told = String::new(alloc);
-    push_shown(&mut told, wanted, from)?;
-    let mut shown = String::new(alloc);
-    push_shown(&mut shown, came, from)?;
-    write!(shown, " (they part at byte {place})")?;
-    Err(failed(alloc, line, told.as_str(), shown.as_str()))
+    devices: &mut Vec<Box<dyn Device>>,
+) -> Result<(), NoMemory> {
+    let answer = tool.run(alloc, words, &mut bench.store, &mut bench.sink, devices);
+    bench.status = status_of(&answer);
+    let text = text_of(alloc, &answer);
+    drop(answer);
+    bench.answer = text?;
+    put_left(&mut bench.left, devices, bench.seats.as_slice())
 }

@@ -1,118 +1,102 @@
 //! Contents: the lines behind a step, changed by its modes from left to right.
 
-use crate::words::number_of;
-use hex::FromHexError;
 use sdt_fault::NoMemory;
-use std::alloc::{AllocError, AllocFailed, Global};
+use std::alloc::Global;
 
 /// No content is longer.
 const LIMIT: u64 = 1 << 26;
 
-/// Why a content or a step can't be read.
-#[derive(Clone, Copy)]
-pub enum Unread {
-    Malformed,
-    NoMemory,
-}
-
-impl From<NoMemory> for Unread {
-    fn from(_e: NoMemory) -> Unread {
-        Unread::NoMemory
+/// A number in decimal, or in hexadecimal behind `0x`.
+pub fn number_of(word: &str) -> Option<u64> {
+    match word.strip_prefix("0x") {
+        Some(digits) => u64::from_str_radix(digits, 16).ok(),
+        None => word.parse::<u64>().ok(),
     }
 }
 
-impl From<AllocError> for Unread {
-    fn from(_e: AllocError) -> Unread {
-        Unread::NoMemory
+/// Puts the content that the modes make of the lines of a body, unless a mode can't be read or applied.
+pub fn put_content(
+    alloc: Global,
+    content: &mut Vec<u8>,
+    lines: &[&str],
+    modes: &[&str],
+) -> Result<bool, NoMemory> {
+    for line in lines {
+        content.extend_from_slice(line.as_bytes())?;
+        content.push(b'\n')?;
     }
-}
-
-impl<T: Drop> From<AllocFailed<T>> for Unread {
-    fn from(_e: AllocFailed<T>) -> Unread {
-        Unread::NoMemory
-    }
-}
-
-#[derive(Clone, Copy)]
-enum Mode {
-    Hex,
-    Escaped,
-    Open,
-    Times(u64),
-}
-
-/// The content that the modes make of the lines of a body.
-pub fn content(alloc: Global, body: &[u8], modes: &[String]) -> Result<Vec<u8>, Unread> {
-    let mut content = Vec::from_slice(alloc, body)?;
-    for mode in modes_of(alloc, modes)? {
-        content = changed(alloc, content, mode)?;
-    }
-    Ok(content)
-}
-
-fn modes_of(alloc: Global, words: &[String]) -> Result<Vec<Mode>, Unread> {
-    let mut modes = Vec::new(alloc);
     let mut is_count = false;
-    for word in words {
-        if is_count {
-            modes.push(times(word.as_str())?)?;
-            is_count = false;
-        } else if word.as_str() == "times" {
+    for mode in modes {
+        if !is_count && *mode == "times" {
             is_count = true;
-        } else {
-            modes.push(plain_mode(word.as_str())?)?;
+            continue;
         }
+        let mut changed = Vec::new(alloc);
+        if !put_changed(&mut changed, content.as_slice(), *mode, is_count)? {
+            return Ok(false);
+        }
+        *content = changed;
+        is_count = false;
     }
-    if is_count {
-        return Err(Unread::Malformed);
-    }
-    Ok(modes)
+    Ok(!is_count)
 }
 
-fn times(word: &str) -> Result<Mode, Unread> {
-    match number_of(word) {
-        Some(count) => Ok(Mode::Times(count)),
-        None => Err(Unread::Malformed),
-    }
-}
-
-fn plain_mode(word: &str) -> Result<Mode, Unread> {
-    match word {
-        "hex" => Ok(Mode::Hex),
-        "escaped" => Ok(Mode::Escaped),
-        "open" => Ok(Mode::Open),
-        _ => Err(Unread::Malformed),
-    }
-}
-
-fn changed(alloc: Global, content: Vec<u8>, mode: Mode) -> Result<Vec<u8>, Unread> {
+// Puts what a mode makes of a content, or so many of it.
+fn put_changed(
+    out: &mut Vec<u8>,
+    content: &[u8],
+    mode: &str,
+    is_count: bool,
+) -> Result<bool, NoMemory> {
     match mode {
-        Mode::Hex => bytes_of(alloc, content.as_slice()),
-        Mode::Escaped => unescaped(alloc, content.as_slice()),
-        Mode::Open => Ok(opened(content)),
-        Mode::Times(count) => repeated(alloc, content.as_slice(), count),
+        _ if is_count => put_repeated(out, content, number_of(mode)),
+        "hex" => put_hex(out, content),
+        "escaped" => put_unescaped(out, content),
+        "open" => {
+            out.extend_from_slice(content.strip_suffix(b"\n").unwrap_or(content))?;
+            Ok(true)
+        }
+        _ => Ok(false),
     }
 }
 
-/// The bytes of hexadecimal digits, with blanks anywhere.
-pub fn bytes_of(alloc: Global, text: &[u8]) -> Result<Vec<u8>, Unread> {
-    let mut digits = Vec::new(alloc);
+fn put_repeated(out: &mut Vec<u8>, unit: &[u8], count: Option<u64>) -> Result<bool, NoMemory> {
+    let count = count.unwrap_or(u64::MAX);
+    if (unit.len() as u64).max(1).saturating_mul(count) > LIMIT {
+        return Ok(false);
+    }
+    for _ in 0..count {
+        out.extend_from_slice(unit)?;
+    }
+    Ok(true)
+}
+
+/// Puts the bytes of hexadecimal digits, with blanks anywhere.
+pub fn put_hex(out: &mut Vec<u8>, text: &[u8]) -> Result<bool, NoMemory> {
+    let mut high = None;
     for byte in text {
-        if !byte.is_ascii_whitespace() {
-            digits.push(*byte)?;
+        if byte.is_ascii_whitespace() {
+            continue;
+        }
+        let Some(digit) = digit_of(*byte) else {
+            return Ok(false);
+        };
+        match high {
+            None => high = Some(digit),
+            Some(front) => {
+                out.push((front << 4) | digit)?;
+                high = None;
+            }
         }
     }
-    match hex::decode(alloc, digits.as_slice()) {
-        Ok(bytes) => Ok(bytes),
-        Err(FromHexError::OutOfMemory) => Err(Unread::NoMemory),
-        Err(_) => Err(Unread::Malformed),
-    }
+    Ok(high.is_none())
 }
 
-// What stands in front of a byte of an escaped text.
+// What the bytes of an escaped text have come to.
 #[derive(Clone, Copy)]
-enum Front {
-    Nothing,
+enum Read {
+    /// A whole byte.
+    Byte(u8),
     Backslash,
     /// `\x`
     Number,
@@ -120,70 +104,41 @@ enum Front {
     Digit(u8),
 }
 
-/// The text with `\t`, `\r`, `\n`, `\\` and `\x00` for the bytes that they stand for.
-pub fn unescaped(alloc: Global, text: &[u8]) -> Result<Vec<u8>, Unread> {
-    let mut bytes = Vec::new(alloc);
-    let mut front = Front::Nothing;
+/// Puts the text with `\t`, `\r`, `\n`, `\\` and `\x00` for the bytes that they stand for.
+pub fn put_unescaped(out: &mut Vec<u8>, text: &[u8]) -> Result<bool, NoMemory> {
+    let mut read = Read::Byte(0);
     for byte in text {
-        front = read_byte(&mut bytes, front, *byte)?;
+        let Some(next) = read_byte(read, *byte) else {
+            return Ok(false);
+        };
+        if let Read::Byte(whole) = next {
+            out.push(whole)?;
+        }
+        read = next;
     }
-    match front {
-        Front::Nothing => Ok(bytes),
-        _ => Err(Unread::Malformed),
-    }
+    Ok(matches!(read, Read::Byte(_)))
 }
 
-fn read_byte(bytes: &mut Vec<u8>, front: Front, byte: u8) -> Result<Front, Unread> {
-    match front {
-        Front::Nothing if byte == b'\\' => Ok(Front::Backslash),
-        Front::Nothing => put(bytes, byte),
-        Front::Backslash if byte == b'x' => Ok(Front::Number),
-        Front::Backslash => put(bytes, named_byte(byte)?),
-        Front::Number => Ok(Front::Digit(digit_of(byte)?)),
-        Front::Digit(high) => put(bytes, (high << 4) | digit_of(byte)?),
-    }
-}
-
-fn put(bytes: &mut Vec<u8>, byte: u8) -> Result<Front, Unread> {
-    bytes.push(byte)?;
-    Ok(Front::Nothing)
-}
-
-fn named_byte(letter: u8) -> Result<u8, Unread> {
-    match letter {
-        b't' => Ok(b'\t'),
-        b'r' => Ok(b'\r'),
-        b'n' => Ok(b'\n'),
-        b'\\' => Ok(b'\\'),
-        _ => Err(Unread::Malformed),
+fn read_byte(read: Read, byte: u8) -> Option<Read> {
+    match (read, byte) {
+        (Read::Byte(_), b'\\') => Some(Read::Backslash),
+        (Read::Byte(_), _) => Some(Read::Byte(byte)),
+        (Read::Backslash, b'x') => Some(Read::Number),
+        (Read::Backslash, b't') => Some(Read::Byte(b'\t')),
+        (Read::Backslash, b'r') => Some(Read::Byte(b'\r')),
+        (Read::Backslash, b'n') => Some(Read::Byte(b'\n')),
+        (Read::Backslash, b'\\') => Some(Read::Byte(b'\\')),
+        (Read::Backslash, _) => None,
+        (Read::Number, _) => Some(Read::Digit(digit_of(byte)?)),
+        (Read::Digit(high), _) => Some(Read::Byte((high << 4) | digit_of(byte)?)),
     }
 }
 
-fn digit_of(byte: u8) -> Result<u8, Unread> {
+fn digit_of(byte: u8) -> Option<u8> {
     match byte {
-        b'0'..=b'9' => Ok(byte - b'0'),
-        b'A'..=b'F' => Ok(byte - b'A' + 10),
-        b'a'..=b'f' => Ok(byte - b'a' + 10),
-        _ => Err(Unread::Malformed),
+        b'0'..=b'9' => Some(byte - b'0'),
+        b'A'..=b'F' => Some(byte - b'A' + 10),
+        b'a'..=b'f' => Some(byte - b'a' + 10),
+        _ => None,
     }
-}
-
-// Without the line feed at its end.
-fn opened(content: Vec<u8>) -> Vec<u8> {
-    let mut content = content;
-    if content.last() == Some(&b'\n') {
-        let _ = content.pop();
-    }
-    content
-}
-
-fn repeated(alloc: Global, unit: &[u8], count: u64) -> Result<Vec<u8>, Unread> {
-    if (unit.len() as u64).saturating_mul(count) > LIMIT {
-        return Err(Unread::Malformed);
-    }
-    let mut content = Vec::new(alloc);
-    for _ in 0..count {
-        content.extend_from_slice(unit)?;
-    }
-    Ok(content)
 }

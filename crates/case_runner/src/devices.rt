@@ -1,60 +1,77 @@
 //! Devices behind a command, and their states as steps write them.
 
-ghost use Rattle.std.specs.Prelude.{IsTrue};
+ghost use Rattle.std.specs.Prelude.{◌≡◌, ◌≤◌, ◌+◌, ◌%◌, ◌^◌, IsTrue};
 ghost use Rattle.sdt_word.specs.declared.codes.Width.TheVariants.{Word};
 ghost use Rattle.sdt_outside.specs.Devices.{IsWithin};
 
-use crate::cases::{DeviceKind, Seat};
 use sdt_fault::NoMemory;
-use sdt_outside::{Device, DeviceState};
+use sdt_outside::Device;
 use sdt_word::Width;
-use std::alloc::Global;
 
-/// What a command left of the device on a seat: its state, where it wasn't taken out.
-#[derive(Drop)]
+/// A device, and where it stands.
+#[derive(Clone, Copy)]
+pub struct Seat {
+    pub base: u32,
+    pub is_timer: bool,
+    /// The period and the control word with which a timer begins.
+    pub period: u32,
+    pub control: u32,
+    ghost aligned: { base % 4 ≡ 0 },
+    ghost in_space: { base + 16 ≤ 2 ^ 32 },
+}
+
+/// What a command left of the device at an address.
+#[derive(Clone, Copy)]
 pub struct Left {
     pub base: u32,
-    pub state: Option<DeviceState>,
+    pub kind: LeftKind,
+    /// Its words.
+    pub first: u32,
+    pub second: u32,
+    pub third: u32,
+}
+
+#[derive(Clone, Copy)]
+pub enum LeftKind {
+    /// The device was taken out.
+    Gone,
+    TimerUp,
+    TimerDown,
+    Port,
 }
 
 /// What is left of the devices on these seats. It reads them and lets a tick go by, so they are used no more.
-pub fn left_of(
-    alloc: Global,
+pub fn put_left(
+    left: &mut Vec<Left>,
     devices: &mut Vec<Box<dyn Device>>,
     seats: &[Seat],
-) -> Result<Vec<Left>, NoMemory> {
-    let mut left = Vec::new(alloc);
+) -> Result<(), NoMemory> {
     for seat in seats {
-        left.push(Left {
-            base: seat.base,
-            state: state_at(devices, *seat),
-        })?;
+        left.push(left_on(devices, seat))?;
     }
-    Ok(left)
+    Ok(())
 }
 
-fn state_at(devices: &mut Vec<Box<dyn Device>>, seat: Seat) -> Option<DeviceState> {
+fn left_on(devices: &mut Vec<Box<dyn Device>>, seat: &Seat) -> Left {
+    let mut left = Left {
+        base: seat.base,
+        kind: LeftKind::Gone,
+        first: 0,
+        second: 0,
+        third: 0,
+    };
     for device in devices.iter_mut() {
         if device.range().base == seat.base {
-            return Some(state_of(device, seat.kind));
+            left.first = word_at(device, 0);
+            left.second = word_at(device, 4);
+            left.third = word_at(device, 8);
+            left.kind = LeftKind::Port;
+            if seat.is_timer {
+                left.kind = timer_line(device);
+            }
         }
     }
-    None
-}
-
-fn state_of(device: &mut Box<dyn Device>, kind: DeviceKind) -> DeviceState {
-    match kind {
-        DeviceKind::Timer { .. } => DeviceState::TimerState {
-            period: word_at(device, 0),
-            control: word_at(device, 4),
-            count: word_at(device, 8),
-            up: is_line_up(device),
-        },
-        DeviceKind::Uart => DeviceState::UartState {
-            last: word_at(device, 0),
-            number: word_at(device, 4),
-        },
-    }
+    left
 }
 
 // The device's word at an offset, or 0 where it has none.
@@ -75,27 +92,26 @@ fn has_word(device: &Box<dyn Device>, offset: u32) -> bool
 }
 
 // Only a tick tells of a line. The timer is stopped in front of it, so that it raises none.
-fn is_line_up(device: &mut Box<dyn Device>) -> bool {
+fn timer_line(device: &mut Box<dyn Device>) -> LeftKind {
     if has_word(device, 4) {
         device.write(4, Width::Word, 0);
     }
-    device.tick().irq
+    if device.tick().irq {
+        return LeftKind::TimerUp;
+    }
+    LeftKind::TimerDown
 }
 
-/// The state as a step `shows` has it, without the address.
-pub fn push_state(out: &mut String, state: &DeviceState) -> Result<(), NoMemory> {
-    match state {
-        DeviceState::Quiet => out.push_str("silent")?,
-        DeviceState::TimerState {
-            period,
-            control,
-            count,
-            up,
-        } => {
-            let line = if *up { "up" } else { "down" };
-            write!(out, "timer {period} {control} {count} {line}")?;
-        }
-        DeviceState::UartState { last, number } => write!(out, "uart {last} {number}")?,
+/// What is left of a device, as a step `shows` has it, without the address; nothing of one that was taken out.
+pub fn push_left(out: &mut String, left: &Left) -> Result<(), NoMemory> {
+    let first = left.first;
+    let second = left.second;
+    let third = left.third;
+    match left.kind {
+        LeftKind::Gone => {}
+        LeftKind::TimerUp => write!(out, "timer {first} {second} {third} up")?,
+        LeftKind::TimerDown => write!(out, "timer {first} {second} {third} down")?,
+        LeftKind::Port => write!(out, "uart {first} {second}")?,
     }
     Ok(())
 }

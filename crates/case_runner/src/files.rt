@@ -1,9 +1,9 @@
 //! Case files: their cases one after another, and the report on them.
 
-use crate::bench::{Tool, check_case};
-use crate::cases::{Case, Failure, Fault, mismatch};
-use crate::sections::{Mark, Section, sections};
-use crate::steps::read_step;
+use crate::bench::{Bench, Tool, carry_all_out};
+use crate::sections::{Section, body, lines_of, sections};
+use crate::steps::{Step, read_step};
+use crate::told::Told;
 use sdt_fault::{NoMemory, Text};
 use sdt_outside::{Store, StoreError};
 use std::alloc::Global;
@@ -12,196 +12,200 @@ use std::str;
 /// A line for each case that fails, and how many passed and failed.
 #[derive(Drop)]
 pub struct Report {
-    pub text: Vec<u8>,
+    pub text: String,
     pub passed: u64,
     pub failed: u64,
+    // Of the case at hand.
+    told: Told,
 }
 
-/// Carries out the cases of files of a store. A file that can't be read counts as a case that fails.
+impl Report {
+    pub fn new(alloc: Global) -> Report {
+        Report {
+            text: String::new(alloc),
+            passed: 0,
+            failed: 0,
+            told: Told {
+                line: 1,
+                text: String::new(alloc),
+            },
+        }
+    }
+
+    // Counts a case, tells what is wrong with it, and is ready for the next one.
+    fn note(&mut self, file: &str, name: &str) -> Result<(), NoMemory> {
+        if self.told.text.is_empty() {
+            self.passed = self.passed.saturating_add(1);
+        } else {
+            self.failed = self.failed.saturating_add(1);
+            let name = if name.is_empty() { "-" } else { name };
+            let line = self.told.line;
+            let text = self.told.text.as_str();
+            write!(self.text, "{file}:{line}: {name}: {text}\n")?;
+        }
+        self.told.line = 1;
+        self.told.text.clear();
+        Ok(())
+    }
+}
+
+/// Carries out the cases of files of a store, and reports on them. A file that can't be read counts as a case that fails.
 pub fn check_files<T: Tool, S: Store>(
     alloc: Global,
     tool: &T,
     store: &mut S,
     names: &[String],
-) -> Result<Report, NoMemory> {
-    let mut report = Report {
-        text: Vec::new(alloc),
-        passed: 0,
-        failed: 0,
-    };
-    for name in names {
-        let cases = read_cases(alloc, store, name.as_str())?;
-        for case in cases.iter() {
-            let outcome = carried_out(alloc, tool, case);
-            note(
-                alloc,
-                &mut report,
-                name.as_str(),
-                case.name.as_slice(),
-                outcome,
-            )?;
-        }
-    }
-    let Report { passed, failed, .. } = &report;
-    let sum = format!(in alloc; "{passed} passed, {failed} failed\n")?;
-    report.text.extend_from_slice(sum.as_bytes())?;
-    Ok(report)
-}
-
-fn carried_out<T: Tool>(alloc: Global, tool: &T, case: &Case) -> Result<(), Fault> {
-    match &case.unread {
-        Some(failure) => Err(Fault::Failed(copied(alloc, failure)?)),
-        None => check_case(alloc, tool, case),
-    }
-}
-
-fn copied(alloc: Global, failure: &Failure) -> Result<Failure, NoMemory> {
-    Ok(Failure {
-        line: failure.line,
-        wanted: failure.wanted.try_clone(alloc)?,
-        came: failure.came.try_clone(alloc)?,
-    })
-}
-
-// Counts a case, and tells what is wrong with it.
-fn note(
-    alloc: Global,
     report: &mut Report,
-    file: &str,
-    name: &[u8],
-    outcome: Result<(), Fault>,
 ) -> Result<(), NoMemory> {
-    match outcome {
-        Ok(()) => {
-            report.passed = report.passed.saturating_add(1);
-            Ok(())
-        }
-        Err(Fault::NoMemory) => Err(NoMemory),
-        Err(Fault::Failed(failure)) => {
-            report.failed = report.failed.saturating_add(1);
-            tell(alloc, &mut report.text, file, name, &failure)
-        }
+    for name in names {
+        check_file(alloc, tool, store, name.as_str(), report)?;
     }
-}
-
-fn tell(
-    alloc: Global,
-    out: &mut Vec<u8>,
-    file: &str,
-    name: &[u8],
-    failure: &Failure,
-) -> Result<(), NoMemory> {
-    let line = failure.line;
-    out.extend_from_slice(format!(in alloc; "{file}:{line}: ")?.as_bytes())?;
-    out.extend_from_slice(name)?;
-    out.extend_from_slice(b": wanted ")?;
-    out.extend_from_slice(failure.wanted.as_slice())?;
-    out.extend_from_slice(b", came ")?;
-    out.extend_from_slice(failure.came.as_slice())?;
-    out.push(b'\n')?;
+    let passed = report.passed;
+    let failed = report.failed;
+    write!(report.text, "{passed} passed, {failed} failed\n")?;
     Ok(())
 }
 
-// The cases of a file, or one that says why it has none.
-fn read_cases<S: Store>(alloc: Global, store: &mut S, name: &str) -> Result<Vec<Case>, NoMemory> {
-    let file = Text::from_slice(alloc, name.as_bytes())?;
-    let bytes = match store.read(alloc, &file) {
-        Ok(bytes) => bytes,
-        Err(StoreError::NoMemory) => return Err(NoMemory),
-        Err(_) => return no_case(alloc, "a case file"),
-    };
-    match str::from_utf8(bytes.as_slice()) {
-        Ok(text) => cases_of(alloc, text),
-        Err(_) => no_case(alloc, "a text in UTF-8"),
-    }
-}
-
-fn no_case(alloc: Global, wanted: &str) -> Result<Vec<Case>, NoMemory> {
-    let mut cases = Vec::new(alloc);
-    cases.push(unread(alloc, 1, "-", wanted, "none")?)?;
-    Ok(cases)
-}
-
-fn unread(
+fn check_file<T: Tool, S: Store>(
     alloc: Global,
-    line: usize,
-    name: &str,
-    wanted: &str,
-    came: &str,
-) -> Result<Case, NoMemory> {
-    Ok(Case {
-        line,
-        name: Text::from_slice(alloc, name.as_bytes())?,
-        steps: Vec::new(alloc),
-        unread: Some(mismatch(alloc, line, wanted, came)?),
-    })
+    tool: &T,
+    store: &mut S,
+    file: &str,
+    report: &mut Report,
+) -> Result<(), NoMemory> {
+    let name = Text::from_slice(alloc, file.as_bytes())?;
+    let read = store.read(alloc, &name);
+    drop(name);
+    let wanted = match read {
+        Ok(bytes) => {
+            let checked = check_bytes(alloc, tool, file, bytes.as_slice(), report);
+            drop(bytes);
+            checked?
+        }
+        Err(StoreError::NoMemory) => return Err(NoMemory),
+        Err(_) => "a case file",
+    };
+    if !wanted.is_empty() {
+        report.told.differ(wanted, "none")?;
+        report.note(file, "")?;
+    }
+    Ok(())
 }
 
-fn cases_of(alloc: Global, text: &str) -> Result<Vec<Case>, NoMemory> {
-    let mut cases = Vec::new(alloc);
-    for section in sections(alloc, text)?.iter() {
-        match section.mark {
-            Mark::Case => {
-                let case = begun(alloc, &cases, section)?;
-                cases.push(case)?;
-            }
-            Mark::Step => add_step(alloc, &mut cases, section)?,
+// Carries out the cases of a file; where it has none, the result is what was wanted.
+fn check_bytes<T: Tool>(
+    alloc: Global,
+    tool: &T,
+    file: &str,
+    bytes: &[u8],
+    report: &mut Report,
+) -> Result<&'static str, NoMemory> {
+    let Ok(text) = str::from_utf8(bytes) else {
+        return Ok("a text in UTF-8");
+    };
+    let lines = lines_of(alloc, text)?;
+    let sections = sections(alloc, lines.as_slice())?;
+    if sections.is_empty() {
+        return Ok("a case");
+    }
+    check_sections(
+        alloc,
+        tool,
+        file,
+        lines.as_slice(),
+        sections.as_slice(),
+        report,
+    )?;
+    Ok("")
+}
+
+// A case begins at each line that begins one, and at the first step where none does in front of it.
+fn check_sections<'a, T: Tool>(
+    alloc: Global,
+    tool: &T,
+    file: &str,
+    lines: &'a [&'a str],
+    sections: &'a [Section<'a>],
+    report: &mut Report,
+) -> Result<(), NoMemory> {
+    let mut names = Vec::new(alloc);
+    for (at, head) in sections.iter().enumerate() {
+        if at == 0 || head.is_case {
+            let name = name_of(head);
+            let rest = sections.get(at..).unwrap_or(&[]);
+            judge_head(head, name, names.as_slice(), &mut report.told)?;
+            check_case(alloc, tool, &*lines, &*rest, &mut report.told)?;
+            report.note(file, name)?;
+            names.push(name)?;
         }
     }
-    if cases.is_empty() {
-        return no_case(alloc, "a case");
-    }
-    Ok(cases)
+    Ok(())
 }
 
-// A case without steps. Its name ends at the line's first colon with a blank, behind which a sentence stands.
-fn begun(alloc: Global, cases: &[Case], section: &Section) -> Result<Case, NoMemory> {
-    let name = name_of(section.head.as_str());
-    if name.is_empty() {
-        return unread(alloc, section.line, "-", "a name", "none");
+// Its name ends at the line's first colon with a blank, behind which a sentence stands.
+fn name_of<'a>(head: &Section<'a>) -> &'a str {
+    if !head.is_case {
+        return "";
     }
-    if is_taken(cases, name.as_bytes()) {
-        return unread(alloc, section.line, name, "a name of its own", name);
-    }
-    Ok(Case {
-        line: section.line,
-        name: Text::from_slice(alloc, name.as_bytes())?,
-        steps: Vec::new(alloc),
-        unread: None,
-    })
-}
-
-fn name_of(head: &str) -> &str {
-    match head.split_once(": ") {
+    match head.head.split_once(": ") {
         Some((name, _)) => name.trim(),
-        None => head.trim(),
+        None => head.head.trim(),
     }
 }
 
-fn is_taken(cases: &[Case], name: &[u8]) -> bool {
-    cases.iter().any(|case| case.name.as_slice() == name)
+// Tells what is wrong with the line that begins a case.
+fn judge_head(
+    head: &Section<'_>,
+    name: &str,
+    names: &[&str],
+    told: &mut Told,
+) -> Result<(), NoMemory> {
+    told.line = head.line;
+    if !head.is_case {
+        return told.differ("a case in front of its steps", head.head);
+    }
+    if name.is_empty() {
+        return told.differ("a name", "none");
+    }
+    if names.contains(&name) {
+        return told.differ("a name of its own", name);
+    }
+    Ok(())
 }
 
-// Adds a step to the last case, unless a line of the case couldn't be read.
-fn add_step(alloc: Global, cases: &mut Vec<Case>, section: &Section) -> Result<(), NoMemory> {
-    let Some(case) = cases.last_mut() else {
-        let case = unread(
-            alloc,
-            section.line,
-            "-",
-            "a case in front of its steps",
-            section.head.as_str(),
-        )?;
-        cases.push(case)?;
-        return Ok(());
-    };
-    if case.unread.is_some() {
+// Carries out the case that the first of these sections begins, once each of its steps can be read.
+fn check_case<'a, T: Tool>(
+    alloc: Global,
+    tool: &T,
+    lines: &'a [&'a str],
+    sections: &'a [Section<'a>],
+    told: &mut Told,
+) -> Result<(), NoMemory> {
+    let mut step = Step::new(alloc);
+    read_all(alloc, &mut step, lines, sections, told)?;
+    if !told.text.is_empty() {
         return Ok(());
     }
-    match read_step(alloc, section) {
-        Ok(step) => case.steps.push(step)?,
-        Err(Fault::Failed(failure)) => case.unread = Some(failure),
-        Err(Fault::NoMemory) => return Err(NoMemory),
+    let mut bench = Bench::new(alloc);
+    let done = carry_all_out(alloc, tool, &mut bench, &mut step, lines, sections, told);
+    drop(bench);
+    done
+}
+
+// Tells of the first step that can't be read.
+fn read_all<'a>(
+    alloc: Global,
+    step: &mut Step<'a>,
+    lines: &'a [&'a str],
+    sections: &'a [Section<'a>],
+    told: &mut Told,
+) -> Result<(), NoMemory> {
+    for (at, section) in sections.iter().enumerate().skip(1) {
+        if section.is_case || !told.text.is_empty() {
+            return Ok(());
+        }
+        let next = sections.get(at.saturating_add(1));
+        read_step(alloc, step, section, body(lines, section.line, next), told)?;
     }
     Ok(())
 }

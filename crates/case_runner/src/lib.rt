@@ -3,13 +3,15 @@
 #![tactic(auto)]
 
 mod bench;
-mod cases;
 mod contents;
 mod devices;
 mod files;
+mod forms;
 mod sections;
+mod settings;
 mod steps;
-mod words;
+mod told;
+mod wishes;
 
 pub use crate::bench::Tool;
 pub use crate::files::{Report, check_files};

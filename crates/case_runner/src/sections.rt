@@ -3,85 +3,72 @@
 use sdt_fault::NoMemory;
 use std::alloc::Global;
 
-/// What a line begins.
+/// A line that begins a case (`== `) or a step (`-- `), without its mark, and its number.
 #[derive(Clone, Copy)]
-pub enum Mark {
-    /// A line that begins with `== `.
-    Case,
-    /// A line that begins with `-- `.
-    Step,
-}
-
-/// A line that begins a case or a step, without its mark, and the lines behind it.
-#[derive(Drop)]
-pub struct Section {
+pub struct Section<'a> {
     pub line: usize,
-    pub mark: Mark,
-    pub head: String,
-    pub body: Vec<u8>,
+    pub is_case: bool,
+    pub head: &'a str,
 }
 
-/// The sections of a file. Lines in front of the first are left out, and so are blank lines in front of a case and
-/// at the end.
-pub fn sections(alloc: Global, text: &str) -> Result<Vec<Section>, NoMemory> {
+pub fn lines_of<'a>(alloc: Global, text: &'a str) -> Result<Vec<&'a str>, NoMemory> {
+    let mut lines = Vec::new(alloc);
+    for line in text.lines() {
+        lines.push(line)?;
+    }
+    Ok(lines)
+}
+
+/// The sections of a file. Lines in front of the first belong to none.
+pub fn sections<'a>(alloc: Global, lines: &[&'a str]) -> Result<Vec<Section<'a>>, NoMemory> {
     let mut found = Vec::new(alloc);
     let mut number = 0usize;
-    for line in text.lines() {
+    for line in lines {
         number = number.wrapping_add(1);
-        take_line(alloc, &mut found, number, line)?;
+        if let Some(section) = section_of(number, *line) {
+            found.push(section)?;
+        }
     }
-    end_section(&mut found);
     Ok(found)
 }
 
-fn take_line(
-    alloc: Global,
-    found: &mut Vec<Section>,
-    number: usize,
-    line: &str,
-) -> Result<(), NoMemory> {
-    if let Some(head) = line.strip_prefix("== ") {
-        end_section(found);
-        return begin(alloc, found, number, Mark::Case, head);
+fn section_of(line: usize, text: &str) -> Option<Section<'_>> {
+    if let Some(head) = text.strip_prefix("== ") {
+        return Some(Section {
+            line,
+            is_case: true,
+            head,
+        });
     }
-    if let Some(head) = line.strip_prefix("-- ") {
-        return begin(alloc, found, number, Mark::Step, head);
-    }
-    if let Some(section) = found.last_mut() {
-        section.body.extend_from_slice(line.as_bytes())?;
-        section.body.push(b'\n')?;
-    }
-    Ok(())
-}
-
-fn begin(
-    alloc: Global,
-    found: &mut Vec<Section>,
-    line: usize,
-    mark: Mark,
-    head: &str,
-) -> Result<(), NoMemory> {
-    let section = Section {
+    let head = text.strip_prefix("-- ")?;
+    Some(Section {
         line,
-        mark,
-        head: String::from_str(alloc, head)?,
-        body: Vec::new(alloc),
+        is_case: false,
+        head,
+    })
+}
+
+/// The lines behind a section's own, up to the next section. Blank lines in front of a case and at the end are left out.
+pub fn body<'a>(lines: &'a [&'a str], from: usize, next: Option<&Section<'a>>) -> &'a [&'a str] {
+    let end = match next {
+        Some(next) => next.line.saturating_sub(1),
+        None => lines.len(),
     };
-    found.push(section)?;
-    Ok(())
-}
-
-// Takes blank lines off the end of the last section.
-fn end_section(found: &mut Vec<Section>) {
-    if let Some(section) = found.last_mut() {
-        let kept = length_without_blank_end(section.body.as_slice());
-        section.body.truncate(kept);
+    let body = lines.get(from..end).unwrap_or(&[]);
+    match next {
+        Some(next) if !next.is_case => body,
+        _ => body.get(..length_without_blank_end(body)).unwrap_or(body),
     }
 }
 
-fn length_without_blank_end(body: &[u8]) -> usize {
-    match body.iter().rposition(|byte| *byte != b'\n') {
-        None => 0,
-        Some(last) => last.saturating_add(2),
+fn length_without_blank_end(lines: &[&str]) -> usize {
+    let mut length = 0usize;
+    let mut number = 0usize;
+    for line in lines {
+        number = number.wrapping_add(1);
+        if !line.is_empty() {
+            length = number;
+        }
     }
+    length
 }

@@ -2,7 +2,7 @@
 //! cases, each of which must fail; what is told of these is told last.
 #![tactic(auto)]
 
-use case_runner::{Tool, check_files};
+use case_runner::{Report, Tool, check_files};
 use sdt_fault::answer::Answer;
 use sdt_outside::{Device, FileStore, MemorySink, MemoryStore};
 use sdt_toolkit::run_tool;
@@ -56,10 +56,12 @@ fn check(rt: &HostRuntime) -> io::Result<u64> {
 // Tells which cases of these files fail, and gives their number.
 fn report(rt: &HostRuntime, names: &[String]) -> io::Result<u64> {
     let mut files = FileStore::new(rt.clone()?);
-    let Ok(report) = check_files(rt.alloc(), &Toolkit, &mut files, names) else {
+    let mut report = Report::new(rt.alloc());
+    let checked = check_files(rt.alloc(), &Toolkit, &mut files, names, &mut report);
+    drop(files);
+    if checked.is_err() {
         return Err(io::ErrorKind::OutOfMemory.into());
-    };
-    let mut output = rt.stdout();
-    output.write_all(report.text.as_slice())?;
+    }
+    rt.stdout().write_all(report.text.as_bytes())?;
     Ok(report.failed)
 }

@@ -1,1 +1,0 @@
--- No clause of this crate cites a definition of its own.
