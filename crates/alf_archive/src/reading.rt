@@ -179,7 +179,9 @@ fn add_entry<'a>(
         return Ok(());
     }
     let member = read_member(alloc, b, spans, taken, at, text, slot)?;
-    *left = left.checked_sub(bytes_of_object(&member.object)).ok_or(NoMemory)?;
+    *left = left
+        .checked_sub(bytes_of_object(&member.object))
+        .ok_or(NoMemory)?;
     members.push(member)?;
     Ok(())
 }

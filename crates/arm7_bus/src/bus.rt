@@ -33,7 +33,7 @@ use sdt_word::{Range32, Width};
 use std::alloc::Global;
 
 /// No bank and no device has the whole access.
-#[derive(Clone, Copy)]
+#[derive(Clone, Copy, PartialEq, Eq)]
 pub struct Absent;
 
 /// There is no device of this number.
@@ -41,7 +41,7 @@ pub struct Absent;
 pub struct NoDevice;
 
 /// More pages would be used than there are frames.
-#[derive(Clone, Copy)]
+#[derive(Clone, Copy, PartialEq, Eq)]
 pub struct PagesFull;
 
 /// Two devices have this address, the least that two of them have. The devices are handed back.

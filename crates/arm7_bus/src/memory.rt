@@ -23,7 +23,7 @@ pub struct Bank {
 }
 
 /// Why a store isn't made.
-#[derive(Clone, Copy)]
+#[derive(Clone, Copy, PartialEq, Eq)]
 pub enum BusFault {
     /// No bank and no device has the whole access.
     Absent,

@@ -3,7 +3,7 @@
 ghost use Rattle.std.specs.Prelude.{◌≤◌, ◌+◌, ◌^◌};
 
 /// The `size` addresses from `base` on; it ends at 2^32 or below, and is empty at size 0.
-#[derive(Clone, Copy)]
+#[derive(Clone, Copy, PartialEq, Eq)]
 pub struct Range32 {
     pub base: u32,
     pub size: u64,
