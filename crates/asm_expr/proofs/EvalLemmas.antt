@@ -1,5 +1,7 @@
 -- Stacks of operands.
-use Rattle.std.proofs.Common.{◌≡◌, ℕ, suc, List, [], ◌∷◌, ◌++◌, refl, sym, ◌∙◌, ap, Some, append_assoc, append-nil}
+use Rattle.std.proofs.Common.{◌≡◌, ℕ, suc, ◌+◌, ◌<◌, ◌≤◌, List, [], ◌∷◌, ◌++◌, length, drop, get_or, arith, refl, sym, ◌∙◌, ap, Some, append_assoc, append-nil}
+use Rattle.std.proofs.lemmas.List.{drop_more}
+use Rattle.std.proofs.Math.ListN.{drop_of_length-le}
 use Rattle.std.specs.Prelude.{Result}
 use Rattle.sdt_fault.specs.declared.kinds.LineKind.{LineKind}
 use Rattle.asm_model.specs.declared.values.Value.{Value}
@@ -8,7 +10,7 @@ use Rattle.asm_model.specs.declared.exprs.ExprItem.{ExprItem}
 use Rattle.asm_model.specs.declared.exprs.ExprItem.TheVariants as item
 use Rattle.asm_model.specs.declared.exprs.Part.{Part}
 use Rattle.asm_model.specs.Grammar.{Tree, postfix, plain, Spells, operand, of_name, before, grouped, between, tighter, IsSpelled}
-use Rattle.asm_model.specs.Meaning.{Operand, operand_of_item, operand_of_tree, meaning}
+use Rattle.asm_model.specs.Meaning.{Operand, known, operand_of_item, operand_of_tree, meaning}
 use Rattle.asm_expr.specs.Evaluating.{act, run, ended}
 use Rattle.asm_model.proofs.TreeLemmas.{plain_operand}
 
@@ -22,6 +24,34 @@ act_plain names item.Map s e = refl
 act_plain names item.CodeSize s e = refl
 act_plain names (item.Unary op) s e = absurd (cc)
 act_plain names (item.Binary op) s e = absurd (cc)
+
+-- an item alone leaves its operand
+ended_alone : (names : Names) (i : ExprItem) → ended (act names i []) ≡ known (operand_of_item names i)
+ended_alone names (item.Name n) = refl
+ended_alone names (item.Local n) = refl
+ended_alone names (item.Constant v) = refl
+ended_alone names item.TooLarge = refl
+ended_alone names item.Here = refl
+ended_alone names item.Map = refl
+ended_alone names item.CodeSize = refl
+ended_alone names (item.Unary op) = refl
+ended_alone names (item.Binary op) = refl
+
+pub one_item : (names : Names) (items : List ExprItem) (x : ExprItem) → 1 ≤ length items → length items < 2 → x ≡ get_or items 0 x
+    → ended (run names items []) ≡ known (operand_of_item names x)
+one_item names [] x h l e = absurd (omega arith)
+one_item names (y ∷ []) x h l e = ended_alone names y ∙ ap (λ (i : ExprItem). known (operand_of_item names i)) (sym e)
+one_item names (y ∷ z ∷ zs) x h l e = absurd (omega arith)
+
+-- the stack after one item more, and after the last
+pub run_step : (names : Names) (items : List ExprItem) (i : ℕ) (x : ExprItem) (s n all : List Operand) → i < length items → x ≡ get_or items i x
+    → n ≡ act names x s → run names (drop i items) s ≡ all → run names (drop (i + 1) items) n ≡ all
+run_step names items i x s n all h e a inv =
+    let cons : drop i items ≡ x ∷ drop (i + 1) items = drop_more items i x h ∙ ap (λ (y : ExprItem). y ∷ drop (i + 1) items) (sym e) in
+    rw a (rw cons at inv)
+
+pub run_end : (names : Names) (items : List ExprItem) (i : ℕ) (s all : List Operand) → length items ≤ i → run names (drop i items) s ≡ all → s ≡ all
+run_end names items i s all h inv = let none : drop i items ≡ [] = drop_of_length-le items h in rw none at inv
 
 -- the items of a tree put its operand on the stack
 run_tree : (names : Names) (l : ℕ) (ps : List Part) (t : Tree) → Spells l ps t → (rest : List ExprItem) (s : List Operand)

@@ -1,7 +1,9 @@
 pub mod DigitLemmas
 pub mod DirectiveLemmas
 pub mod EvalLemmas
+mod FormLemmas
 mod KnownLemmas
+mod MadeLemmas
 pub mod NameLemmas
 pub mod OperandLemmas
 pub mod ParseLaws
@@ -10,5 +12,6 @@ pub mod ReadingLemmas
 pub mod RegisterLemmas
 pub mod RowLemmas
 pub mod SayingLemmas
+mod SlotLemmas
 pub mod Spelled
 pub mod StackLemmas

@@ -1,5 +1,5 @@
 -- Readings of operands, one after another.
-use Rattle.std.proofs.Common.{◌≡◌, ℕ, List, [], ◌∷◌, ◌++◌, ◌||◌, Bool, true, false, refl, sym, ◌∙◌, ap, append_assoc, Option, Some, None}
+use Rattle.std.proofs.Common.{◌≡◌, ℕ, ◌<◌, ◌≤◌, ◌-◌, length, take, drop, get_or, arith, subst, List, [], ◌∷◌, ◌++◌, ◌||◌, Bool, true, false, refl, sym, ◌∙◌, ap, append_assoc, Option, Some, None}
 use Rattle.std.specs.Prelude.{Result, Ok, Err}
 use Rattle.std.specs.List.{list_any}
 use Rattle.sdt_fault.specs.declared.kinds.LineKind.{LineKind}
@@ -10,13 +10,16 @@ use Rattle.asm_model.specs.declared.directives.AreaAttributes.{AreaAttributes}
 use Rattle.asm_model.specs.declared.directives.Attribute.{Attribute}
 use Rattle.asm_model.specs.Areas.{attributes_in, attribute_in, is_bad_word, attributes_of, listed, joined, ReadsAttribute, ReadsAttributes}
 use Rattle.asm_model.specs.Grammar.{ParsesTokens}
-use Rattle.asm_model.specs.Operands.{operands_at, lengthened}
+use Rattle.asm_model.specs.Operands.{operands, operands_at, lengthened}
 use Rattle.asm_model.specs.Readings.{mapped, on_both}
-use Rattle.asm_model.specs.Says.{Expressions, Aligned}
-use Rattle.asm_expr.specs.AreaSteps.{ReadsBehind, has_bad_word_in, with_alignment}
+use Rattle.asm_model.specs.Says.{Expressions, Aligned, Area, import_of, name_alone}
+use Rattle.asm_model.specs.declared.directives.DirectiveLine.{DirectiveLine}
+use Rattle.asm_model.specs.declared.directives.DirectiveLine.TheVariants as line
+use Rattle.asm_expr.specs.AreaSteps.{ReadsBehind, operands_behind, has_bad_word_in, with_alignment}
 use Rattle.asm_expr.specs.Steps.{CutsOperands}
 use Rattle.asm_expr.proofs.OperandLemmas.{begins}
 use Rattle.asm_model.proofs.KindLemmas.{both_assoc}
+use Rattle.std.proofs.Math.Seq.{take-length}
 
 nothing_behind : (s : Result (List Expr) LineKind) (e : Result Expr LineKind)
     → on_both (λ es fs. es ++ fs) s (on_both (λ x xs. x ∷ xs) e (Ok [])) ≡ on_both (λ es x. es ++ x ∷ []) s e
@@ -139,9 +142,33 @@ pub other_end : (text : List ℕ) (all : Bool) (left o : List Token) (s n : Bool
 other_end text all left o s n cut more inv =
     more ∙ sym (or_nothing s (is_bad_word text o)) ∙ ap (λ x. s || list_any (is_bad_word text) x) (sym cut) ∙ inv
 
+-- a name and attributes, and no operands
+pub area_read : (text : List ℕ) (ts first : List Token) (behind : Option (List Token)) (n : Result (List ℕ) LineKind) (a : Result AreaAttributes LineKind)
+    (r : Result DirectiveLine LineKind)
+    → 0 < length ts → CutsOperands text ts first behind → n ≡ name_alone text first → ReadsBehind text (operands_behind text behind) a
+    → r ≡ on_both (λ n a. line.Area n a) n a → Area text (operands text ts) r
+area_read text [] first behind n a r h cut en reads er = absurd (omega arith)
+area_read text (t ∷ ts) first None n a r h cut en reads er =
+    subst (λ os. Area text os r) (sym cut) (reads.0, reads.1, er ∙ rw (en, reads.2) refl)
+area_read text (t ∷ ts) first (Some rest) n a r h cut en reads er =
+    subst (λ os. Area text os r) (sym cut.0) (reads.0, reads.1, er ∙ rw (en, reads.2) refl)
+
+pub no_area : (text : List ℕ) (ts : List Token) → length ts ≡ 0 → Area text (operands text ts) (Err Syntax)
+no_area text [] e = refl
+no_area text (t ∷ ts) e = absurd (omega arith)
+
 -- the attributes behind the name of an area
 pub attributes_behind : (text : List ℕ) (os : List (List Token)) (words : List Attribute) (other : Bool) (alignments : Result (List Expr) LineKind)
     (r : Result AreaAttributes LineKind)
     → words ≡ attributes_in text os → other ≡ list_any (is_bad_word text) os → ReadsAttributes text os alignments
     → r ≡ mapped (attributes_of words (has_bad_word_in words other)) alignments → ReadsBehind text os r
 attributes_behind text os words other alignments r ew eo reads e = (alignments, reads, rw (e, ew, eo) refl)
+
+-- a name with what stands behind it, and no tokens
+pub first_and_rest : {A : Type 0} (ts : List A) (d : A) → 1 ≤ length ts → get_or ts 0 d ∷ take (length ts - 1) (drop 1 ts) ≡ ts
+first_and_rest [] d h = absurd (omega arith)
+first_and_rest (t ∷ ts) d h = let n : length (t ∷ ts) - 1 ≡ length ts = omega arith in rw (n, take-length) refl
+
+pub no_import : (text : List ℕ) (ts : List Token) → length ts < 1 → Err Syntax ≡ import_of text ts
+no_import text [] h = refl
+no_import text (t ∷ ts) h = absurd (omega arith)

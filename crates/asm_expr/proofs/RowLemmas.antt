@@ -1,8 +1,10 @@
 -- Rows with names: those that can't be the name of a word are left out.
-use Rattle.std.proofs.Common.{◌≡◌, ◌≢◌, ℕ, suc, List, [], ◌∷◌, ◌++◌, length, map, Bool, true, false, cond, refl, sym, ◌∙◌, ap, Option, Some, None}
+use Rattle.std.proofs.Common.{◌≡◌, ◌≢◌, ℕ, suc, ◌+◌, ◌<◌, ◌≤◌, List, [], ◌∷◌, ◌++◌, length, drop, get_or, map, Bool, true, false, cond, refl, sym, ◌∙◌, ap, Option, Some, None}
 use Rattle.std.specs.Prelude.{◌==◌}
 use Rattle.std.specs.Char.{to_ascii_lowercase}
 use Rattle.std.proofs.lemmas.Bool.{and_left, and_right, cond-false}
+use Rattle.std.proofs.lemmas.List.{drop_more}
+use Rattle.std.proofs.Math.ListN.{drop_of_length-le}
 use Rattle.asm_model.specs.Forms.{same}
 use Rattle.asm_model.specs.Tokens.{is_called}
 use Rattle.asm_model.specs.Directives.{row_of, or_else}
@@ -79,3 +81,22 @@ appended word (x ∷ xs) ys = chosen (is_called x.0 word) (appended word xs ys)
         → cond b (Some x.1) (row_of word (xs ++ ys)) ≡ or_else (cond b (Some x.1) (row_of word xs)) (row_of word ys)
     chosen true h = refl
     chosen false h = h
+
+-- the rows behind one that isn't the word's, and one that is
+pub row_step : {A T : Type 0} (f : A → List ℕ × T) (word : List ℕ) (xs : List A) (i : ℕ) (x : A) (b : Bool) (all : Option T) → i < length xs
+    → x ≡ get_or xs i x → b ≡ is_called (f x).0 word → b ≡ false → row_of word (map f (drop i xs)) ≡ all → row_of word (map f (drop (i + 1) xs)) ≡ all
+row_step f word xs i x b all h e t eb inv =
+    let cons : drop i xs ≡ x ∷ drop (i + 1) xs = drop_more xs i x h ∙ ap (λ y. y ∷ drop (i + 1) xs) (sym e) in
+    let other : is_called (f x).0 word ≡ false = sym t ∙ eb in
+    rw (cons, other) at inv
+
+pub row_found : {A T : Type 0} (f : A → List ℕ × T) (word : List ℕ) (xs : List A) (i : ℕ) (x : A) (b : Bool) (all : Option T) → i < length xs
+    → x ≡ get_or xs i x → b ≡ is_called (f x).0 word → b ≡ true → row_of word (map f (drop i xs)) ≡ all → Some (f x).1 ≡ all
+row_found f word xs i x b all h e t eb inv =
+    let cons : drop i xs ≡ x ∷ drop (i + 1) xs = drop_more xs i x h ∙ ap (λ y. y ∷ drop (i + 1) xs) (sym e) in
+    let this : is_called (f x).0 word ≡ true = sym t ∙ eb in
+    rw (cons, this) at inv
+
+pub row_missing : {A T : Type 0} (f : A → List ℕ × T) (word : List ℕ) (xs : List A) (i : ℕ) (all : Option T) → length xs ≤ i
+    → row_of word (map f (drop i xs)) ≡ all → None ≡ all
+row_missing f word xs i all h inv = let none : drop i xs ≡ [] = drop_of_length-le xs h in rw none at inv

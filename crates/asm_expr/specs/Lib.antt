@@ -2,6 +2,7 @@
 pub mod AreaSteps
 pub mod Beginnings
 pub mod Evaluating
+pub mod FormSteps
 pub mod Known
 pub mod Parsing
 pub mod Places

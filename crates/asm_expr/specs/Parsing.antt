@@ -47,6 +47,10 @@ closed items (held.Open ∷ hs) = Some (record { due = stage.Operator; items = i
 closed items (held.Before op ∷ hs) = None
 closed items (held.Between op ∷ hs) = None
 
+-- what waits for an operand
+abbrev pub held_back : List ExprItem → Held → List Held → State
+held_back items h hs = record { due = stage.Operand; items = items; stack = h ∷ hs }
+
 -- an operand
 abbrev pub put : List ExprItem → List Held → Option ExprItem → Option State
 put items hs None = None
@@ -61,6 +65,11 @@ on_operand items hs (part.OfName op) = Some (record { due = stage.Name op; items
 on_operand items hs (part.Infix op) = None
 on_operand items hs (part.Sum u b) = Some (record { due = stage.Operand; items = items; stack = held.Before u ∷ hs })
 on_operand items hs part.Other = None
+
+-- whether an item is a name
+abbrev pub is_name : ExprItem → Bool
+is_name (item.Name name) = true
+is_name _ = false
 
 abbrev pub on_named : UnaryOp → List ExprItem → List Held → ExprItem → Option State
 on_named op items hs (item.Name name) =

@@ -9,6 +9,7 @@ ghost use Rattle.asm_expr.specs.AreaSteps.{ReadsAlignment, TakesAttribute, IsWri
 ghost use Rattle.asm_expr.specs.AreaSteps.{operands_behind, has_bad_word_in, with_alignment};
 
 use crate::kinds::both;
+use crate::listing::with_last;
 use crate::operands::{first_operand, is};
 use crate::or_kind;
 use crate::parts::piece_of;
@@ -231,11 +232,10 @@ fn read_attribute(
 fn with_listed<T: Drop>(list: List<T>, more: Option<T>) -> Result<List<T>, NoMemory>
     ensures { IfOk result (λ all. all ≡ list ++ areas.listed more) }
 {
-    let mut items = list.into_vec();
-    if let Some(item) = more {
-        items.push(item)?;
+    match more {
+        None => Ok(list),
+        Some(item) => with_last(list, item),
     }
-    Ok(List::from_vec(items))
 }
 
 /// The numbers of alignments, with what one operand more reads as.
@@ -250,7 +250,7 @@ fn with_alignment(
 }
 
 /// Attributes as they are written: their words, and the numbers of alignments among them.
-#[derive(Debug, Drop)]
+#[derive(Drop)]
 pub struct Written {
     pub words: Vec<Attribute>,
     /// Whether an operand is no attribute.

@@ -1,19 +1,25 @@
 //! The directive of a line and its operands, as they read.
 
-ghost use Rattle.std.specs.Prelude.{◌≡◌, ◌∷◌, IfOk};
+ghost use Rattle.std.specs.Prelude.{◌≡◌, ◌∷◌, IfOk, if◌then◌else◌};
 ghost use Rattle.asm_model.specs.declared.tokens.TokenKind.TheVariants as kind;
 ghost use Rattle.asm_model.specs.declared.directives.Directive.TheVariants as directive_is;
 ghost use Rattle.asm_model.specs.Directives as directives;
 ghost use Rattle.asm_model.specs.Forms as forms;
 ghost use Rattle.asm_model.specs.Parts as parts;
 ghost use Rattle.asm_model.specs.Says as says;
+ghost use Rattle.asm_model.specs.declared.directives.DirectiveLine.TheVariants as line_is;
+ghost use Rattle.asm_model.specs.Readings.{mapped};
+ghost use Rattle.asm_expr.specs.FormSteps.{expression_in, ReadsExpression};
 ghost use Rattle.asm_expr.specs.SentenceSteps.{sentence_of};
 
 use crate::directive_names::directive_named;
+use crate::or_kind;
 use crate::parts::{piece_of, shared_inside, shared_piece};
 use crate::read::shared_expression;
 use crate::readings::{area, bare, boundary, expressions, import, name_alone, register};
-use asm_model::{DataItem, Directive, DirectiveLine, LabelNeed, SharedText, Token, TokenKind};
+use asm_model::{
+    DataItem, Directive, DirectiveLine, Expr, LabelNeed, SharedText, Token, TokenKind,
+};
 use sdt_fault::NoMemory;
 use sdt_fault::kinds::LineKind;
 use std::alloc::Global;
@@ -128,7 +134,7 @@ pub fn label_field(
 }
 
 /// The tokens of a line.
-#[derive(Clone, Copy, Debug)]
+#[derive(Clone, Copy)]
 pub struct Sentence<'a> {
     pub label: Option<Token>,
     pub operation: Option<Token>,
@@ -168,16 +174,6 @@ pub fn parts_of(tokens: &[Token]) -> Sentence<'_>
     }
 }
 
-/// A line that is made of what was read, or the fault of the reading.
-macro_rules! made {
-    ($reading:expr, $read:pat => $line:expr) => {
-        match $reading {
-            Ok($read) => Ok(Ok($line)),
-            Err(kind) => Ok(Err(kind)),
-        }
-    };
-}
-
 /// The operands of a directive that says data.
 fn constants(
     alloc: Global,
@@ -189,7 +185,95 @@ fn constants(
         (λ line. says.Reads text.now (says.form_of_directive (directive_is.Constants item)) tokens.now
         line) }
 {
-    made!(expressions(alloc, text, tokens)?, values => DirectiveLine::Constants { item, values })
+    let values = or_kind!(expressions(alloc, text, tokens)?);
+    Ok(Ok(DirectiveLine::Constants { item, values }))
+}
+
+/// A name as the operand of EXPORT or of KEEP.
+fn named(
+    text: &SharedText,
+    keeps: bool,
+    tokens: &[Token],
+) -> Result<Result<DirectiveLine, LineKind>, NoMemory>
+    ensures { IfOk result
+        (λ line. line ≡ mapped (λ n. if keeps then line_is.Keep n else line_is.Export n)
+        (says.name_alone text.now tokens.now)) }
+{
+    let name = or_kind!(name_alone(text, tokens)?);
+    if keeps {
+        return Ok(Ok(DirectiveLine::Keep { name }));
+    }
+    Ok(Ok(DirectiveLine::Export { name }))
+}
+
+/// A name and its mark as the operands of IMPORT or of EXTERN.
+fn imported(
+    text: &SharedText,
+    is_extern: bool,
+    tokens: &[Token],
+) -> Result<Result<DirectiveLine, LineKind>, NoMemory>
+    ensures { IfOk result
+        (λ line. line
+        ≡ mapped (λ i. if is_extern then line_is.Extern i.0 i.1 else line_is.Import i.0 i.1)
+        (says.import_of text.now tokens.now)) }
+{
+    let (name, mark) = or_kind!(import(text, tokens)?);
+    if is_extern {
+        return Ok(Ok(DirectiveLine::Extern { name, mark }));
+    }
+    Ok(Ok(DirectiveLine::Import { name, mark }))
+}
+
+/// The line of a directive whose operand is an expression; Syntax of another directive.
+fn of_expression(directive: Directive, expression: Expr) -> Result<DirectiveLine, LineKind>
+    ensures { result ≡ expression_in (says.form_of_directive directive) expression }
+{
+    match directive {
+        Directive::Equ => Ok(DirectiveLine::Equ { value: expression }),
+        Directive::Assert => Ok(DirectiveLine::Assert {
+            condition: expression,
+        }),
+        Directive::Opt => Ok(DirectiveLine::Opt {
+            options: expression,
+        }),
+        Directive::Space => Ok(DirectiveLine::Space { size: expression }),
+        Directive::Map => Ok(DirectiveLine::Map { value: expression }),
+        Directive::Field => Ok(DirectiveLine::Field { size: expression }),
+        Directive::Area
+        | Directive::Entry
+        | Directive::End
+        | Directive::Export
+        | Directive::Import
+        | Directive::Extern
+        | Directive::Keep
+        | Directive::Rn
+        | Directive::Rout
+        | Directive::Nofp
+        | Directive::Ttl
+        | Directive::Subt
+        | Directive::Constants(_)
+        | Directive::Align
+        | Directive::Ltorg
+        | Directive::Data
+        | Directive::Code16
+        | Directive::Code32
+        | Directive::FloatingPoint
+        | Directive::Expansion => Err(LineKind::Syntax),
+    }
+}
+
+/// An expression as the operand of a directive.
+fn with_expression(
+    alloc: Global,
+    text: &SharedText,
+    directive: Directive,
+    tokens: &[Token],
+) -> Result<Result<DirectiveLine, LineKind>, NoMemory>
+    ensures { IfOk result
+        (λ line. ReadsExpression text.now (says.form_of_directive directive) tokens.now line) }
+{
+    let expression = or_kind!(shared_expression(alloc, text, tokens)?);
+    Ok(of_expression(directive, expression))
 }
 
 /// What the operands of a directive read as.
@@ -207,45 +291,25 @@ fn reading(
         Directive::Area => area(alloc, text, tokens),
         Directive::Entry => Ok(bare(DirectiveLine::Entry, tokens)),
         Directive::End => Ok(bare(DirectiveLine::End, tokens)),
-        Directive::Export => {
-            made!(name_alone(text, tokens)?, name => DirectiveLine::Export { name })
-        }
-        Directive::Import => {
-            made!(import(text, tokens)?, (name, mark) => DirectiveLine::Import { name, mark })
-        }
-        Directive::Extern => {
-            made!(import(text, tokens)?, (name, mark) => DirectiveLine::Extern { name, mark })
-        }
-        Directive::Keep => {
-            made!(name_alone(text, tokens)?, name => DirectiveLine::Keep { name })
-        }
-        Directive::Equ => {
-            made!(shared_expression(alloc, text, tokens)?, value => DirectiveLine::Equ { value })
-        }
+        Directive::Export => named(text, false, tokens),
+        Directive::Import => imported(text, false, tokens),
+        Directive::Extern => imported(text, true, tokens),
+        Directive::Keep => named(text, true, tokens),
+        Directive::Equ => with_expression(alloc, text, directive, tokens),
         Directive::Rn => register(alloc, text, tokens),
         Directive::Rout => Ok(bare(DirectiveLine::Rout, tokens)),
-        Directive::Assert => {
-            made!(shared_expression(alloc, text, tokens)?, condition => DirectiveLine::Assert { condition })
-        }
+        Directive::Assert => with_expression(alloc, text, directive, tokens),
         Directive::Nofp => Ok(bare(DirectiveLine::Nofp, tokens)),
-        Directive::Opt => {
-            made!(shared_expression(alloc, text, tokens)?, options => DirectiveLine::Opt { options })
-        }
+        Directive::Opt => with_expression(alloc, text, directive, tokens),
         Directive::Ttl => Ok(bare(DirectiveLine::Ttl, tokens)),
         Directive::Subt => Ok(bare(DirectiveLine::Subt, tokens)),
         Directive::Constants(item) => constants(alloc, text, item, tokens),
-        Directive::Space => {
-            made!(shared_expression(alloc, text, tokens)?, size => DirectiveLine::Space { size })
-        }
+        Directive::Space => with_expression(alloc, text, directive, tokens),
         Directive::Align => boundary(alloc, text, tokens),
         Directive::Ltorg => Ok(bare(DirectiveLine::Ltorg, tokens)),
         Directive::Data => Ok(bare(DirectiveLine::Data, tokens)),
-        Directive::Map => {
-            made!(shared_expression(alloc, text, tokens)?, value => DirectiveLine::Map { value })
-        }
-        Directive::Field => {
-            made!(shared_expression(alloc, text, tokens)?, size => DirectiveLine::Field { size })
-        }
+        Directive::Map => with_expression(alloc, text, directive, tokens),
+        Directive::Field => with_expression(alloc, text, directive, tokens),
         Directive::Code16 => Ok(bare(DirectiveLine::Code16, tokens)),
         Directive::Code32 => Ok(bare(DirectiveLine::Code32, tokens)),
         Directive::FloatingPoint => Ok(Err(LineKind::FloatingPoint)),

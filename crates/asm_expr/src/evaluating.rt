@@ -1,6 +1,6 @@
 //! The value of an expression with a list of names.
 
-ghost use Rattle.std.specs.Prelude.{◌≡◌, IfOk};
+ghost use Rattle.std.specs.Prelude.{◌≡◌, ◌++◌, IfOk, OnOk};
 ghost use Rattle.asm_model.specs.Meaning.{Evaluates};
 
 use crate::known::{KnownNames, add_entry};
@@ -39,15 +39,23 @@ fn entry_copy(alloc: Global, entry: &LaidName) -> Result<LaidName, NoMemory>
     })
 }
 
+/// Copies of names, behind those that are there.
+fn add_copies(alloc: Global, list: &[LaidName], names: &mut KnownNames) -> Result<(), NoMemory>
+    ensures { OnOk result (names.new ≡ names.old ++ list.now) }
+{
+    'names: for entry in list {
+        let copy = entry_copy(alloc, entry)?;
+        add_entry(alloc, names, Some(copy))?;
+    }
+    Ok(())
+}
+
 /// Copies of names, with an index.
 fn indexed(alloc: Global, list: &[LaidName]) -> Result<KnownNames, NoMemory>
     ensures { IfOk result (λ names. names ≡ list.now) }
 {
     let mut names = KnownNames::new(alloc);
-    'names: for entry in list {
-        let copy = entry_copy(alloc, entry)?;
-        add_entry(alloc, &mut names, Some(copy))?;
-    }
+    add_copies(alloc, list, &mut names)?;
     Ok(names)
 }
 

@@ -61,6 +61,32 @@ fn note(
     Ok(new)
 }
 
+/// One item more, with a note of its name, and whether the name is new. An `Err` changes nothing.
+fn put_noted<T: Drop>(
+    items: &mut Vec<T>,
+    item: T,
+    places: &mut IndexMap<SharedText, u32>,
+    name: SharedText,
+    place: u32,
+) -> Result<bool, NoMemory>
+    ensures new { IfOk result (λ new. new ≡ not (is_some (place_in places.old name))) }
+    ensures more { OnOk result (items.new.items ≡ items.old.items ++ item ∷ []) }
+    ensures noted { OnOk result ((q : List ℕ) → place_in places.new q
+        ≡ or_number (place_in places.old q) name place q) }
+    ensures kept { OnErr result (items.new.items ≡ items.old.items) }
+    ensures unchanged { OnErr result ((q : List ℕ) → place_in places.new q
+        ≡ place_in places.old q) }
+{
+    items.push(item)?;
+    match note(places, name, place) {
+        Ok(new) => Ok(new),
+        Err(e) => {
+            drop(items.pop());
+            Err(e)
+        }
+    }
+}
+
 /// One entry more, with its place, and whether its name is new. An `Err` changes nothing.
 fn put(
     alloc: Global,
@@ -78,14 +104,7 @@ fn put(
         ≡ place_in places.old q) }
 {
     let name = entry.name.share()?;
-    entries.push(entry)?;
-    match note(places, name, place) {
-        Ok(new) => Ok(new),
-        Err(e) => {
-            entries.pop();
-            Err(e)
-        }
-    }
+    put_noted(entries, entry, places, name, place)
 }
 
 /// The entry at a place.

@@ -12,6 +12,7 @@ pub mod directives;
 pub mod evaluating;
 pub mod kinds;
 pub mod known;
+mod listing;
 pub mod names;
 pub mod operands;
 pub mod operators;

@@ -2,21 +2,14 @@
 
 ghost use Rattle.std.specs.Prelude.{◌≡◌, ◌++◌};
 ghost use Rattle.std.specs.Option.{option_copied};
-ghost use Rattle.asm_model.specs.Forms.{same};
 ghost use Rattle.asm_model.specs.Meaning.{named_in};
 ghost use Rattle.asm_expr.specs.Places.{one_entry, AreFirst};
 ghost use Rattle.asm_expr.specs.Seeing.{seen_names};
 
 use crate::known::entry_in;
+use crate::operands::is;
 use crate::seen::Seen;
 use asm_model::{LaidName, SharedText};
-
-/// Whether two slices are equal.
-fn is(a: &[u8], b: &[u8]) -> bool
-    ensures { result ≡ same a.now b.now }
-{
-    a == b
-}
 
 /// An entry, where it has the name.
 fn own_named<'a>(own: Option<&'a LaidName>, name: &SharedText) -> Option<&'a LaidName>

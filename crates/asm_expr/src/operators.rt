@@ -1,6 +1,6 @@
 //! The operators on values.
 
-ghost use Rattle.std.specs.Prelude.{◌≡◌, ◌<◌, IfOk, Ok, true};
+ghost use Rattle.std.specs.Prelude.{◌≡◌, ◌<◌, IfOk, Ok, true, codes, if◌then◌else◌};
 ghost use Rattle.std.specs.Fmt.{digit_glyph};
 ghost use Rattle.sdt_fault.specs.Digits.{hexadecimal_places};
 ghost use Rattle.asm_model.specs.declared.exprs.UnaryOp.TheVariants as unary;
@@ -373,6 +373,76 @@ fn string_of(alloc: Global, n: u32) -> Result<Result<Bytes, LineKind>, NoMemory>
     Ok(Ok(Bytes::from_slice(alloc, &[n as u8])?))
 }
 
+/// An operator before a number.
+fn before_number(alloc: Global, op: UnaryOp, n: u32) -> Result<Result<Value, LineKind>, NoMemory>
+    ensures { IfOk result (λ v. v ≡ meaning.unary_of op (value.Number n)) }
+{
+    match op {
+        UnaryOp::Plus => Ok(Ok(Value::Number(n))),
+        UnaryOp::Minus => Ok(Ok(Value::Number(0u32.wrapping_sub(n)))),
+        UnaryOp::Not => Ok(Ok(Value::Number(u32::MAX - n))),
+        UnaryOp::Character => Ok(as_words(string_of(alloc, n)?)),
+        UnaryOp::String => {
+            let words = Bytes::from_slice(alloc, &hexadecimal(n))?;
+            Ok(Ok(Value::Words(words)))
+        }
+        UnaryOp::LogicalNot | UnaryOp::Length | UnaryOp::Size | UnaryOp::Defined => {
+            Ok(Err(LineKind::WrongType))
+        }
+    }
+}
+
+/// The letter of a truth value.
+fn truth_letter(truth: bool) -> &'static [u8]
+    ensures { result.now ≡ (if truth then codes "T" else codes "F") }
+{
+    if truth {
+        return b"T";
+    }
+    b"F"
+}
+
+/// An operator before a truth value.
+fn before_truth(
+    alloc: Global,
+    op: UnaryOp,
+    truth: bool,
+) -> Result<Result<Value, LineKind>, NoMemory>
+    ensures { IfOk result (λ v. v ≡ meaning.unary_of op (value.Truth truth)) }
+{
+    match op {
+        UnaryOp::LogicalNot => Ok(Ok(Value::Truth(!truth))),
+        UnaryOp::String => {
+            let words = Bytes::from_slice(alloc, truth_letter(truth))?;
+            Ok(Ok(Value::Words(words)))
+        }
+        UnaryOp::Plus
+        | UnaryOp::Minus
+        | UnaryOp::Not
+        | UnaryOp::Length
+        | UnaryOp::Character
+        | UnaryOp::Size
+        | UnaryOp::Defined => Ok(Err(LineKind::WrongType)),
+    }
+}
+
+/// An operator before a string.
+fn before_words(op: UnaryOp, words: &[u8]) -> Result<Value, LineKind>
+    ensures { result ≡ meaning.unary_of op (value.Words words.now) }
+{
+    match op {
+        UnaryOp::Length => as_number(string_length(words)),
+        UnaryOp::Plus
+        | UnaryOp::Minus
+        | UnaryOp::Not
+        | UnaryOp::LogicalNot
+        | UnaryOp::Character
+        | UnaryOp::String
+        | UnaryOp::Size
+        | UnaryOp::Defined => Err(LineKind::WrongType),
+    }
+}
+
 /// An operator before a value.
 pub fn unary(
     alloc: Global,
@@ -381,25 +451,10 @@ pub fn unary(
 ) -> Result<Result<Value, LineKind>, NoMemory>
     ensures { IfOk result (λ v. v ≡ meaning.unary_of op operand.now) }
 {
-    match (op, operand) {
-        (UnaryOp::Plus, Value::Number(n)) => Ok(Ok(Value::Number(*n))),
-        (UnaryOp::Minus, Value::Number(n)) => Ok(Ok(Value::Number(0u32.wrapping_sub(*n)))),
-        (UnaryOp::Not, Value::Number(n)) => Ok(Ok(Value::Number(u32::MAX - *n))),
-        (UnaryOp::LogicalNot, Value::Truth(truth)) => Ok(Ok(Value::Truth(!*truth))),
-        (UnaryOp::Length, Value::Words(words)) => Ok(as_number(string_length(words.as_slice()))),
-        (UnaryOp::Character, Value::Number(n)) => Ok(as_words(string_of(alloc, *n)?)),
-        (UnaryOp::String, Value::Number(n)) => {
-            let words = Bytes::from_slice(alloc, &hexadecimal(*n))?;
-            Ok(Ok(Value::Words(words)))
-        }
-        (UnaryOp::String, Value::Truth(true)) => {
-            let words = Bytes::from_slice(alloc, b"T")?;
-            Ok(Ok(Value::Words(words)))
-        }
-        (UnaryOp::String, Value::Truth(false)) => {
-            let words = Bytes::from_slice(alloc, b"F")?;
-            Ok(Ok(Value::Words(words)))
-        }
-        _ => Ok(Err(LineKind::WrongType)),
+    match operand {
+        Value::Number(n) => before_number(alloc, op, *n),
+        Value::Truth(truth) => before_truth(alloc, op, *truth),
+        Value::Words(words) => Ok(before_words(op, words.as_slice())),
+        Value::Place { .. } => Ok(Err(LineKind::WrongType)),
     }
 }

@@ -10,7 +10,7 @@ use sdt_fault::NoMemory;
 use std::alloc::Global;
 
 /// What is due.
-#[derive(Clone, Copy, Debug)]
+#[derive(Clone, Copy)]
 pub enum Stage {
     Operand,
     /// The name behind `?` or `:DEF:`.
@@ -19,7 +19,7 @@ pub enum Stage {
 }
 
 /// What waits on the stack.
-#[derive(Clone, Copy, Debug)]
+#[derive(Clone, Copy)]
 pub enum Held {
     Open,
     Before(UnaryOp),
@@ -27,7 +27,7 @@ pub enum Held {
 }
 
 /// What was read of an expression.
-#[derive(Debug, Drop)]
+#[derive(Drop)]
 pub struct Parser {
     due: Stage,
     items: Vec<ExprItem>,
@@ -71,6 +71,23 @@ pub fn is_operand(item: &ExprItem) -> bool
         ExprItem::Unary(_) => false,
         ExprItem::Binary(_) => false,
         _ => true,
+    }
+}
+
+/// Whether an item is a name.
+fn is_name(item: &ExprItem) -> bool
+    ensures { result ≡ parsing.is_name item.now }
+{
+    match item {
+        ExprItem::Name(_) => true,
+        ExprItem::Local(_)
+        | ExprItem::Constant(_)
+        | ExprItem::TooLarge
+        | ExprItem::Here
+        | ExprItem::Map
+        | ExprItem::CodeSize
+        | ExprItem::Unary(_)
+        | ExprItem::Binary(_) => false,
     }
 }
 
@@ -133,8 +150,32 @@ impl Parser {
         match self.due {
             Stage::Operand => self.take_operand(part),
             Stage::Name(op) => self.take_name(op, part),
-            Stage::Operator => self.take_operator(part),
+            Stage::Operator => self.take_operator(&part),
         }
+    }
+
+    /// What waits for an operand.
+    fn hold(&mut self, held: Held) -> Result<bool, NoMemory>
+        ensures { Takes (Some
+            (parsing.held_back self.old.items.items held (reverse self.old.stack.items))) result
+            (state_of self.new) }
+    {
+        self.stack.push(held)?;
+        self.due = Stage::Operand;
+        Ok(true)
+    }
+
+    fn put(&mut self, item: ExprItem) -> Result<bool, NoMemory>
+        ensures { Takes (parsing.put self.old.items.items (reverse self.old.stack.items)
+            (grammar.plain item)) result (state_of self.new) }
+    {
+        if !is_operand(&item) {
+            drop(item);
+            return Ok(false);
+        }
+        self.items.push(item)?;
+        self.due = Stage::Operator;
+        Ok(true)
     }
 
     fn take_operand(&mut self, part: Part) -> Result<bool, NoMemory>
@@ -142,30 +183,29 @@ impl Parser {
             (reverse self.old.stack.items) part) result (state_of self.new) }
     {
         match part {
-            Part::Operand(item) => {
-                if !is_operand(&item) {
-                    return Ok(false);
-                }
-                self.items.push(item)?;
-                self.due = Stage::Operator;
+            Part::Operand(item) => self.put(item),
+            Part::Open => self.hold(Held::Open),
+            Part::Prefix(op) => self.hold(Held::Before(op)),
+            Part::Sum(op, _) => self.hold(Held::Before(op)),
+            Part::OfName(op) => {
+                self.due = Stage::Name(op);
+                Ok(true)
             }
-            Part::Open => {
-                self.stack.push(Held::Open)?;
-                self.due = Stage::Operand;
-            }
-            Part::Prefix(op) => {
-                self.stack.push(Held::Before(op))?;
-                self.due = Stage::Operand;
-            }
-            Part::Sum(op, _) => {
-                self.stack.push(Held::Before(op))?;
-                self.due = Stage::Operand;
-            }
-            Part::OfName(op) => self.due = Stage::Name(op),
-            Part::Close => return Ok(false),
-            Part::Infix(_) => return Ok(false),
-            Part::Other => return Ok(false),
+            Part::Close | Part::Infix(_) | Part::Other => Ok(false),
         }
+    }
+
+    fn put_name(&mut self, op: UnaryOp, item: ExprItem) -> Result<bool, NoMemory>
+        ensures { Takes (parsing.on_named op self.old.items.items
+            (reverse self.old.stack.items) item) result (state_of self.new) }
+    {
+        if !is_name(&item) {
+            drop(item);
+            return Ok(false);
+        }
+        self.items.push(item)?;
+        self.items.push(ExprItem::Unary(op))?;
+        self.due = Stage::Operator;
         Ok(true)
     }
 
@@ -174,25 +214,28 @@ impl Parser {
             (reverse self.old.stack.items) part) result (state_of self.new) }
     {
         match part {
-            Part::Operand(ExprItem::Name(name)) => {
-                self.items.push(ExprItem::Name(name))?;
-                self.items.push(ExprItem::Unary(op))?;
-                self.due = Stage::Operator;
-                Ok(true)
-            }
-            _ => Ok(false),
+            Part::Operand(item) => self.put_name(op, item),
+            Part::Open
+            | Part::Close
+            | Part::Prefix(_)
+            | Part::OfName(_)
+            | Part::Infix(_)
+            | Part::Sum(_, _)
+            | Part::Other => Ok(false),
         }
     }
 
-    fn take_operator(&mut self, part: Part) -> Result<bool, NoMemory>
+    fn take_operator(&mut self, part: &Part) -> Result<bool, NoMemory>
         ensures { Takes (parsing.on_operator self.old.items.items
-            (reverse self.old.stack.items) part) result (state_of self.new) }
+            (reverse self.old.stack.items) part.now) result (state_of self.new) }
     {
         match part {
-            Part::Infix(op) => self.join(op),
-            Part::Sum(_, op) => self.join(op),
+            Part::Infix(op) => self.join(*op),
+            Part::Sum(_, op) => self.join(*op),
             Part::Close => self.close(),
-            _ => Ok(false),
+            Part::Operand(_) | Part::Open | Part::Prefix(_) | Part::OfName(_) | Part::Other => {
+                Ok(false)
+            }
         }
     }
 

@@ -1,12 +1,13 @@
 //! What the tokens of a line are in an expression.
 
-ghost use Rattle.std.specs.Prelude.{◌≡◌, ◌∷◌, [], ◌^◌, ◌<◌, ◌-◌, ◌==◌, nat_lt, IfOk, length, take, drop, if◌then◌else◌, Some, None};
+ghost use Rattle.std.specs.Prelude.{◌≡◌, ◌∷◌, [], ◌^◌, ◌≤◌, ◌<◌, ◌-◌, get_or, ◌==◌, nat_lt, IfOk, length, take, drop, if◌then◌else◌, Some, None};
 ghost use Rattle.asm_model.specs.Forms.{same};
 ghost use Rattle.asm_model.specs.Parts as parts;
 ghost use Rattle.asm_model.specs.declared.exprs.ExprItem.TheVariants as item_is;
 ghost use Rattle.asm_model.specs.declared.exprs.Part.TheVariants as part_is;
 ghost use Rattle.asm_model.specs.declared.values.Value.TheVariants as value_is;
 
+use crate::operands::is;
 use asm_model::{BinaryOp, ExprItem, Part, SharedText, Token, TokenKind, UnaryOp, Value};
 use sdt_fault::{Bytes, NoMemory};
 use std::alloc::Global;
@@ -156,6 +157,19 @@ fn quoted_part(alloc: Global, piece: &[u8]) -> Result<Part, NoMemory>
     Ok(Part::Operand(ExprItem::Constant(Value::Words(words))))
 }
 
+/// What stands behind the first byte of a content; of a quote, which is doubled, behind the second.
+fn behind_content(content: &[u8]) -> &[u8]
+    requires { 2 ≤ length content.now }
+    ensures rest { parts.undoubled content.now
+        ≡ get_or content.now 0 0 ∷ parts.undoubled result.now }
+    ensures shorter { length result.now < length content.now }
+{
+    if content[0] == b'"' {
+        return &content[2..];
+    }
+    &content[1..]
+}
+
 /// The content of a string, from what stands behind its first quote.
 fn undoubled(alloc: Global, quoted: &[u8]) -> Result<Bytes, NoMemory>
     ensures { IfOk result (λ words. words ≡ parts.undoubled quoted.now) }
@@ -164,20 +178,9 @@ fn undoubled(alloc: Global, quoted: &[u8]) -> Result<Bytes, NoMemory>
     let mut rest = quoted;
     'bytes: while rest.len() >= 2 {
         words.push(rest[0])?;
-        if rest[0] == b'"' {
-            rest = &rest[2..];
-        } else {
-            rest = &rest[1..];
-        }
+        rest = behind_content(rest);
     }
     Ok(Bytes::from_vec(words))
-}
-
-/// Whether a slice is a word.
-fn is(piece: &[u8], word: &[u8]) -> bool
-    ensures { result ≡ same piece.now word.now }
-{
-    piece == word
 }
 
 /// Whether a slice is one byte, and this one.

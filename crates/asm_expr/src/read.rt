@@ -6,8 +6,9 @@ ghost use Rattle.asm_model.specs.Parts as parts;
 ghost use Rattle.asm_model.specs.Told.{Told};
 ghost use Rattle.asm_model.specs.declared.exprs.Part.TheVariants as part_is;
 ghost use Rattle.asm_expr.specs.Parsing as parsing;
-ghost use Rattle.asm_expr.specs.Steps.{IsRead};
+ghost use Rattle.asm_expr.specs.Steps.{IsRead, TakesAll, state_of};
 
+use crate::listing::only;
 use crate::parser::{Parser, is_operand};
 use crate::parts::{number_item, part_of, piece_of};
 use asm_model::{Expr, ExprItem, Flat, Part, SharedText, Token, TokenKind, bad_line};
@@ -32,13 +33,11 @@ fn operand_alone(alloc: Global, item: ExprItem) -> Result<Option<Expr>, NoMemory
     ensures { IfOk result (λ reading. IsRead (part_is.Operand item ∷ []) reading) }
 {
     if !is_operand(&item) {
+        drop(item);
         return Ok(None);
     }
-    let mut items = Vec::with_capacity(alloc, 1)?;
-    items.push(item)?;
-    Ok(Some(Expr {
-        items: List::from_vec(items),
-    }))
+    let items = only(alloc, item)?;
+    Ok(Some(Expr { items }))
 }
 
 /// The expression that one token spells. Most are numbers.
@@ -51,17 +50,33 @@ fn read_alone(alloc: Global, text: &SharedText, token: Token) -> Result<Option<E
     }
 }
 
+/// Reads the parts that tokens are; false where one of them can't stand there.
+fn take_all(
+    alloc: Global,
+    text: &SharedText,
+    tokens: &[Token],
+    parser: &mut Parser,
+) -> Result<bool, NoMemory>
+    ensures { TakesAll (state_of parser.old) (map (parts.part_of text.now) tokens.now) result
+        (state_of parser.new) }
+{
+    'tokens: for token in tokens {
+        let part = part_of(alloc, text, *token)?;
+        if !parser.take(part)? {
+            return Ok(false);
+        }
+    }
+    Ok(true)
+}
+
 /// The expression that tokens of a line spell, read part by part.
 #[inline(never)]
 fn by_parts(alloc: Global, text: &SharedText, tokens: &[Token]) -> Result<Option<Expr>, NoMemory>
     ensures { IfOk result (λ reading. IsRead (map (parts.part_of text.now) tokens.now) reading) }
 {
     let mut parser = Parser::with_room(alloc, tokens.len())?;
-    'tokens: for token in tokens {
-        let part = part_of(alloc, text, *token)?;
-        if !parser.take(part)? {
-            return Ok(None);
-        }
+    if !take_all(alloc, text, tokens, &mut parser)? {
+        return Ok(None);
     }
     match parser.finish()? {
         None => Ok(None),

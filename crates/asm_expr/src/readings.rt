@@ -11,6 +11,7 @@ ghost use Rattle.asm_model.specs.declared.directives.DirectiveLine.TheVariants a
 
 use crate::areas::attributes;
 use crate::kinds::both;
+use crate::listing::{only, with_last};
 use crate::operands::{first_operand, is};
 use crate::or_kind;
 use crate::parts::{piece_of, shared_inside, shared_piece};
@@ -31,6 +32,7 @@ pub fn bare(line: DirectiveLine, tokens: &[Token]) -> Result<DirectiveLine, Line
     if tokens.is_empty() {
         return Ok(line);
     }
+    drop(line);
     Err(LineKind::Syntax)
 }
 
@@ -115,6 +117,18 @@ fn import_mark(text: &SharedText, tokens: &[Token]) -> Result<ImportMark, LineKi
     }
 }
 
+/// A token as a name, and the mark that stands behind it.
+fn name_and_mark(
+    text: &SharedText,
+    token: Token,
+    behind: &[Token],
+) -> Result<Result<(SharedText, ImportMark), LineKind>, NoMemory>
+    ensures { IfOk result (λ import. import ≡ says.import_of text.now (token ∷ behind.now)) }
+{
+    let name = name_of(text, token)?;
+    Ok(both(name, import_mark(text, behind)))
+}
+
 /// A name and its mark.
 pub fn import(
     text: &SharedText,
@@ -124,10 +138,7 @@ pub fn import(
 {
     match tokens {
         [] => Ok(Err(LineKind::Syntax)),
-        [token, behind @ ..] => {
-            let name = name_of(text, *token)?;
-            Ok(both(name, import_mark(text, behind)))
-        }
+        [token, behind @ ..] => name_and_mark(text, *token, behind),
     }
 }
 
@@ -139,9 +150,7 @@ fn with_one_more(
     ensures { IfOk result (λ all. all ≡ readings.on_both (λ es e. es ++ e ∷ []) so_far reading) }
 {
     let (list, expression) = or_kind!(both(so_far, reading));
-    let mut items = list.into_vec();
-    items.push(expression)?;
-    Ok(Ok(List::from_vec(items)))
+    Ok(Ok(with_last(list, expression)?))
 }
 
 /// The expression of one operand alone.
@@ -153,9 +162,7 @@ fn one_expression(
     ensures { IfOk result (λ all. says.Expressions text.now (operand.now ∷ []) all) }
 {
     let expression = or_kind!(shared_expression(alloc, text, operand)?);
-    let mut items = Vec::with_capacity(alloc, 1)?;
-    items.push(expression)?;
-    Ok(Ok(List::from_vec(items)))
+    Ok(Ok(only(alloc, expression)?))
 }
 
 /// Operands, each of them an expression.
@@ -207,8 +214,10 @@ fn area_with(
 ) -> Result<DirectiveLine, LineKind>
     ensures { result ≡ readings.on_both (λ n a. line.Area n a) name attributes }
 {
-    let (name, attributes) = both(name, attributes)?;
-    Ok(DirectiveLine::Area { name, attributes })
+    match both(name, attributes) {
+        Ok((name, attributes)) => Ok(DirectiveLine::Area { name, attributes }),
+        Err(kind) => Err(kind),
+    }
 }
 
 /// The operands of AREA.
@@ -278,10 +287,12 @@ fn behind_multiple(
 ) -> Result<DirectiveLine, LineKind>
     ensures { result ≡ readings.on_both (λ m o. line.Align (limit.Behind m o)) multiple offset }
 {
-    let (multiple, offset) = both(multiple, offset)?;
-    Ok(DirectiveLine::Align {
-        boundary: Boundary::Behind { multiple, offset },
-    })
+    match both(multiple, offset) {
+        Ok((multiple, offset)) => Ok(DirectiveLine::Align {
+            boundary: Boundary::Behind { multiple, offset },
+        }),
+        Err(kind) => Err(kind),
+    }
 }
 
 /// One operand of ALIGN.

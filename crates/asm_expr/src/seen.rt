@@ -7,7 +7,7 @@ use crate::known::KnownNames;
 use asm_model::LaidName;
 
 /// What an expression is evaluated with.
-#[derive(Clone, Copy, Debug)]
+#[derive(Clone, Copy)]
 pub struct Seen<'a> {
     /// The names, with what they mean; where `first` are known, with what they mean later.
     pub names: &'a KnownNames,

@@ -10,7 +10,7 @@ use sdt_fault::kinds::LineKind;
 use std::alloc::Global;
 
 /// What an operand is.
-#[derive(Debug, Drop)]
+#[derive(Drop)]
 pub enum Slot<'a> {
     /// A name that is not read yet, by its entry.
     Name(Option<&'a LaidName>),

@@ -6,8 +6,10 @@ ghost use Rattle.asm_model.specs.Meaning as meaning;
 ghost use Rattle.asm_model.specs.Readings as readings;
 ghost use Rattle.asm_expr.specs.Evaluating as evaluating;
 ghost use Rattle.asm_expr.specs.Seeing.{seen_names};
+ghost use Rattle.asm_expr.specs.Steps.{TakesTwo};
 
-use crate::kinds::both;
+use crate::kinds::earlier;
+use crate::listing::push;
 use crate::names::entry_named;
 use crate::operators::{binary, unary};
 use crate::or_kind;
@@ -78,6 +80,25 @@ fn applied(
     }
 }
 
+/// An operator between two values, or the kind that is told of them.
+fn between(
+    alloc: Global,
+    seen: &Seen<'_>,
+    op: BinaryOp,
+    left: &Result<Value, LineKind>,
+    right: &Result<Value, LineKind>,
+) -> Result<Result<Value, LineKind>, NoMemory>
+    ensures { IfOk result (λ value. value
+        ≡ readings.then_both left.now right.now (meaning.binary (seen_names seen.now) op)) }
+{
+    match (left, right) {
+        (Ok(left), Ok(right)) => binary(alloc, seen, op, left, right),
+        (Ok(_), Err(kind)) => Ok(Err(*kind)),
+        (Err(kind), Ok(_)) => Ok(Err(*kind)),
+        (Err(kind), Err(other)) => Ok(Err(earlier(*kind, *other))),
+    }
+}
+
 /// An operator between two operands.
 fn on_both(
     alloc: Global,
@@ -91,8 +112,9 @@ fn on_both(
         (meaning.known (evaluating.operand_of right.entry))
         (meaning.binary (seen_names seen.now) op)) }
 {
-    let (left, right) = or_kind!(both(known(alloc, left)?, known(alloc, right)?));
-    binary(alloc, seen, op, &left, &right)
+    let left = known(alloc, left)?;
+    let right = known(alloc, right)?;
+    between(alloc, seen, op, &left, &right)
 }
 
 /// An item that is an operand.
@@ -132,12 +154,23 @@ fn act_unary(alloc: Global, op: UnaryOp, stack: &mut Vec<Slot<'_>>) -> Result<()
         ≡ evaluating.act_unary op (evaluating.operands_of stack.old.items)) }
 {
     let Some(top) = stack.pop() else {
-        stack.push(Slot::Fault(LineKind::Syntax))?;
-        return Ok(());
+        return push(stack, Slot::Fault(LineKind::Syntax));
     };
     let value = applied(alloc, op, top)?;
-    stack.push(slot_of(value))?;
-    Ok(())
+    push(stack, slot_of(value))
+}
+
+/// The two values on the top; None where there are fewer, of which none is left.
+fn two<T: Drop>(stack: &mut Vec<T>) -> Option<(T, T)>
+    ensures { TakesTwo stack.old.items result stack.new.items }
+{
+    let Some(right) = stack.pop() else {
+        return None;
+    };
+    let Some(left) = stack.pop() else {
+        return None;
+    };
+    Some((left, right))
 }
 
 /// An operator between the two operands on the top.
@@ -150,17 +183,11 @@ fn act_binary(
     ensures { OnOk result (evaluating.operands_of stack.new.items
         ≡ evaluating.act_binary (seen_names seen.now) op (evaluating.operands_of stack.old.items)) }
 {
-    let Some(right) = stack.pop() else {
-        stack.push(Slot::Fault(LineKind::Syntax))?;
-        return Ok(());
-    };
-    let Some(left) = stack.pop() else {
-        stack.push(Slot::Fault(LineKind::Syntax))?;
-        return Ok(());
+    let Some((left, right)) = two(stack) else {
+        return push(stack, Slot::Fault(LineKind::Syntax));
     };
     let value = on_both(alloc, seen, op, left, right)?;
-    stack.push(slot_of(value))?;
-    Ok(())
+    push(stack, slot_of(value))
 }
 
 /// One item more.
@@ -178,8 +205,7 @@ fn act<'a>(
         ExprItem::Binary(op) => act_binary(alloc, seen, *op, stack),
         _ => {
             let slot = operand(alloc, seen, item)?;
-            stack.push(slot)?;
-            Ok(())
+            push(stack, slot)
         }
     }
 }
@@ -201,13 +227,28 @@ fn ended(alloc: Global, stack: &mut Vec<Slot<'_>>) -> Result<Result<Value, LineK
     ensures { IfOk result (λ value. value
         ≡ evaluating.ended (evaluating.operands_of stack.old.items)) }
 {
-    let Some(top) = stack.pop() else {
-        return Ok(Err(LineKind::Syntax));
-    };
-    if let Some(_) = stack.pop() {
+    if stack.len() != 1 {
         return Ok(Err(LineKind::Syntax));
     }
-    known(alloc, top)
+    match stack.pop() {
+        None => Ok(Err(LineKind::Syntax)),
+        Some(top) => known(alloc, top),
+    }
+}
+
+/// The value of one item alone.
+fn value_alone(
+    alloc: Global,
+    seen: &Seen<'_>,
+    item: &ExprItem,
+) -> Result<Result<Value, LineKind>, NoMemory>
+    ensures { IfOk result (λ value. value
+        ≡ meaning.known (meaning.operand_of_item (seen_names seen.now) item.now)) }
+{
+    if let ExprItem::Constant(value) = item {
+        return Ok(Ok(value.try_clone(alloc)?));
+    }
+    known(alloc, operand(alloc, seen, item)?)
 }
 
 /// The value of items. One alone, as most expressions have, needs no stack.
@@ -220,8 +261,7 @@ fn value_of(
         ≡ evaluating.ended (evaluating.run (seen_names seen.now) items.now [])) }
 {
     match items {
-        [ExprItem::Constant(value)] => Ok(Ok(value.try_clone(alloc)?)),
-        [item] => known(alloc, operand(alloc, seen, item)?),
+        [item] => value_alone(alloc, seen, item),
         _ => by_stack(alloc, seen, items),
     }
 }

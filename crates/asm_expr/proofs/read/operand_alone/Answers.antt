@@ -1,5 +1,4 @@
 use Rattle.asm_expr.proofs.StackLemmas.{operand_read, no_operand_read}
-use Rattle.std.proofs.Common.{◌∙◌}
 use Rattle.asm_expr.proofs.read.operand_alone.Goals as goal
 
 pub returns-then-not-is_operand : goal.returns-then-not-is_operand
@@ -7,5 +6,4 @@ returns-then-not-is_operand c = no_operand_read c.args.item c.is_operand.result 
 
 pub returns : goal.returns
 returns c =
-    operand_read c.args.item c.is_operand.result c.from_vec.result c.is_operand.ensures c.if-not-is_operand.false
-    (rw c.in_ok-items.ensures.items at (c.from_vec.ensures ∙ c.in_ok-push.ensures.items))
+    operand_read c.args.item c.is_operand.result c.in_ok-items.items c.is_operand.ensures c.if-not-is_operand.false c.in_ok-items.ensures

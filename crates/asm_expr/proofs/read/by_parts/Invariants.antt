@@ -1,9 +1,0 @@
-use Rattle.std.proofs.Common.{◌≡◌, drop, map, Some}
-use Rattle.asm_model.specs.Parts.{part_of}
-use Rattle.asm_expr.specs.Parsing.{parsed, started}
-use Rattle.asm_expr.specs.Steps.{state_of}
-use Rattle.asm_expr.proofs.read.by_parts.Given as goal
-
-abbrev pub invariant-tokens : goal.invariant-tokens
-invariant-tokens l =
-    parsed (Some (state_of l.parser)) (map (part_of l.text) (drop l.token-index l.tokens)) ≡ parsed (Some started) (map (part_of l.text) l.tokens)
