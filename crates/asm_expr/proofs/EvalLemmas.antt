@@ -1,5 +1,5 @@
 -- Stacks of operands.
-use Rattle.std.proofs.Common.{◌≡◌, ℕ, suc, ◌+◌, ◌<◌, ◌≤◌, List, [], ◌∷◌, ◌++◌, length, drop, get_or, refl, sym, ◌∙◌, ap, Some, append_assoc, append-nil}
+use Rattle.std.proofs.Common.{◌≡◌, ℕ, suc, ◌+◌, ◌<◌, ◌≤◌, List, [], ◌∷◌, ◌++◌, length, drop, get_or, arith, refl, sym, ◌∙◌, ap, Some, append_assoc, append-nil}
 use Rattle.std.proofs.lemmas.List.{drop_more}
 use Rattle.std.proofs.Math.ListN.{drop_of_length-le}
 use Rattle.std.specs.Prelude.{Result}
@@ -26,7 +26,7 @@ act_plain names (item.Unary op) s e = absurd (cc)
 act_plain names (item.Binary op) s e = absurd (cc)
 
 -- an item alone leaves its operand
-pub ended_alone : (names : Names) (i : ExprItem) → ended (act names i []) ≡ known (operand_of_item names i)
+ended_alone : (names : Names) (i : ExprItem) → ended (act names i []) ≡ known (operand_of_item names i)
 ended_alone names (item.Name n) = refl
 ended_alone names (item.Local n) = refl
 ended_alone names (item.Constant v) = refl
@@ -36,6 +36,12 @@ ended_alone names item.Map = refl
 ended_alone names item.CodeSize = refl
 ended_alone names (item.Unary op) = refl
 ended_alone names (item.Binary op) = refl
+
+pub one_item : (names : Names) (items : List ExprItem) (x : ExprItem) → 1 ≤ length items → length items < 2 → x ≡ get_or items 0 x
+    → ended (run names items []) ≡ known (operand_of_item names x)
+one_item names [] x h l e = absurd (omega arith)
+one_item names (y ∷ []) x h l e = ended_alone names y ∙ ap (λ (i : ExprItem). known (operand_of_item names i)) (sym e)
+one_item names (y ∷ z ∷ zs) x h l e = absurd (omega arith)
 
 -- the stack after one item more, and after the last
 pub run_step : (names : Names) (items : List ExprItem) (i : ℕ) (x : ExprItem) (s n all : List Operand) → i < length items → x ≡ get_or items i x

@@ -1,4 +1,4 @@
-use Rattle.std.proofs.Common.{◌<◌, not, length, sym, ap, ◌∙◌, subst}
+use Rattle.std.proofs.Common.{◌<◌, not, sym, ap, ◌∙◌, subst}
 use Rattle.std.specs.Option.{is_some}
 use Rattle.std.proofs.lemmas.List.{length-map}
 use Rattle.indexmap.specs.Entry.{entry_value}
