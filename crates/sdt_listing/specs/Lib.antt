@@ -4,5 +4,6 @@ pub mod Elfs
 pub mod Images
 pub mod Listings
 pub mod Parts
+pub mod Pieces
 pub mod Readings
 pub mod ThumbTexts

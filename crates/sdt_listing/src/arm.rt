@@ -6,17 +6,16 @@ ghost use Rattle.arm_isa.specs.declared.instr.ArmInstr.{ArmInstr};
 ghost use Rattle.sdt_word.specs.Numbers.{bit, operand};
 ghost use Rattle.sdt_listing.specs.ArmTexts as texts;
 ghost use Rattle.sdt_listing.specs.Parts as parts;
+ghost use Rattle.sdt_listing.specs.Pieces as pieces;
+ghost use Rattle.sdt_listing.specs.declared.pieces.Piece.TheVariants as piece;
 ghost use Rattle.sdt_listing.specs.Readings.{arm_of};
 
 use crate::arm_names::{
     block_mode, block_name, branch_name, half_suffix, is_comparison, is_move, long_name,
-    marks_flags, multiply_name, operation_name, sign, status_name, transfer_name, word_suffix,
+    marks_flags, multiply_name, operation_name, transfer_name, word_suffix,
 };
-use crate::parts::{
-    ListedPlace, mark, push, push_address, push_hex, push_indexed, push_indexed_by, push_list,
-    push_next, push_number, push_operation, push_plain, push_register, push_shifted,
-    push_shifted_by, target,
-};
+use crate::parts::{mark, push, push_address, target};
+use crate::pieces::{ListedPlace, Offset, Piece, push_spoken, push_transfer};
 use arm_isa::{ArmInstr, HalfKind, Operation, decode_arm};
 use sdt_fault::{NoMemory, Text};
 use sdt_word::{Condition, ShiftKind, field, rotate};
@@ -40,43 +39,40 @@ struct TransferHead {
     rd: u8,
 }
 
-#[tactic(auto, unfolding(crate::specs::ArmTexts::sources))]
-fn push_sources(
+#[tactic(auto, unfolding(crate::specs::ArmTexts::processing, crate::specs::ArmTexts::sources))]
+fn push_data(
     alloc: Global,
     out: &mut Vec<u8>,
-    operation: Operation,
-    rn: u8,
-    rd: u8,
+    head: DataHead,
+    operand: Piece,
 ) -> Result<(), NoMemory>
-    ensures { OnOk result (out.new.items ≡ out.old.items ++ texts.sources operation rn rd) }
+    ensures { OnOk result (out.new.items ≡ out.old.items ++ texts.processing head.condition head.operation head.set_flags head.rn head.rd (pieces.piece operand)) }
 {
-    if is_comparison(operation) {
-        return push_register(alloc, out, rn);
-    }
-    if is_move(operation) {
-        return push_register(alloc, out, rd);
-    }
-    push_register(alloc, out, rd)?;
-    push_next(alloc, out, rn)
-}
-
-// A data-processing instruction up to its operand.
-#[tactic(auto, unfolding(crate::specs::ArmTexts::processing))]
-fn push_data(alloc: Global, out: &mut Vec<u8>, head: DataHead) -> Result<(), NoMemory>
-    ensures { OnOk result (out.new.items ≡ out.old.items ++ texts.processing head.condition head.operation head.set_flags head.rn head.rd []) }
-{
+    let name = operation_name(head.operation);
     let flags = mark(marks_flags(head.operation, head.set_flags), b"S");
-    push_operation(out, operation_name(head.operation), head.condition, flags)?;
-    push_sources(alloc, out, head.operation, head.rn, head.rd)?;
-    push(out, b",")
+    if is_comparison(head.operation) {
+        let one = [Piece::Register(head.rn), Piece::Letter(b','), operand];
+        return push_spoken(alloc, out, name, head.condition, flags, &one);
+    }
+    if is_move(head.operation) {
+        let one = [Piece::Register(head.rd), Piece::Letter(b','), operand];
+        return push_spoken(alloc, out, name, head.condition, flags, &one);
+    }
+    let two = [
+        Piece::Register(head.rd),
+        Piece::Next(head.rn),
+        Piece::Letter(b','),
+        operand,
+    ];
+    push_spoken(alloc, out, name, head.condition, flags, &two)
 }
 
 // A byte, rotated right by twice the rotation.
-fn push_operand(alloc: Global, out: &mut Vec<u8>, rotation: u8, byte: u8) -> Result<(), NoMemory>
+fn rotated(rotation: u8, byte: u8) -> Piece
     requires { rotation < 16 }
-    ensures { OnOk result (out.new.items ≡ out.old.items ++ parts.number (operand rotation byte)) }
+    ensures { result ≡ piece.Number (operand rotation byte) }
 {
-    push_number(alloc, out, rotate(u32::from(byte), 2 * u32::from(rotation)))
+    Piece::Number(rotate(u32::from(byte), 2 * u32::from(rotation)))
 }
 
 #[tactic(auto, unfolding(crate::specs::ArmTexts::multiply))]
@@ -93,19 +89,19 @@ fn push_multiply(
 ) -> Result<(), NoMemory>
     ensures { OnOk result (out.new.items ≡ out.old.items ++ texts.multiply condition accumulate set_flags rd rn rs rm) }
 {
-    push_operation(
-        out,
-        multiply_name(accumulate),
-        condition,
-        mark(set_flags, b"S"),
-    )?;
-    push_register(alloc, out, rd)?;
-    push_next(alloc, out, rm)?;
-    push_next(alloc, out, rs)?;
+    let name = multiply_name(accumulate);
+    let flags = mark(set_flags, b"S");
     if accumulate {
-        return push_next(alloc, out, rn);
+        let four = [
+            Piece::Register(rd),
+            Piece::Next(rm),
+            Piece::Next(rs),
+            Piece::Next(rn),
+        ];
+        return push_spoken(alloc, out, name, condition, flags, &four);
     }
-    Ok(())
+    let three = [Piece::Register(rd), Piece::Next(rm), Piece::Next(rs)];
+    push_spoken(alloc, out, name, condition, flags, &three)
 }
 
 #[tactic(auto, unfolding(crate::specs::ArmTexts::multiply_long))]
@@ -123,16 +119,14 @@ fn push_multiply_long(
 ) -> Result<(), NoMemory>
     ensures { OnOk result (out.new.items ≡ out.old.items ++ texts.multiply_long condition signed accumulate set_flags high low rs rm) }
 {
-    push_operation(
-        out,
-        long_name(signed, accumulate),
-        condition,
-        mark(set_flags, b"S"),
-    )?;
-    push_register(alloc, out, low)?;
-    push_next(alloc, out, high)?;
-    push_next(alloc, out, rm)?;
-    push_next(alloc, out, rs)
+    let four = [
+        Piece::Register(low),
+        Piece::Next(high),
+        Piece::Next(rm),
+        Piece::Next(rs),
+    ];
+    let name = long_name(signed, accumulate);
+    push_spoken(alloc, out, name, condition, mark(set_flags, b"S"), &four)
 }
 
 #[tactic(auto, unfolding(crate::specs::ArmTexts::swap))]
@@ -147,11 +141,15 @@ fn push_swap(
 ) -> Result<(), NoMemory>
     ensures { OnOk result (out.new.items ≡ out.old.items ++ texts.swap condition byte rn rd rm) }
 {
-    push_operation(out, b"SWP", condition, mark(byte, b"B"))?;
-    push_register(alloc, out, rd)?;
-    push_next(alloc, out, rm)?;
-    push(out, b",")?;
-    push_plain(alloc, out, rn)
+    let at = [
+        Piece::Register(rd),
+        Piece::Next(rm),
+        Piece::Letter(b','),
+        Piece::Letter(b'['),
+        Piece::Register(rn),
+        Piece::Letter(b']'),
+    ];
+    push_spoken(alloc, out, b"SWP", condition, mark(byte, b"B"), &at)
 }
 
 #[tactic(auto, unfolding(crate::specs::ArmTexts::read_status))]
@@ -164,99 +162,87 @@ fn push_read_status(
 ) -> Result<(), NoMemory>
     ensures { OnOk result (out.new.items ≡ out.old.items ++ texts.read_status condition saved rd) }
 {
-    push_operation(out, b"MRS", condition, b"")?;
-    push_register(alloc, out, rd)?;
-    push(out, b",")?;
-    push(out, status_name(saved))
+    let from = [
+        Piece::Register(rd),
+        Piece::Letter(b','),
+        Piece::Status(saved),
+    ];
+    push_spoken(alloc, out, b"MRS", condition, b"", &from)
 }
 
-fn letter(fields: u8, at: u32, name: &[u8]) -> &[u8]
+// A letter that stands where the fields' mask has a bit.
+fn letter(fields: u8, at: u32, letter: u8) -> Piece
     requires { at < 32 }
-    ensures { result.now ≡ parts.mark (bit fields at == 1) name.now }
+    ensures { result ≡ piece.Marked (bit fields at == 1) letter }
 {
-    mark(field(u32::from(fields), at, 1) == 1, name)
+    Piece::Marked(field(u32::from(fields), at, 1) == 1, letter)
 }
 
-#[tactic(auto, unfolding(crate::specs::ArmTexts::fields))]
-fn push_fields(out: &mut Vec<u8>, fields: u8) -> Result<(), NoMemory>
-    ensures { OnOk result (out.new.items ≡ out.old.items ++ texts.fields fields) }
-{
-    push(out, letter(fields, 3, b"f"))?;
-    push(out, letter(fields, 2, b"s"))?;
-    push(out, letter(fields, 1, b"x"))?;
-    push(out, letter(fields, 0, b"c"))
-}
-
-// A write of a status register up to its operand.
-#[tactic(auto, unfolding(crate::specs::ArmTexts::write_status))]
+#[tactic(auto, unfolding(crate::specs::ArmTexts::write_status, crate::specs::ArmTexts::fields))]
 fn push_write_status(
+    alloc: Global,
     out: &mut Vec<u8>,
     condition: Condition,
     saved: bool,
     fields: u8,
+    operand: Piece,
 ) -> Result<(), NoMemory>
-    ensures { OnOk result (out.new.items ≡ out.old.items ++ texts.write_status condition saved fields []) }
+    ensures { OnOk result (out.new.items ≡ out.old.items ++ texts.write_status condition saved fields (pieces.piece operand)) }
 {
-    push_operation(out, b"MSR", condition, b"")?;
-    push(out, status_name(saved))?;
-    push(out, b"_")?;
-    push_fields(out, fields)?;
-    push(out, b",")
+    let written = [
+        Piece::Status(saved),
+        Piece::Letter(b'_'),
+        letter(fields, 3, b'f'),
+        letter(fields, 2, b's'),
+        letter(fields, 1, b'x'),
+        letter(fields, 0, b'c'),
+        Piece::Letter(b','),
+        operand,
+    ];
+    push_spoken(alloc, out, b"MSR", condition, b"", &written)
 }
 
-// A transfer up to its address.
 #[tactic(auto, unfolding(crate::specs::ArmTexts::transfer))]
-fn push_transfer(
+fn push_at(
     alloc: Global,
     out: &mut Vec<u8>,
     head: TransferHead,
     suffix: &[u8],
-) -> Result<(), NoMemory>
-    ensures { OnOk result (out.new.items ≡ out.old.items ++ texts.transfer head.condition head.load suffix.now head.rd []) }
-{
-    push_operation(out, transfer_name(head.load), head.condition, suffix)?;
-    push_register(alloc, out, head.rd)?;
-    push(out, b",")
-}
-
-// An address with a shifted register as its offset.
-#[tactic(auto, unfolding(crate::specs::ArmTexts::shifted_place))]
-fn push_shifted_place(
-    alloc: Global,
-    out: &mut Vec<u8>,
     place: ListedPlace,
-    amount: u8,
-    shift: ShiftKind,
-    rm: u8,
+    by: Offset,
 ) -> Result<(), NoMemory>
-    ensures { OnOk result (out.new.items ≡ out.old.items ++ texts.shifted_place place.pre place.up place.write_back place.base amount shift rm) }
+    ensures { OnOk result (out.new.items ≡ out.old.items ++ texts.transfer head.condition head.load suffix.now head.rd (pieces.placed place by)) }
 {
-    let mut by = Vec::new(alloc);
-    push(&mut by, sign(place.up))?;
-    push_shifted(alloc, &mut by, rm, shift, amount)?;
-    push_indexed(alloc, out, place, by.as_slice())
+    let name = transfer_name(head.load);
+    push_transfer(alloc, out, name, head.condition, suffix, head.rd, place, by)
 }
 
-// The address of a half-word's transfer.
-#[tactic(auto, unfolding(crate::specs::ArmTexts::half_place))]
-fn push_half_place(
+// A transfer of a half-word, or of a signed byte.
+#[tactic(auto, unfolding(crate::specs::ArmTexts::half_place, crate::specs::Pieces::placed))]
+fn push_half(
     alloc: Global,
     out: &mut Vec<u8>,
+    head: TransferHead,
+    kind: HalfKind,
     place: ListedPlace,
     immediate: bool,
     high: u8,
     low: u8,
 ) -> Result<(), NoMemory>
-    ensures { OnOk result (out.new.items ≡ out.old.items ++ texts.half_place place.pre place.up immediate place.write_back place.base high low) }
+    ensures { OnOk result (out.new.items ≡ out.old.items ++ texts.transfer head.condition head.load (texts.half_suffix kind) head.rd (texts.half_place place.pre place.up immediate place.write_back place.base high low)) }
 {
     if immediate {
-        let offset = 16 * u32::from(high) + u32::from(low);
-        return push_indexed_by(alloc, out, place, offset);
+        let offset = Offset::Number(16 * u32::from(high) + u32::from(low));
+        return push_at(alloc, out, head, half_suffix(kind), place, offset);
     }
-    let mut by = Vec::new(alloc);
-    push(&mut by, sign(place.up))?;
-    push_register(alloc, &mut by, low)?;
-    push_indexed(alloc, out, place, by.as_slice())
+    push_at(
+        alloc,
+        out,
+        head,
+        half_suffix(kind),
+        place,
+        Offset::Register(low),
+    )
 }
 
 #[tactic(auto, unfolding(crate::specs::ArmTexts::block))]
@@ -271,21 +257,20 @@ fn push_block(
 ) -> Result<(), NoMemory>
     ensures { OnOk result (out.new.items ≡ out.old.items ++ texts.block condition place.pre place.up user place.write_back load place.base list) }
 {
-    push_operation(
-        out,
-        block_name(load),
-        condition,
-        block_mode(place.pre, place.up),
-    )?;
-    push_register(alloc, out, place.base)?;
-    push(out, mark(place.write_back, b"!"))?;
-    push(out, b",")?;
-    push_list(alloc, out, list, 16)?;
-    push(out, mark(user, b"^"))
+    let listed = [
+        Piece::Register(place.base),
+        Piece::Marked(place.write_back, b'!'),
+        Piece::Letter(b','),
+        Piece::Listed(list),
+        Piece::Marked(user, b'^'),
+    ];
+    let mode = block_mode(place.pre, place.up);
+    push_spoken(alloc, out, block_name(load), condition, mode, &listed)
 }
 
 #[tactic(auto, unfolding(crate::specs::ArmTexts::branch))]
 fn push_branch(
+    alloc: Global,
     out: &mut Vec<u8>,
     at: u32,
     condition: Condition,
@@ -294,8 +279,8 @@ fn push_branch(
 ) -> Result<(), NoMemory>
     ensures { OnOk result (out.new.items ≡ out.old.items ++ texts.branch at condition link displacement) }
 {
-    push_operation(out, branch_name(link), condition, b"")?;
-    push_address(out, target(at, 8, 4, 24, displacement))
+    let to = [Piece::Address(target(at, 8, 4, 24, displacement))];
+    push_spoken(alloc, out, branch_name(link), condition, b"", &to)
 }
 
 fn push_data_word(out: &mut Vec<u8>, w: u32) -> Result<(), NoMemory>
@@ -305,170 +290,8 @@ fn push_data_word(out: &mut Vec<u8>, w: u32) -> Result<(), NoMemory>
     push_address(out, w)
 }
 
-// Each function below appends the text of one row's instruction.
-
-#[tactic(auto, unfolding(crate::specs::ArmTexts::processing))]
-fn push_data_immediate(
-    alloc: Global,
-    out: &mut Vec<u8>,
-    head: DataHead,
-    rotation: u8,
-    byte: u8,
-) -> Result<(), NoMemory>
-    requires { rotation < 16 }
-    ensures { OnOk result (out.new.items ≡ out.old.items ++ texts.processing head.condition head.operation head.set_flags head.rn head.rd (parts.number (operand rotation byte))) }
-{
-    push_data(alloc, out, head)?;
-    push_operand(alloc, out, rotation, byte)
-}
-
-#[tactic(auto, unfolding(crate::specs::ArmTexts::processing))]
-fn push_data_shifted(
-    alloc: Global,
-    out: &mut Vec<u8>,
-    head: DataHead,
-    amount: u8,
-    shift: ShiftKind,
-    rm: u8,
-) -> Result<(), NoMemory>
-    ensures { OnOk result (out.new.items ≡ out.old.items ++ texts.processing head.condition head.operation head.set_flags head.rn head.rd (parts.shifted rm shift amount)) }
-{
-    push_data(alloc, out, head)?;
-    push_shifted(alloc, out, rm, shift, amount)
-}
-
-#[tactic(auto, unfolding(crate::specs::ArmTexts::processing))]
-fn push_data_register_shifted(
-    alloc: Global,
-    out: &mut Vec<u8>,
-    head: DataHead,
-    rs: u8,
-    shift: ShiftKind,
-    rm: u8,
-) -> Result<(), NoMemory>
-    ensures { OnOk result (out.new.items ≡ out.old.items ++ texts.processing head.condition head.operation head.set_flags head.rn head.rd (parts.shifted_by rm shift rs)) }
-{
-    push_data(alloc, out, head)?;
-    push_shifted_by(alloc, out, rm, shift, rs)
-}
-
-#[tactic(auto, unfolding(crate::specs::ArmTexts::write_status))]
-fn push_write_status_register(
-    alloc: Global,
-    out: &mut Vec<u8>,
-    condition: Condition,
-    saved: bool,
-    fields: u8,
-    rm: u8,
-) -> Result<(), NoMemory>
-    ensures { OnOk result (out.new.items ≡ out.old.items ++ texts.write_status condition saved fields (parts.register rm)) }
-{
-    push_write_status(out, condition, saved, fields)?;
-    push_register(alloc, out, rm)
-}
-
-#[tactic(auto, unfolding(crate::specs::ArmTexts::write_status))]
-fn push_write_status_immediate(
-    alloc: Global,
-    out: &mut Vec<u8>,
-    condition: Condition,
-    saved: bool,
-    fields: u8,
-    rotation: u8,
-    byte: u8,
-) -> Result<(), NoMemory>
-    requires { rotation < 16 }
-    ensures { OnOk result (out.new.items ≡ out.old.items ++ texts.write_status condition saved fields (parts.number (operand rotation byte))) }
-{
-    push_write_status(out, condition, saved, fields)?;
-    push_operand(alloc, out, rotation, byte)
-}
-
-#[tactic(auto, unfolding(crate::specs::ArmTexts::transfer))]
-fn push_transfer_immediate(
-    alloc: Global,
-    out: &mut Vec<u8>,
-    head: TransferHead,
-    byte: bool,
-    place: ListedPlace,
-    offset: u16,
-) -> Result<(), NoMemory>
-    ensures { OnOk result (out.new.items ≡ out.old.items ++ texts.transfer head.condition head.load (texts.word_suffix place.pre byte place.write_back) head.rd (parts.indexed_by place.pre place.up place.write_back place.base offset)) }
-{
-    push_transfer(
-        alloc,
-        out,
-        head,
-        word_suffix(place.pre, byte, place.write_back),
-    )?;
-    push_indexed_by(alloc, out, place, u32::from(offset))
-}
-
-#[tactic(auto, unfolding(crate::specs::ArmTexts::transfer))]
-fn push_transfer_shifted(
-    alloc: Global,
-    out: &mut Vec<u8>,
-    head: TransferHead,
-    byte: bool,
-    place: ListedPlace,
-    amount: u8,
-    shift: ShiftKind,
-    rm: u8,
-) -> Result<(), NoMemory>
-    ensures { OnOk result (out.new.items ≡ out.old.items ++ texts.transfer head.condition head.load (texts.word_suffix place.pre byte place.write_back) head.rd (texts.shifted_place place.pre place.up place.write_back place.base amount shift rm)) }
-{
-    push_transfer(
-        alloc,
-        out,
-        head,
-        word_suffix(place.pre, byte, place.write_back),
-    )?;
-    push_shifted_place(alloc, out, place, amount, shift, rm)
-}
-
-#[tactic(auto, unfolding(crate::specs::ArmTexts::transfer))]
-fn push_transfer_half(
-    alloc: Global,
-    out: &mut Vec<u8>,
-    head: TransferHead,
-    kind: HalfKind,
-    place: ListedPlace,
-    immediate: bool,
-    high: u8,
-    low: u8,
-) -> Result<(), NoMemory>
-    ensures { OnOk result (out.new.items ≡ out.old.items ++ texts.transfer head.condition head.load (texts.half_suffix kind) head.rd (texts.half_place place.pre place.up immediate place.write_back place.base high low)) }
-{
-    push_transfer(alloc, out, head, half_suffix(kind))?;
-    push_half_place(alloc, out, place, immediate, high, low)
-}
-
-fn push_exchange(
-    alloc: Global,
-    out: &mut Vec<u8>,
-    condition: Condition,
-    rm: u8,
-) -> Result<(), NoMemory>
-    ensures { OnOk result (out.new.items ≡ out.old.items ++ parts.spoken (codes "BX") condition [] (parts.register rm)) }
-{
-    push_operation(out, b"BX", condition, b"")?;
-    push_register(alloc, out, rm)
-}
-
-fn push_interrupt(
-    alloc: Global,
-    out: &mut Vec<u8>,
-    condition: Condition,
-    number: u32,
-) -> Result<(), NoMemory>
-    ensures { OnOk result (out.new.items ≡ out.old.items ++ parts.spoken (codes "SWI") condition [] (parts.hex number)) }
-{
-    push_operation(out, b"SWI", condition, b"")?;
-    push_hex(alloc, out, number)
-}
-
 // The text of the instruction that a word reads as.
-#[tactic(auto, unfolding(crate::specs::ArmTexts::instruction_text))]
+#[tactic(auto, unfolding(crate::specs::ArmTexts::instruction_text, crate::specs::ArmTexts::shifted_place, crate::specs::Pieces::placed))]
 fn push_instruction(
     alloc: Global,
     out: &mut Vec<u8>,
@@ -488,7 +311,7 @@ fn push_instruction(
             rd,
             rotation,
             byte,
-        } => push_data_immediate(
+        } => push_data(
             alloc,
             out,
             DataHead {
@@ -498,8 +321,7 @@ fn push_instruction(
                 rn,
                 rd,
             },
-            rotation,
-            byte,
+            rotated(rotation, byte),
         ),
         ArmInstr::DataShifted {
             condition,
@@ -510,7 +332,7 @@ fn push_instruction(
             amount,
             shift,
             rm,
-        } => push_data_shifted(
+        } => push_data(
             alloc,
             out,
             DataHead {
@@ -520,9 +342,7 @@ fn push_instruction(
                 rn,
                 rd,
             },
-            amount,
-            shift,
-            rm,
+            Piece::Shifted(rm, shift, amount),
         ),
         ArmInstr::DataRegisterShifted {
             condition,
@@ -533,7 +353,7 @@ fn push_instruction(
             rs,
             shift,
             rm,
-        } => push_data_register_shifted(
+        } => push_data(
             alloc,
             out,
             DataHead {
@@ -543,9 +363,7 @@ fn push_instruction(
                 rn,
                 rd,
             },
-            rs,
-            shift,
-            rm,
+            Piece::ShiftedBy(rm, shift, rs),
         ),
         ArmInstr::Multiply {
             condition,
@@ -575,7 +393,9 @@ fn push_instruction(
             rd,
             rm,
         } => push_swap(alloc, out, condition, byte, rn, rd, rm),
-        ArmInstr::BranchExchange { condition, rm } => push_exchange(alloc, out, condition, rm),
+        ArmInstr::BranchExchange { condition, rm } => {
+            push_spoken(alloc, out, b"BX", condition, b"", &[Piece::Register(rm)])
+        }
         ArmInstr::ReadStatus {
             condition,
             saved,
@@ -586,14 +406,21 @@ fn push_instruction(
             saved,
             fields,
             rm,
-        } => push_write_status_register(alloc, out, condition, saved, fields, rm),
+        } => push_write_status(alloc, out, condition, saved, fields, Piece::Register(rm)),
         ArmInstr::WriteStatusImmediate {
             condition,
             saved,
             fields,
             rotation,
             byte,
-        } => push_write_status_immediate(alloc, out, condition, saved, fields, rotation, byte),
+        } => push_write_status(
+            alloc,
+            out,
+            condition,
+            saved,
+            fields,
+            rotated(rotation, byte),
+        ),
         ArmInstr::TransferImmediate {
             condition,
             pre,
@@ -604,7 +431,7 @@ fn push_instruction(
             rn,
             rd,
             offset,
-        } => push_transfer_immediate(
+        } => push_at(
             alloc,
             out,
             TransferHead {
@@ -612,14 +439,14 @@ fn push_instruction(
                 load,
                 rd,
             },
-            byte,
+            word_suffix(pre, byte, write_back),
             ListedPlace {
                 pre,
                 up,
                 write_back,
                 base: rn,
             },
-            offset,
+            Offset::Number(u32::from(offset)),
         ),
         ArmInstr::TransferShifted {
             condition,
@@ -633,7 +460,7 @@ fn push_instruction(
             amount,
             shift,
             rm,
-        } => push_transfer_shifted(
+        } => push_at(
             alloc,
             out,
             TransferHead {
@@ -641,16 +468,14 @@ fn push_instruction(
                 load,
                 rd,
             },
-            byte,
+            word_suffix(pre, byte, write_back),
             ListedPlace {
                 pre,
                 up,
                 write_back,
                 base: rn,
             },
-            amount,
-            shift,
-            rm,
+            Offset::Shifted(rm, shift, amount),
         ),
         ArmInstr::TransferHalf {
             condition,
@@ -664,7 +489,7 @@ fn push_instruction(
             high,
             kind,
             low,
-        } => push_transfer_half(
+        } => push_half(
             alloc,
             out,
             TransferHead {
@@ -710,10 +535,10 @@ fn push_instruction(
             condition,
             link,
             displacement,
-        } => push_branch(out, at, condition, link, displacement),
-        ArmInstr::SoftwareInterrupt { condition, number } => push_interrupt(
-            alloc, out, condition, number,
-        ),
+        } => push_branch(alloc, out, at, condition, link, displacement),
+        ArmInstr::SoftwareInterrupt { condition, number } => {
+            push_spoken(alloc, out, b"SWI", condition, b"", &[Piece::Hex(number)])
+        }
         ArmInstr::Undefined { .. } => push_data_word(out, w),
     }
 }

@@ -5,28 +5,31 @@ ghost use Rattle.std.specs.List.{flat_map};
 ghost use Rattle.sdt_listing.specs.Elfs as elfs;
 
 use crate::images::push_number_line;
-use crate::listing::push_eight_field;
 use crate::parts::push;
+use crate::pieces::{Piece, push_pieces};
 use elf_image::{Elf, Segment};
 use sdt_fault::{NoMemory, Text};
 use std::alloc::Global;
 
-fn push_load(out: &mut Vec<u8>, segment: Segment) -> Result<(), NoMemory>
+fn push_load(alloc: Global, out: &mut Vec<u8>, segment: Segment) -> Result<(), NoMemory>
     ensures { OnOk result (out.new.items ≡ out.old.items ++ elfs.load_line segment) }
 {
     push(out, b"load")?;
-    push_eight_field(out, segment.address)?;
-    push_eight_field(out, segment.file_size)?;
-    push_eight_field(out, segment.memory_size)?;
-    push_eight_field(out, segment.flags)?;
-    push(out, b"\n")
+    let fields = [
+        Piece::Field(segment.address),
+        Piece::Field(segment.file_size),
+        Piece::Field(segment.memory_size),
+        Piece::Field(segment.flags),
+        Piece::Letter(b'\n'),
+    ];
+    push_pieces(alloc, out, &fields)
 }
 
-fn push_loads(out: &mut Vec<u8>, segments: &[Segment]) -> Result<(), NoMemory>
+fn push_loads(alloc: Global, out: &mut Vec<u8>, segments: &[Segment]) -> Result<(), NoMemory>
     ensures { OnOk result (out.new.items ≡ out.old.items ++ flat_map elfs.load_line segments.now) }
 {
     for segment in segments {
-        push_load(out, *segment)?;
+        push_load(alloc, out, *segment)?;
     }
     Ok(())
 }
@@ -37,8 +40,8 @@ pub fn list_elf(alloc: Global, elf: &Elf) -> Result<Text, NoMemory>
 {
     let mut out = Vec::new(alloc);
     push(&mut out, b"elf\n")?;
-    push_number_line(&mut out, b"entry", elf.entry)?;
-    push_loads(&mut out, elf.segments.as_slice())?;
+    push_number_line(alloc, &mut out, b"entry", elf.entry)?;
+    push_loads(alloc, &mut out, elf.segments.as_slice())?;
     push(&mut out, b"end\n")?;
     Ok(Text::from_vec(out))
 }

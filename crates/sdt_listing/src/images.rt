@@ -6,19 +6,24 @@ ghost use Rattle.sdt_listing.specs.Images as images;
 ghost use Rattle.sdt_listing.specs.Listings.{line};
 ghost use Rattle.sdt_listing.specs.Parts.{eight};
 
-use crate::listing::{push_data_lines, push_eight_field, push_word_lines};
+use crate::listing::{push_data_lines, push_word_lines};
 use crate::parts::push;
+use crate::pieces::{Piece, push_pieces};
 use link_model::Aif;
 use sdt_fault::{NoMemory, Text};
 use std::alloc::Global;
 
 /// Appends a line of a name and eight digits.
-pub fn push_number_line(out: &mut Vec<u8>, name: &[u8], number: u32) -> Result<(), NoMemory>
+pub fn push_number_line(
+    alloc: Global,
+    out: &mut Vec<u8>,
+    name: &[u8],
+    number: u32,
+) -> Result<(), NoMemory>
     ensures { OnOk result (out.new.items ≡ out.old.items ++ line (name.now ∷ eight number ∷ [])) }
 {
     push(out, name)?;
-    push_eight_field(out, number)?;
-    push(out, b"\n")
+    push_pieces(alloc, out, &[Piece::Field(number), Piece::Letter(b'\n')])
 }
 
 fn reloc_line(relocatable: bool) -> &'static [u8]
@@ -32,14 +37,14 @@ fn reloc_line(relocatable: bool) -> &'static [u8]
 }
 
 #[tactic(auto, unfolding(crate::specs::Images::head_text))]
-fn push_head(out: &mut Vec<u8>, a: Aif) -> Result<(), NoMemory>
+fn push_head(alloc: Global, out: &mut Vec<u8>, a: Aif) -> Result<(), NoMemory>
     ensures { OnOk result (out.new.items ≡ out.old.items ++ images.head_text a) }
 {
     push(out, b"aif\n")?;
-    push_number_line(out, b"base", a.base)?;
-    push_number_line(out, b"ro", a.ro)?;
-    push_number_line(out, b"rw", a.rw)?;
-    push_number_line(out, b"zi", a.zero)?;
+    push_number_line(alloc, out, b"base", a.base)?;
+    push_number_line(alloc, out, b"ro", a.ro)?;
+    push_number_line(alloc, out, b"rw", a.rw)?;
+    push_number_line(alloc, out, b"zi", a.zero)?;
     push(out, reloc_line(a.relocatable))
 }
 
@@ -84,7 +89,7 @@ pub fn list_aif(alloc: Global, a: &Aif, bytes: &[u8]) -> Result<Text, NoMemory>
     ensures { IfOk result (λ text. text ≡ images.aif_text a.now bytes.now) }
 {
     let mut out = Vec::new(alloc);
-    push_head(&mut out, *a)?;
+    push_head(alloc, &mut out, *a)?;
     push_code(alloc, &mut out, a.ro, bytes)?;
     push_data(alloc, &mut out, a.ro, a.rw, bytes)?;
     push(&mut out, b"end\n")?;

@@ -8,6 +8,7 @@ mod images;
 mod laws;
 mod listing;
 mod parts;
+mod pieces;
 mod thumb;
 
 pub use crate::arm::print_arm;

@@ -1,45 +1,27 @@
 //! The listing of an object and of a library.
 
-ghost use Rattle.std.specs.Prelude.{◌≡◌, ◌<◌, ◌≤◌, ◌+◌, ◌-◌, ◌*◌, ◌/◌, ◌^◌, ◌++◌, ◌∷◌, [], All, length, take, drop, OnOk, IfOk};
+ghost use Rattle.std.specs.Prelude.{◌≡◌, ◌<◌, ◌≤◌, ◌+◌, ◌-◌, ◌*◌, ◌/◌, ◌^◌, ◌++◌, [], All, length, take, drop, OnOk, IfOk};
 ghost use Rattle.std.specs.List.{flat_map};
 ghost use Rattle.sdt_word.specs.Bytes.{half_in, word_in};
 ghost use Rattle.aof_object.specs.Validity.{IsValid};
 ghost use Rattle.sdt_listing.specs.Listings as listings;
-ghost use Rattle.sdt_listing.specs.Parts as parts;
 
 use crate::arm::push_word;
-use crate::parts::{push, push_eight, push_four};
+use crate::parts::push;
+use crate::pieces::{Piece, push_pieces};
 use crate::thumb::push_half;
 use alf_archive::{Archive, Member};
 use aof_object::{Area, AreaFlags, Entry, Object, Reloc, Symbol};
-use sdt_fault::digits::push_decimal;
 use sdt_fault::{NoMemory, Text};
 use sdt_word::{half_at, word_at};
 use std::alloc::Global;
-
-// The field behind a space.
-fn push_field(out: &mut Vec<u8>, field: &[u8]) -> Result<(), NoMemory>
-    ensures { OnOk result (out.new.items ≡ out.old.items ++ (32 ∷ field.now)) }
-{
-    push(out, b" ")?;
-    push(out, field)
-}
-
-/// Appends eight digits behind a space.
-pub fn push_eight_field(out: &mut Vec<u8>, number: u32) -> Result<(), NoMemory>
-    ensures { OnOk result (out.new.items ≡ out.old.items ++ (32 ∷ parts.eight number)) }
-{
-    push(out, b" ")?;
-    push_eight(out, number)
-}
 
 #[tactic(auto, unfolding(crate::specs::Listings::word_line))]
 fn push_word_line(alloc: Global, out: &mut Vec<u8>, at: u32, w: u32) -> Result<(), NoMemory>
     ensures { OnOk result (out.new.items ≡ out.old.items ++ listings.word_line at w) }
 {
-    push_eight(out, at)?;
-    push_eight_field(out, w)?;
-    push(out, b" ")?;
+    let head = [Piece::Eight(at), Piece::Field(w), Piece::Letter(b' ')];
+    push_pieces(alloc, out, &head)?;
     push_word(alloc, out, at, w)?;
     push(out, b"\n")
 }
@@ -48,10 +30,9 @@ fn push_word_line(alloc: Global, out: &mut Vec<u8>, at: u32, w: u32) -> Result<(
 fn push_half_line(alloc: Global, out: &mut Vec<u8>, at: u32, h: u16) -> Result<(), NoMemory>
     ensures { OnOk result (out.new.items ≡ out.old.items ++ listings.half_line at h) }
 {
-    push_eight(out, at)?;
-    push(out, b" ")?;
-    push_four(out, h)?;
-    push(out, b" ")?;
+    let space = Piece::Letter(b' ');
+    let head = [Piece::Eight(at), space, Piece::Four(h), space];
+    push_pieces(alloc, out, &head)?;
     push_half(alloc, out, at, h)?;
     push(out, b"\n")
 }
@@ -60,8 +41,8 @@ fn push_half_line(alloc: Global, out: &mut Vec<u8>, at: u32, h: u16) -> Result<(
 fn push_data_line(alloc: Global, out: &mut Vec<u8>, at: u32, bytes: &[u8]) -> Result<(), NoMemory>
     ensures { OnOk result (out.new.items ≡ out.old.items ++ listings.data_line at bytes.now) }
 {
-    push_eight(out, at)?;
-    push_field(out, hex::encode(alloc, bytes)?.as_bytes())?;
+    push_pieces(alloc, out, &[Piece::Eight(at), Piece::Letter(b' ')])?;
+    push(out, hex::encode(alloc, bytes)?.as_bytes())?;
     push(out, b"\n")
 }
 
@@ -173,20 +154,23 @@ fn push_contents(
     push_word_lines(alloc, out, bytes, 0, bytes.len() / 4)
 }
 
-fn push_reloc(out: &mut Vec<u8>, reloc: Reloc) -> Result<(), NoMemory>
+fn push_reloc(alloc: Global, out: &mut Vec<u8>, reloc: Reloc) -> Result<(), NoMemory>
     ensures { OnOk result (out.new.items ≡ out.old.items ++ listings.reloc_line reloc) }
 {
     push(out, b"reloc")?;
-    push_eight_field(out, reloc.offset)?;
-    push_eight_field(out, reloc.word)?;
-    push(out, b"\n")
+    let fields = [
+        Piece::Field(reloc.offset),
+        Piece::Field(reloc.word),
+        Piece::Letter(b'\n'),
+    ];
+    push_pieces(alloc, out, &fields)
 }
 
-fn push_relocs(out: &mut Vec<u8>, relocs: &[Reloc]) -> Result<(), NoMemory>
+fn push_relocs(alloc: Global, out: &mut Vec<u8>, relocs: &[Reloc]) -> Result<(), NoMemory>
     ensures { OnOk result (out.new.items ≡ out.old.items ++ flat_map listings.reloc_line relocs.now) }
 {
     for reloc in relocs {
-        push_reloc(out, *reloc)?;
+        push_reloc(alloc, out, *reloc)?;
     }
     Ok(())
 }
@@ -194,13 +178,16 @@ fn push_relocs(out: &mut Vec<u8>, relocs: &[Reloc]) -> Result<(), NoMemory>
 fn push_area_line(alloc: Global, out: &mut Vec<u8>, area: &Area) -> Result<(), NoMemory>
     ensures { OnOk result (out.new.items ≡ out.old.items ++ listings.area_line area.now) }
 {
-    push(out, b"area")?;
-    push_field(out, area.name.as_slice())?;
-    push_eight_field(out, area.attributes)?;
-    push_eight_field(out, area.size)?;
-    push(out, b" ")?;
-    push_decimal(alloc, out, area.relocs.as_slice().len() as u64)?;
-    push(out, b"\n")
+    push(out, b"area ")?;
+    push(out, area.name.as_slice())?;
+    let fields = [
+        Piece::Field(area.attributes),
+        Piece::Field(area.size),
+        Piece::Letter(b' '),
+        Piece::Decimal(area.relocs.as_slice().len() as u64),
+        Piece::Letter(b'\n'),
+    ];
+    push_pieces(alloc, out, &fields)
 }
 
 fn push_area(alloc: Global, out: &mut Vec<u8>, area: &Area) -> Result<(), NoMemory>
@@ -209,7 +196,7 @@ fn push_area(alloc: Global, out: &mut Vec<u8>, area: &Area) -> Result<(), NoMemo
 {
     push_area_line(alloc, out, area)?;
     push_contents(alloc, out, area.attributes, area.bytes.as_slice())?;
-    push_relocs(out, area.relocs.as_slice())
+    push_relocs(alloc, out, area.relocs.as_slice())
 }
 
 fn push_areas(alloc: Global, out: &mut Vec<u8>, areas: &[Area]) -> Result<(), NoMemory>
@@ -234,36 +221,58 @@ fn area_name(areas: &[Area], area: Option<u32>) -> &[u8]
     }
 }
 
-fn push_symbol(out: &mut Vec<u8>, areas: &[Area], symbol: &Symbol) -> Result<(), NoMemory>
+fn push_symbol(
+    alloc: Global,
+    out: &mut Vec<u8>,
+    areas: &[Area],
+    symbol: &Symbol,
+) -> Result<(), NoMemory>
     ensures { OnOk result (out.new.items ≡ out.old.items ++ listings.symbol_line areas.now symbol.now) }
 {
-    push(out, b"symbol")?;
-    push_field(out, symbol.name.as_slice())?;
-    push_eight_field(out, symbol.attributes)?;
-    push_eight_field(out, symbol.value)?;
-    push_field(out, area_name(areas, symbol.area))?;
+    push(out, b"symbol ")?;
+    push(out, symbol.name.as_slice())?;
+    let fields = [
+        Piece::Field(symbol.attributes),
+        Piece::Field(symbol.value),
+        Piece::Letter(b' '),
+    ];
+    push_pieces(alloc, out, &fields)?;
+    push(out, area_name(areas, symbol.area))?;
     push(out, b"\n")
 }
 
-fn push_symbols(out: &mut Vec<u8>, areas: &[Area], symbols: &[Symbol]) -> Result<(), NoMemory>
+fn push_symbols(
+    alloc: Global,
+    out: &mut Vec<u8>,
+    areas: &[Area],
+    symbols: &[Symbol],
+) -> Result<(), NoMemory>
     ensures { OnOk result (out.new.items ≡ out.old.items ++ flat_map (listings.symbol_line areas.now) symbols.now) }
 {
     for symbol in symbols {
-        push_symbol(out, areas, symbol)?;
+        push_symbol(alloc, out, areas, symbol)?;
     }
     Ok(())
 }
 
-fn push_entry(out: &mut Vec<u8>, areas: &[Area], entry: Option<Entry>) -> Result<(), NoMemory>
+fn push_entry(
+    alloc: Global,
+    out: &mut Vec<u8>,
+    areas: &[Area],
+    entry: Option<Entry>,
+) -> Result<(), NoMemory>
     ensures { OnOk result (out.new.items ≡ out.old.items ++ listings.entry_text areas.now entry) }
 {
     let Some(entry) = entry else {
         return Ok(());
     };
-    push(out, b"entry")?;
-    push_field(out, area_name(areas, Some(entry.area)))?;
-    push_eight_field(out, entry.offset)?;
-    push(out, b"\n")
+    push(out, b"entry ")?;
+    push(out, area_name(areas, Some(entry.area)))?;
+    push_pieces(
+        alloc,
+        out,
+        &[Piece::Field(entry.offset), Piece::Letter(b'\n')],
+    )
 }
 
 fn push_object(alloc: Global, out: &mut Vec<u8>, o: &Object) -> Result<(), NoMemory>
@@ -272,16 +281,16 @@ fn push_object(alloc: Global, out: &mut Vec<u8>, o: &Object) -> Result<(), NoMem
 {
     let areas = o.areas.as_slice();
     push_areas(alloc, out, areas)?;
-    push_symbols(out, areas, o.symbols.as_slice())?;
-    push_entry(out, areas, o.entry)
+    push_symbols(alloc, out, areas, o.symbols.as_slice())?;
+    push_entry(alloc, out, areas, o.entry)
 }
 
 fn push_member(alloc: Global, out: &mut Vec<u8>, member: &Member) -> Result<(), NoMemory>
     requires { IsValid member.now.object }
     ensures { OnOk result (out.new.items ≡ out.old.items ++ listings.member_text member.now) }
 {
-    push(out, b"member")?;
-    push_field(out, member.name.as_slice())?;
+    push(out, b"member ")?;
+    push(out, member.name.as_slice())?;
     push(out, b"\n")?;
     push_object(alloc, out, &member.object)
 }

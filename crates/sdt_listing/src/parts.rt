@@ -1,6 +1,6 @@
 //! The parts of an instruction's text: names, numbers, shifted registers and addresses.
 
-ghost use Rattle.std.specs.Prelude.{◌≡◌, ◌==◌, ◌<◌, ◌≤◌, ◌+◌, ◌-◌, ◌++◌, [], OnOk};
+ghost use Rattle.std.specs.Prelude.{◌≡◌, ◌==◌, ◌<◌, ◌≤◌, ◌+◌, ◌-◌, ◌++◌, OnOk, codes};
 ghost use Rattle.sdt_word.specs.Numbers.{bit, places_from, registers};
 ghost use Rattle.sdt_listing.specs.Parts as parts;
 
@@ -8,16 +8,6 @@ use sdt_fault::NoMemory;
 use sdt_fault::digits::{push_decimal, push_hexadecimal_places};
 use sdt_word::{Condition, ShiftKind, field, sign_extend};
 use std::alloc::Global;
-
-/// Where a transfer reaches: before or after an offset is added to the base or taken away, which may be
-/// written back.
-#[derive(Clone, Copy)]
-pub struct ListedPlace {
-    pub pre: bool,
-    pub up: bool,
-    pub write_back: bool,
-    pub base: u8,
-}
 
 /// Appends a piece.
 pub fn push(out: &mut Vec<u8>, piece: &[u8]) -> Result<(), NoMemory>
@@ -34,7 +24,7 @@ pub fn mark(applies: bool, piece: &[u8]) -> &[u8]
     if applies { piece } else { b"" }
 }
 
-fn condition_name(condition: Condition) -> &'static [u8]
+pub fn condition_name(condition: Condition) -> &'static [u8]
     ensures { result.now ≡ parts.condition_name condition }
 {
     match condition {
@@ -56,30 +46,16 @@ fn condition_name(condition: Condition) -> &'static [u8]
     }
 }
 
-fn shift_name(shift: ShiftKind) -> &'static [u8]
-    ensures { result.now ≡ parts.shift_name shift }
+// A kind of shift behind a register, before its amount.
+fn by_shift(shift: ShiftKind) -> &'static [u8]
+    ensures { result.now ≡ codes "," ++ (parts.shift_name shift ++ codes " ") }
 {
     match shift {
-        ShiftKind::Lsl => b"LSL",
-        ShiftKind::Lsr => b"LSR",
-        ShiftKind::Asr => b"ASR",
-        ShiftKind::Ror => b"ROR",
+        ShiftKind::Lsl => b",LSL ",
+        ShiftKind::Lsr => b",LSR ",
+        ShiftKind::Asr => b",ASR ",
+        ShiftKind::Ror => b",ROR ",
     }
-}
-
-/// Appends an operation with its condition and its suffix, and a space behind them.
-pub fn push_operation(
-    out: &mut Vec<u8>,
-    operation: &[u8],
-    condition: Condition,
-    suffix: &[u8],
-) -> Result<(), NoMemory>
-    ensures { OnOk result (out.new.items ≡ out.old.items ++ parts.spoken operation.now condition suffix.now []) }
-{
-    push(out, operation)?;
-    push(out, condition_name(condition))?;
-    push(out, suffix)?;
-    push(out, b" ")
 }
 
 /// Appends a register's name.
@@ -123,16 +99,6 @@ pub fn push_number(alloc: Global, out: &mut Vec<u8>, n: u32) -> Result<(), NoMem
     ensures { OnOk result (out.new.items ≡ out.old.items ++ parts.number n) }
 {
     push(out, b"#")?;
-    push_hex(alloc, out, n)
-}
-
-fn push_offset(alloc: Global, out: &mut Vec<u8>, up: bool, n: u32) -> Result<(), NoMemory>
-    ensures { OnOk result (out.new.items ≡ out.old.items ++ parts.offset up n) }
-{
-    if up {
-        return push_number(alloc, out, n);
-    }
-    push(out, b"#-")?;
     push_hex(alloc, out, n)
 }
 
@@ -186,9 +152,7 @@ pub fn push_shifted(
     if amount == 0 {
         return push(out, by_zero(shift));
     }
-    push(out, b",")?;
-    push(out, shift_name(shift))?;
-    push(out, b" ")?;
+    push(out, by_shift(shift))?;
     push_number(alloc, out, u32::from(amount))
 }
 
@@ -203,66 +167,8 @@ pub fn push_shifted_by(
     ensures { OnOk result (out.new.items ≡ out.old.items ++ parts.shifted_by m shift rs) }
 {
     push_register(alloc, out, m)?;
-    push(out, b",")?;
-    push(out, shift_name(shift))?;
-    push(out, b" ")?;
+    push(out, by_shift(shift))?;
     push_register(alloc, out, rs)
-}
-
-/// Appends an address without an offset.
-pub fn push_plain(alloc: Global, out: &mut Vec<u8>, n: u8) -> Result<(), NoMemory>
-    ensures { OnOk result (out.new.items ≡ out.old.items ++ parts.plain n) }
-{
-    push(out, b"[")?;
-    push_register(alloc, out, n)?;
-    push(out, b"]")
-}
-
-/// Appends an address with an offset.
-#[tactic(auto, unfolding(crate::specs::Parts::indexed))]
-pub fn push_indexed(
-    alloc: Global,
-    out: &mut Vec<u8>,
-    place: ListedPlace,
-    by: &[u8],
-) -> Result<(), NoMemory>
-    ensures { OnOk result (out.new.items ≡ out.old.items ++ parts.indexed place.pre place.write_back place.base by.now) }
-{
-    if place.pre {
-        push(out, b"[")?;
-        push_register(alloc, out, place.base)?;
-        push(out, b",")?;
-        push(out, by)?;
-        push(out, b"]")?;
-        return push(out, mark(place.write_back, b"!"));
-    }
-    push_plain(alloc, out, place.base)?;
-    push(out, b",")?;
-    push(out, by)
-}
-
-/// Appends an address with a number as its offset.
-#[tactic(auto, unfolding(crate::specs::Parts::indexed_by))]
-pub fn push_indexed_by(
-    alloc: Global,
-    out: &mut Vec<u8>,
-    place: ListedPlace,
-    v: u32,
-) -> Result<(), NoMemory>
-    ensures { OnOk result (out.new.items ≡ out.old.items ++ parts.indexed_by place.pre place.up place.write_back place.base v) }
-{
-    if is_left_out(place, v) {
-        return push_plain(alloc, out, place.base);
-    }
-    let mut by = Vec::new(alloc);
-    push_offset(alloc, &mut by, place.up, v)?;
-    push_indexed(alloc, out, place, by.as_slice())
-}
-
-fn is_left_out(place: ListedPlace, v: u32) -> bool
-    ensures { result ≡ parts.is_left_out place.pre place.write_back v }
-{
-    place.pre && !place.write_back && v == 0
 }
 
 // Whether a list has a register.

@@ -5,14 +5,12 @@ ghost use Rattle.thumb_isa.specs.ThumbRows.{IsUnread, ReadsThumb};
 ghost use Rattle.thumb_isa.specs.declared.instr.ThumbInstr.{ThumbInstr};
 ghost use Rattle.sdt_word.specs.Numbers.{registers};
 ghost use Rattle.sdt_listing.specs.Parts as parts;
+ghost use Rattle.sdt_listing.specs.Pieces as pieces;
 ghost use Rattle.sdt_listing.specs.Readings.{thumb_of};
 ghost use Rattle.sdt_listing.specs.ThumbTexts as texts;
 
-use crate::parts::{
-    ListedPlace, push, push_address, push_braced, push_four, push_hex, push_indexed,
-    push_indexed_by, push_list, push_named, push_next, push_number, push_operation, push_register,
-    target,
-};
+use crate::parts::{push, push_braced, push_four, push_named, push_next, target};
+use crate::pieces::{ListedPlace, Offset, Piece, push_spoken, push_transfer};
 use sdt_fault::{NoMemory, Text};
 use sdt_word::Condition;
 use std::alloc::Global;
@@ -134,7 +132,7 @@ fn half_name(second: bool) -> &'static [u8]
     if second { b"BL2" } else { b"BL1" }
 }
 
-fn amount(shift: ThumbShift, number: u8) -> u8
+fn amount_of(shift: ThumbShift, number: u8) -> u8
     ensures { result ≡ texts.amount shift number }
 {
     match shift {
@@ -174,10 +172,7 @@ fn base(stack: bool) -> u8
 
 // A place above a register.
 fn above(base: u8) -> ListedPlace
-    ensures pre { result.pre ≡ true }
-    ensures up { result.up ≡ true }
-    ensures write_back { result.write_back ≡ false }
-    ensures base { result.base ≡ base }
+    ensures { result ≡ pieces.above base }
 {
     ListedPlace {
         pre: true,
@@ -187,102 +182,61 @@ fn above(base: u8) -> ListedPlace
     }
 }
 
-// An operation and a space.
-fn push_said(out: &mut Vec<u8>, operation: &[u8]) -> Result<(), NoMemory>
-    ensures { OnOk result (out.new.items ≡ out.old.items ++ texts.said operation.now []) }
-{
-    push_operation(out, operation, Condition::Al, b"")
-}
-
-// An operation of a register up to its other operand.
-#[tactic(auto, unfolding(crate::specs::ThumbTexts::on))]
-fn push_on(alloc: Global, out: &mut Vec<u8>, operation: &[u8], rd: u8) -> Result<(), NoMemory>
-    ensures { OnOk result (out.new.items ≡ out.old.items ++ texts.on operation.now rd []) }
-{
-    push_said(out, operation)?;
-    push_register(alloc, out, rd)?;
-    push(out, b",")
-}
-
-// Each function below appends the text of one row's instruction, or of rows of one form.
-
-#[tactic(auto, unfolding(crate::specs::ThumbTexts::on))]
-fn push_shift(
+// An operation of one operand.
+fn push_said(
     alloc: Global,
     out: &mut Vec<u8>,
-    shift: ThumbShift,
-    number: u8,
-    rs: u8,
+    operation: &[u8],
+    operand: Piece,
+) -> Result<(), NoMemory>
+    ensures { OnOk result (out.new.items ≡ out.old.items ++ texts.said operation.now (pieces.piece operand)) }
+{
+    push_spoken(alloc, out, operation, Condition::Al, b"", &[operand])
+}
+
+// An operation of a register and another operand.
+#[tactic(auto, unfolding(crate::specs::ThumbTexts::on))]
+fn push_on(
+    alloc: Global,
+    out: &mut Vec<u8>,
+    operation: &[u8],
     rd: u8,
+    operand: Piece,
 ) -> Result<(), NoMemory>
-    ensures { OnOk result (out.new.items ≡ out.old.items ++ texts.on (texts.shift_name shift) rd (parts.register rs ++ (codes "," ++ parts.number (texts.amount shift number)))) }
+    ensures { OnOk result (out.new.items ≡ out.old.items ++ texts.on operation.now rd (pieces.piece operand)) }
 {
-    push_on(alloc, out, shift_name(shift), rd)?;
-    push_register(alloc, out, rs)?;
-    push(out, b",")?;
-    push_number(alloc, out, u32::from(amount(shift, number)))
+    let operands = [Piece::Register(rd), Piece::Letter(b','), operand];
+    push_spoken(alloc, out, operation, Condition::Al, b"", &operands)
 }
 
-fn push_addend(
+// An operation of two registers and another operand.
+#[tactic(auto, unfolding(crate::specs::ThumbTexts::on))]
+fn push_on_two(
     alloc: Global,
     out: &mut Vec<u8>,
-    immediate: bool,
-    operand: u8,
+    operation: &[u8],
+    rd: u8,
+    rs: u8,
+    operand: Piece,
 ) -> Result<(), NoMemory>
-    ensures { OnOk result (out.new.items ≡ out.old.items ++ texts.addend immediate operand) }
+    ensures { OnOk result (out.new.items ≡ out.old.items ++ texts.on operation.now rd (parts.register rs ++ (codes "," ++ pieces.piece operand))) }
+{
+    let operands = [
+        Piece::Register(rd),
+        Piece::Next(rs),
+        Piece::Letter(b','),
+        operand,
+    ];
+    push_spoken(alloc, out, operation, Condition::Al, b"", &operands)
+}
+
+fn addend(immediate: bool, operand: u8) -> Piece
+    ensures { pieces.piece result ≡ texts.addend immediate operand }
 {
     if immediate {
-        return push_number(alloc, out, u32::from(operand));
+        return Piece::Number(u32::from(operand));
     }
-    push_register(alloc, out, operand)
-}
-
-#[tactic(auto, unfolding(crate::specs::ThumbTexts::on))]
-fn push_sum(
-    alloc: Global,
-    out: &mut Vec<u8>,
-    immediate: bool,
-    subtract: bool,
-    operand: u8,
-    rs: u8,
-    rd: u8,
-) -> Result<(), NoMemory>
-    ensures { OnOk result (out.new.items ≡ out.old.items ++ texts.on (texts.sum_name subtract) rd (parts.register rs ++ (codes "," ++ texts.addend immediate operand))) }
-{
-    push_on(alloc, out, sum_name(subtract), rd)?;
-    push_register(alloc, out, rs)?;
-    push(out, b",")?;
-    push_addend(alloc, out, immediate, operand)
-}
-
-// An operation of a register and a number.
-#[tactic(auto, unfolding(crate::specs::ThumbTexts::on))]
-fn push_on_number(
-    alloc: Global,
-    out: &mut Vec<u8>,
-    operation: &[u8],
-    rd: u8,
-    number: u32,
-) -> Result<(), NoMemory>
-    ensures { OnOk result (out.new.items ≡ out.old.items ++ texts.on operation.now rd (parts.number number)) }
-{
-    push_on(alloc, out, operation, rd)?;
-    push_number(alloc, out, number)
-}
-
-// An operation of two registers.
-#[tactic(auto, unfolding(crate::specs::ThumbTexts::on))]
-fn push_on_register(
-    alloc: Global,
-    out: &mut Vec<u8>,
-    operation: &[u8],
-    rd: u8,
-    rs: u8,
-) -> Result<(), NoMemory>
-    ensures { OnOk result (out.new.items ≡ out.old.items ++ texts.on operation.now rd (parts.register rs)) }
-{
-    push_on(alloc, out, operation, rd)?;
-    push_register(alloc, out, rs)
+    Piece::Register(operand)
 }
 
 #[tactic(auto, unfolding(crate::specs::ThumbTexts::high_text))]
@@ -295,16 +249,14 @@ fn push_high(
 ) -> Result<(), NoMemory>
     ensures { OnOk result (out.new.items ≡ out.old.items ++ texts.high_text operation rd rs) }
 {
+    let name = high_name(operation);
     match operation {
-        HighOperation::Bx => {
-            push_said(out, high_name(operation))?;
-            push_register(alloc, out, rs)
-        }
-        _ => push_on_register(alloc, out, high_name(operation), rd, rs),
+        HighOperation::Bx => push_said(alloc, out, name, Piece::Register(rs)),
+        _ => push_on(alloc, out, name, rd, Piece::Register(rs)),
     }
 }
 
-// A transfer at a number above a register.
+// A transfer at a place above a register.
 #[tactic(auto, unfolding(crate::specs::ThumbTexts::on))]
 fn push_above(
     alloc: Global,
@@ -312,46 +264,11 @@ fn push_above(
     operation: &[u8],
     rd: u8,
     rn: u8,
-    offset: u32,
+    by: Offset,
 ) -> Result<(), NoMemory>
-    ensures { OnOk result (out.new.items ≡ out.old.items ++ texts.on operation.now rd (texts.above rn offset)) }
+    ensures { OnOk result (out.new.items ≡ out.old.items ++ texts.on operation.now rd (pieces.placed (pieces.above rn) by)) }
 {
-    push_on(alloc, out, operation, rd)?;
-    push_indexed_by(alloc, out, above(rn), offset)
-}
-
-// A transfer at a register above another.
-#[tactic(auto, unfolding(crate::specs::ThumbTexts::on))]
-fn push_above_by(
-    alloc: Global,
-    out: &mut Vec<u8>,
-    operation: &[u8],
-    rd: u8,
-    rn: u8,
-    ro: u8,
-) -> Result<(), NoMemory>
-    ensures { OnOk result (out.new.items ≡ out.old.items ++ texts.on operation.now rd (texts.above_by rn ro)) }
-{
-    push_on(alloc, out, operation, rd)?;
-    let mut by = Vec::new(alloc);
-    push_register(alloc, &mut by, ro)?;
-    push_indexed(alloc, out, above(rn), by.as_slice())
-}
-
-#[tactic(auto, unfolding(crate::specs::ThumbTexts::on))]
-fn push_base(
-    alloc: Global,
-    out: &mut Vec<u8>,
-    stack: bool,
-    rd: u8,
-    offset: u8,
-) -> Result<(), NoMemory>
-    ensures { OnOk result (out.new.items ≡ out.old.items ++ texts.on (codes "ADD") rd (parts.register (texts.base stack) ++ (codes "," ++ parts.number (4 * offset)))) }
-{
-    push_on(alloc, out, b"ADD", rd)?;
-    push_register(alloc, out, base(stack))?;
-    push(out, b",")?;
-    push_number(alloc, out, 4 * u32::from(offset))
+    push_transfer(alloc, out, operation, Condition::Al, b"", rd, above(rn), by)
 }
 
 // The registers of a push or a pop, each with a comma before it.
@@ -381,9 +298,9 @@ fn push_stack(
 ) -> Result<(), NoMemory>
     ensures { OnOk result (out.new.items ≡ out.old.items ++ texts.stack_text load link list) }
 {
-    push_said(out, stack_name(load))?;
     let mut names = Vec::new(alloc);
     push_stacked(alloc, &mut names, load, link, list)?;
+    push_spoken(alloc, out, stack_name(load), Condition::Al, b"", &[])?;
     push_braced(out, names.as_slice())
 }
 
@@ -396,42 +313,13 @@ fn push_multiple(
 ) -> Result<(), NoMemory>
     ensures { OnOk result (out.new.items ≡ out.old.items ++ texts.said (texts.multiple_name load) (parts.register rn ++ (codes "!," ++ parts.braced (parts.named (registers 8 list))))) }
 {
-    push_said(out, multiple_name(load))?;
-    push_register(alloc, out, rn)?;
-    push(out, b"!,")?;
-    push_list(alloc, out, u16::from(list), 8)
-}
-
-fn push_conditional(
-    out: &mut Vec<u8>,
-    at: u32,
-    condition: Condition,
-    offset: u8,
-) -> Result<(), NoMemory>
-    ensures { OnOk result (out.new.items ≡ out.old.items ++ parts.spoken (codes "B") condition [] (parts.address (parts.target (at + 4) 2 8 offset))) }
-{
-    push_operation(out, b"B", condition, b"")?;
-    push_address(out, target(at, 4, 2, 8, u32::from(offset)))
-}
-
-fn push_branch(out: &mut Vec<u8>, at: u32, offset: u16) -> Result<(), NoMemory>
-    ensures { OnOk result (out.new.items ≡ out.old.items ++ texts.said (codes "B") (parts.address (parts.target (at + 4) 2 11 offset))) }
-{
-    push_said(out, b"B")?;
-    push_address(out, target(at, 4, 2, 11, u32::from(offset)))
-}
-
-// An operation of a number without a mark.
-fn push_said_hex(
-    alloc: Global,
-    out: &mut Vec<u8>,
-    operation: &[u8],
-    number: u32,
-) -> Result<(), NoMemory>
-    ensures { OnOk result (out.new.items ≡ out.old.items ++ texts.said operation.now (parts.hex number)) }
-{
-    push_said(out, operation)?;
-    push_hex(alloc, out, number)
+    let listed = [
+        Piece::Register(rn),
+        Piece::Letter(b'!'),
+        Piece::Letter(b','),
+        Piece::LowListed(list),
+    ];
+    push_spoken(alloc, out, multiple_name(load), Condition::Al, b"", &listed)
 }
 
 fn push_data_half(out: &mut Vec<u8>, h: u16) -> Result<(), NoMemory>
@@ -442,7 +330,7 @@ fn push_data_half(out: &mut Vec<u8>, h: u16) -> Result<(), NoMemory>
 }
 
 // The instructions of registers and numbers.
-#[tactic(auto, unfolding(crate::specs::ThumbTexts::instruction_text))]
+#[tactic(auto, unfolding(crate::specs::ThumbTexts::instruction_text, crate::specs::Pieces::placed))]
 fn push_instruction(
     alloc: Global,
     out: &mut Vec<u8>,
@@ -459,31 +347,45 @@ fn push_instruction(
             amount,
             rs,
             rd,
-        } => push_shift(alloc, out, shift, amount, rs, rd),
+        } => push_on_two(
+            alloc,
+            out,
+            shift_name(shift),
+            rd,
+            rs,
+            Piece::Number(u32::from(amount_of(shift, amount))),
+        ),
         ThumbInstr::AddSubtract {
             immediate,
             subtract,
             operand,
             rs,
             rd,
-        } => push_sum(alloc, out, immediate, subtract, operand, rs, rd),
+        } => push_on_two(
+            alloc,
+            out,
+            sum_name(subtract),
+            rd,
+            rs,
+            addend(immediate, operand),
+        ),
         ThumbInstr::DataImmediate {
             operation,
             rd,
             immediate,
-        } => push_on_number(
+        } => push_on(
             alloc,
             out,
             immediate_name(operation),
             rd,
-            u32::from(immediate),
+            Piece::Number(u32::from(immediate)),
         ),
-        ThumbInstr::DataRegister { operation, rs, rd } => push_on_register(
+        ThumbInstr::DataRegister { operation, rs, rd } => push_on(
             alloc,
             out,
             operation_name(operation),
             rd,
-            rs,
+            Piece::Register(rs),
         ),
         ThumbInstr::HighRegister {
             operation,
@@ -498,7 +400,7 @@ fn push_instruction(
             transfer_name(true),
             rd,
             15,
-            4 * u32::from(offset),
+            Offset::Number(4 * u32::from(offset)),
         ),
         ThumbInstr::TransferRegister {
             load,
@@ -506,14 +408,21 @@ fn push_instruction(
             ro,
             rn,
             rd,
-        } => push_above_by(alloc, out, byte_name(load, byte), rd, rn, ro),
-        ThumbInstr::TransferSigned { kind, ro, rn, rd } => push_above_by(
+        } => push_above(
+            alloc,
+            out,
+            byte_name(load, byte),
+            rd,
+            rn,
+            Offset::Register(ro),
+        ),
+        ThumbInstr::TransferSigned { kind, ro, rn, rd } => push_above(
             alloc,
             out,
             signed_name(kind),
             rd,
             rn,
-            ro,
+            Offset::Register(ro),
         ),
         ThumbInstr::TransferImmediate {
             byte,
@@ -527,7 +436,7 @@ fn push_instruction(
             byte_name(load, byte),
             rd,
             rn,
-            scaled(byte, offset),
+            Offset::Number(scaled(byte, offset)),
         ),
         ThumbInstr::TransferHalf {
             load,
@@ -540,7 +449,7 @@ fn push_instruction(
             half_transfer_name(load),
             rd,
             rn,
-            2 * u32::from(offset),
+            Offset::Number(2 * u32::from(offset)),
         ),
         ThumbInstr::TransferStack { load, rd, offset } => push_above(
             alloc,
@@ -548,35 +457,48 @@ fn push_instruction(
             transfer_name(load),
             rd,
             13,
-            4 * u32::from(offset),
+            Offset::Number(4 * u32::from(offset)),
         ),
-        ThumbInstr::LoadAddress { stack, rd, offset } => push_base(alloc, out, stack, rd, offset),
-        ThumbInstr::AdjustStack { subtract, offset } => push_on_number(
+        ThumbInstr::LoadAddress { stack, rd, offset } => push_on_two(
+            alloc,
+            out,
+            b"ADD",
+            rd,
+            base(stack),
+            Piece::Number(4 * u32::from(offset)),
+        ),
+        ThumbInstr::AdjustStack { subtract, offset } => push_on(
             alloc,
             out,
             sum_name(subtract),
             13,
-            4 * u32::from(offset),
+            Piece::Number(4 * u32::from(offset)),
         ),
         ThumbInstr::PushPop { load, link, list } => push_stack(alloc, out, load, link, list),
         ThumbInstr::TransferMultiple { load, rn, list } => push_multiple(
             alloc, out, load, rn, list,
         ),
-        ThumbInstr::BranchConditional { condition, offset } => push_conditional(
-            out, at, condition, offset,
-        ),
-        ThumbInstr::SoftwareInterrupt { number } => push_said_hex(
+        ThumbInstr::BranchConditional { condition, offset } => {
+            let to = [Piece::Address(target(at, 4, 2, 8, u32::from(offset)))];
+            push_spoken(alloc, out, b"B", condition, b"", &to)
+        }
+        ThumbInstr::SoftwareInterrupt { number } => push_said(
             alloc,
             out,
             b"SWI",
-            u32::from(number),
+            Piece::Hex(u32::from(number)),
         ),
-        ThumbInstr::Branch { offset } => push_branch(out, at, offset),
-        ThumbInstr::BranchLink { second, offset } => push_said_hex(
+        ThumbInstr::Branch { offset } => push_said(
+            alloc,
+            out,
+            b"B",
+            Piece::Address(target(at, 4, 2, 11, u32::from(offset))),
+        ),
+        ThumbInstr::BranchLink { second, offset } => push_said(
             alloc,
             out,
             half_name(second),
-            u32::from(offset),
+            Piece::Hex(u32::from(offset)),
         ),
         ThumbInstr::Undefined { .. } => push_data_half(out, h),
     }

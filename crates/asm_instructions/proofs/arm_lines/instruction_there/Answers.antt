@@ -1,6 +1,7 @@
 use Rattle.std.proofs.Common.{◌≡◌, sym, ap, ◌∙◌, subst}
-use Rattle.std.specs.Prelude.{IfOk}
-use Rattle.source_model.specs.ArmForms.{arm_instruction}
+use Rattle.std.specs.Prelude.{IfOk, Ok}
+use Rattle.arm_isa.specs.declared.instr.ArmInstr.TheVariants as instr
+use Rattle.source_model.specs.ArmForms.{arm_instruction, are_saved, is_saved, mask_of}
 use Rattle.asm_instructions.specs.Lookups.{context_of}
 use Rattle.asm_instructions.proofs.arm_lines.instruction_there.Goals as goal
 
@@ -46,3 +47,24 @@ returns-in-Swap c = c.swap.ensures ∙ ap (arm_instruction (context_of c.args.lo
 
 pub returns-in-TransferBlock : goal.returns-in-TransferBlock
 returns-in-TransferBlock c = c.transfer_block.ensures ∙ ap (arm_instruction (context_of c.args.lookup.now)) (sym c.in-TransferBlock.is)
+
+pub returns-in-BranchExchange : goal.returns-in-BranchExchange
+returns-in-BranchExchange c =
+    ap (λ r. Ok (instr.BranchExchange c.in-BranchExchange.condition r)) c.register-rm.ensures
+    ∙ ap (arm_instruction (context_of c.args.lookup.now)) (sym c.in-BranchExchange.is)
+
+pub returns-in-ReadStatus : goal.returns-in-ReadStatus
+returns-in-ReadStatus c =
+    ap (λ s. Ok (instr.ReadStatus c.in-ReadStatus.condition s c.register-rd.result)) c.is_saved.ensures
+    ∙ ap (λ r. Ok (instr.ReadStatus c.in-ReadStatus.condition (is_saved c.in-ReadStatus.status) r)) c.register-rd.ensures
+    ∙ ap (arm_instruction (context_of c.args.lookup.now)) (sym c.in-ReadStatus.is)
+
+pub returns-in-WriteStatus : goal.returns-in-WriteStatus
+returns-in-WriteStatus c =
+    let k = c.in-WriteStatus.condition in
+    let fields = c.in-WriteStatus.fields in
+    let rm = c.register-rm-in-WriteStatus.result in
+    ap (λ s. Ok (instr.WriteStatus k s c.mask_of.result rm)) c.are_saved.ensures
+    ∙ ap (λ m. Ok (instr.WriteStatus k (are_saved fields) m rm)) c.mask_of.ensures
+    ∙ ap (λ r. Ok (instr.WriteStatus k (are_saved fields) (mask_of fields) r)) c.register-rm-in-WriteStatus.ensures
+    ∙ ap (arm_instruction (context_of c.args.lookup.now)) (sym c.in-WriteStatus.is)
