@@ -9,14 +9,14 @@ use sdt_fault::kinds::FileKind;
 use sdt_word::field;
 
 /// The first check that fails on a row, with its word's place in the row.
-#[derive(Clone, Copy, PartialEq, Eq, Debug)]
+#[derive(Clone, Copy)]
 pub struct Flaw {
     pub place: u32,
     pub kind: FileKind,
 }
 
 /// The area that a symbol tells.
-#[derive(Clone, Copy, PartialEq, Eq, Debug)]
+#[derive(Clone, Copy)]
 pub enum Home {
     /// None of the object's.
     Unknown,

@@ -8,15 +8,15 @@ use crate::records::{Area, Symbol};
 use sdt_word::field;
 
 /// The attributes word of an area.
-#[derive(Clone, Copy, PartialEq, Eq, Debug)]
+#[derive(Clone, Copy)]
 pub struct AreaFlags(pub u32);
 
 /// The attributes word of a symbol.
-#[derive(Clone, Copy, PartialEq, Eq, Debug)]
+#[derive(Clone, Copy)]
 pub struct SymbolFlags(pub u32);
 
 /// What the attributes of an area say.
-#[derive(Clone, Copy, PartialEq, Eq, Default, Debug)]
+#[derive(Clone, Copy)]
 pub struct AreaParts {
     /// The exponent of 2.
     pub alignment: u32,
@@ -33,7 +33,7 @@ pub struct AreaParts {
 }
 
 /// Where a symbol is known.
-#[derive(Clone, Copy, PartialEq, Eq, Debug)]
+#[derive(Clone, Copy)]
 pub enum Scope {
     /// Defined, for its object alone.
     Local,
@@ -44,7 +44,7 @@ pub enum Scope {
 }
 
 /// What the attributes of a symbol say.
-#[derive(Clone, Copy, PartialEq, Eq, Debug)]
+#[derive(Clone, Copy)]
 pub struct SymbolParts {
     pub scope: Scope,
     pub absolute: bool,

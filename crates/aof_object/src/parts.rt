@@ -15,7 +15,7 @@ use sdt_word::word_at;
 use std::alloc::Global;
 
 /// How often a chunk's name stands in a table.
-#[derive(Clone, Copy, PartialEq, Eq, Debug)]
+#[derive(Clone, Copy)]
 pub enum Found {
     Absent,
     One(Span),
@@ -23,7 +23,7 @@ pub enum Found {
 }
 
 /// Where the chunks of an object stand in its file.
-#[derive(Clone, Copy, PartialEq, Eq, Debug)]
+#[derive(Clone, Copy)]
 pub struct Parts {
     pub head: Span,
     pub areas: Span,

@@ -11,7 +11,7 @@ pub struct Object {
 }
 
 /// The place where execution begins, in Thumb state exactly where the area has attribute bit 20.
-#[derive(Clone, Copy, PartialEq, Eq, Debug)]
+#[derive(Clone, Copy, Debug)]
 pub struct Entry {
     pub area: u32,
     pub offset: u32,
@@ -31,7 +31,7 @@ pub struct Area {
 
 /// A relocation: the offset of its field in the area, and its word (bits 24 and 25 the field's type, 26
 /// relative to the area, 27 by a symbol, the low 24 bits the number of the symbol or area).
-#[derive(Clone, Copy, PartialEq, Eq, Debug)]
+#[derive(Clone, Copy, Debug)]
 pub struct Reloc {
     pub offset: u32,
     pub word: u32,

@@ -7,7 +7,7 @@ use crate::records::Reloc;
 use sdt_word::field as bits;
 
 /// What a field is: a byte, a half-word, a word, or a branch of ARM code or, where true, of Thumb code.
-#[derive(Clone, Copy, PartialEq, Eq, Hash, Debug)]
+#[derive(Clone, Copy, PartialEq, Eq)]
 pub enum FieldKind {
     Byte,
     Half,
@@ -16,7 +16,7 @@ pub enum FieldKind {
 }
 
 /// A field of an area.
-#[derive(Clone, Copy, PartialEq, Eq, Hash, Debug)]
+#[derive(Clone, Copy)]
 pub struct Field {
     /// The offset where it begins, without the mark of Thumb code.
     pub place: u32,
@@ -24,7 +24,7 @@ pub struct Field {
 }
 
 /// What a relocation names, by its number in the object.
-#[derive(Clone, Copy, PartialEq, Eq, Debug)]
+#[derive(Clone, Copy)]
 pub enum RelocationTarget {
     Symbol(u32),
     Area(u32),
