@@ -1,9 +1,9 @@
 -- Items that stand in two relations at once, in one that looks at no item before, or over other items;
 -- and the law of items that are read one for each head.
-use Rattle.std.proofs.Common.{◌≡◌, ◌+◌, List, [], ◌∷◌, ◌++◌, map, Result, Ok, refl, sym, ap, subst, ◌∙◌, append-nil}
+use Rattle.std.proofs.Common.{◌≡◌, ℕ, ◌+◌, ◌<◌, List, [], ◌∷◌, ◌++◌, map, length, take, get_or, Result, Ok, refl, sym, ap, subst, ◌∙◌, append-nil}
 use Rattle.std.specs.Prelude.{◌↔◌}
-use Rattle.std.specs.List.{AllByRecursion}
-use Rattle.std.proofs.lemmas.List.{map_push}
+use Rattle.std.specs.List.{AllByRecursion, flat_map}
+use Rattle.std.proofs.lemmas.List.{flat_map_more, map_push, take_more}
 use Rattle.sdt_fault.specs.declared.refusal.Refusal.{Refusal}
 use Rattle.chunk_file.specs.Reading.{EachStands}
 use Rattle.chunk_file.proofs.Loops.{bind_ok}
@@ -73,3 +73,14 @@ each_of_law {H} {A} key step stands agrees hs xs = (
       subst (λ (zs : List A). (map key zs ≡ hs) × EachStands stands [] zs) (sym r.1) (r.2, r.3),
   λ h. ap (λ (ks : List H). each_of step ks []) (sym h.0) ∙ of_again key step stands agrees [] xs h.1,
 )
+
+-- a loop that appends a row for each item
+pub rows_at : {X A : Type 0} (f : X → List A) (xs : List X) (i : ℕ) (d : X) (old before after : List A) → i < length xs → before ≡ old ++ flat_map f (take i xs) → after ≡ before ++ f (get_or xs i d)
+    → after ≡ old ++ flat_map f (take (i + 1) xs)
+rows_at f xs i d old before after h known added =
+    added ∙ ap (λ (l : List _). l ++ f (get_or xs i d)) known ∙ flat_map_more f old (take i xs) (get_or xs i d)
+    ∙ ap (λ (l : List _). old ++ flat_map f l) (sym (take_more xs i d h))
+
+pub rows_more : {X A : Type 0} (f : X → List A) (xs : List X) (i : ℕ) (x : X) (old before after : List A) → i < length xs → x ≡ get_or xs i x → before ≡ old ++ flat_map f (take i xs) → after ≡ before ++ f x
+    → after ≡ old ++ flat_map f (take (i + 1) xs)
+rows_more f xs i x old before after h e known added = rows_at f xs i x old before after h known (added ∙ ap (λ (y : _). before ++ f y) e)

@@ -1,5 +1,5 @@
 -- The law of objects: what reading gives is what the bytes say.
-use Rattle.std.proofs.Common.{◌≡◌, ℕ, ◌+◌, ◌*◌, List, [], ◌∷◌, length, take, drop, map, Option, Result, Ok, refl, sym, ap, subst, ◌∙◌}
+use Rattle.std.proofs.Common.{◌≡◌, ℕ, ◌+◌, ◌*◌, List, [], ◌∷◌, length, take, drop, Option, Result, Ok, refl, sym, ap, subst, ◌∙◌}
 use Rattle.std.specs.Prelude.{◌↔◌}
 use Rattle.std.specs.List.{AllByRecursion}
 use Rattle.std.proofs.lemmas.List.{length-map}
@@ -18,7 +18,7 @@ use Rattle.aof_object.specs.declared.records.Object.{Object}
 use Rattle.aof_object.specs.declared.records.Symbol.{Symbol}
 use Rattle.aof_object.specs.Names.{IsText}
 use Rattle.aof_object.specs.Parts.{parts_of}
-use Rattle.aof_object.specs.Objects.{each_of, counted_areas, head_names, next_head, heads_of, stored, total, next_area, exported, next_symbol, symbols_of, entry_of, object_in, object_of}
+use Rattle.aof_object.specs.Objects.{each_of, counted_areas, head_names, next_head, heads_of, stored, total, next_area, exported, next_symbol, symbols_of, entry_of, object_behind, object_in, object_of}
 use Rattle.aof_object.specs.Spelling.{area_names}
 use Rattle.aof_object.specs.Validity.{head_of, heads, IsArea, IsReloc, Holds, IsSymbol, IsEntered, IsValid}
 use Rattle.aof_object.specs.Grammar.{SaysHead, SaysArea, SaysSymbol, SaysEntry, SaysObject, ReadsObject}
@@ -160,7 +160,7 @@ abbrev place_of : List AreaHead → List Area → ℕ
 place_of hs b = total (take (length b) hs)
 
 object_in_takes : (p : Parts) (head content strings table : List ℕ) (o : Object) → object_in p head content strings table ≡ Ok o → SaysObject head content strings table o
-unfolding object_in
+unfolding object_in object_behind
 object_in_takes p head content strings table o e =
     let c = bind_ok (counted_areas p head strings) _ o e in
     let h = bind_ok (heads_of p head strings content) _ o c.2 in
@@ -178,7 +178,7 @@ object_in_takes p head content strings table o e =
     subst (λ (q : Object). SaysObject head content strings table q) (object_is (made a.0 s.0 y.0) o y.2) says
 
 object_in_again : (p : Parts) (head content strings table : List ℕ) (o : Object) → SaysObject head content strings table o → object_in p head content strings table ≡ Ok o
-unfolding object_in
+unfolding object_in object_behind
 object_in_again p head content strings table o s =
     let r = read_of head content strings table o s in
     let hs = heads o.areas in

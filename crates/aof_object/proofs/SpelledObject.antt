@@ -1,11 +1,11 @@
 -- What is spelled is read: the whole object.
-use Rattle.std.proofs.Common.{◌≡◌, ℕ, zero, suc, ◌-◌, ◌+◌, ◌*◌, ◌^◌, ◌≤◌, ◌<◌, true, List, [], ◌∷◌, ◌++◌, length, map, Option, Some, None, refl, sym, ap, subst, ◌∙◌, append-nil, arith, slice_get}
+use Rattle.std.proofs.Common.{◌≡◌, ℕ, zero, suc, ◌+◌, ◌*◌, ◌^◌, ◌≤◌, ◌<◌, true, List, [], ◌∷◌, ◌++◌, length, Option, Some, None, refl, sym, ap, subst, ◌∙◌, append-nil, arith, slice_get}
 use Rattle.std.specs.Prelude.{IsSomeAnd}
 use Rattle.std.specs.Option.{option_map}
 use Rattle.std.specs.List.{flat_map, AllByRecursion}
 use Rattle.std.proofs.lemmas.List.{length-append}
 use Rattle.std.proofs.lemmas.Option.{slice_get-map}
-use Rattle.sdt_word.specs.Bytes.{bytes_of, word_in}
+use Rattle.sdt_word.specs.Bytes.{word_in}
 use Rattle.sdt_word.proofs.BytesLemmas.{number_of-bytes_of}
 use Rattle.chunk_file.specs.declared.records.Chunk.{Chunk}
 use Rattle.chunk_file.specs.declared.records.Span.{Span}
@@ -21,7 +21,7 @@ use Rattle.aof_object.specs.declared.records.Object.{Object}
 use Rattle.aof_object.specs.declared.records.Symbol.{Symbol}
 use Rattle.aof_object.specs.Names.{among, Lacks, number_from}
 use Rattle.aof_object.specs.Objects.{total}
-use Rattle.aof_object.specs.Spelling.{gathered, area_names, symbol_names, names_of, ended, strings_of, place, area_row, content_of, area_place, area_word, symbol_row, head_row, head_bytes, symbol_bytes, chunks_of, spelled}
+use Rattle.aof_object.specs.Spelling.{area_names, symbol_names, names_of, ended, strings_of, place, area_row, content_of, area_place, area_word, symbol_row, head_row, head_bytes, symbol_bytes, chunks_of, spelled}
 use Rattle.aof_object.specs.Validity.{head_of, heads, IsArea, Lives, IsEntered, IsValid}
 use Rattle.aof_object.specs.Grammar.{HasParts, SaysHead, SaysHome, SaysSymbol, SaysObject, ReadsObject, Fits}
 use Rattle.aof_object.proofs.Lists.{weaker, all_of, all_and, to_map}

@@ -1,5 +1,5 @@
 -- The rows of symbols: what is read is what stands there.
-use Rattle.std.proofs.Common.{◌≡◌, ℕ, ◌+◌, ◌-◌, ◌*◌, ◌≤◌, Bool, true, false, cond, eqb, List, [], length, drop, Option, Some, None, Ok, refl, subst, arith, slice_get}
+use Rattle.std.proofs.Common.{◌≡◌, ℕ, ◌+◌, ◌*◌, ◌≤◌, Bool, true, false, cond, eqb, List, [], length, drop, Option, Some, None, Ok, refl, subst, arith, slice_get}
 use Rattle.std.specs.Prelude.{◌↔◌, ◌&&◌, IsSomeAnd}
 use Rattle.std.specs.Option.{option_and_then}
 use Rattle.std.proofs.lemmas.Bool.{eqb-true, eq-eqb, false_from_ne_true}

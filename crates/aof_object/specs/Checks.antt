@@ -2,7 +2,7 @@
 -- can't be read: the first check that fails, with its word's place in the row. None where all pass.
 -- (SDT 2.50 Reference Guide, ARM Object Format; the limits of the alignment and of the size, the
 -- refused bits and the order are this project's.)
-use Rattle.std.specs.Prelude.{ℕ, ◌+◌, ◌%◌, ◌^◌, Bool, false, nat_lt, ◌==◌, if◌then◌else◌, Option, Some, None}
+use Rattle.std.specs.Prelude.{ℕ, ◌+◌, ◌%◌, ◌^◌, Bool, nat_lt, ◌==◌, if◌then◌else◌, Option, Some, None}
 use Rattle.sdt_word.specs.Numbers.{bit, bits}
 use Rattle.sdt_fault.specs.declared.kinds.FileKind.{FileKind}
 use Rattle.sdt_fault.specs.declared.kinds.FileKind.TheVariants.{Repeated, Attribute, Alignment, Size, Count, Type1, Index, Area, Value, Entry}

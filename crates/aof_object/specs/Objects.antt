@@ -150,14 +150,17 @@ entry_of p head heads =
 
 -- ---- the whole
 
-unfoldable pub object_in : Parts → List ℕ → List ℕ → List ℕ → List ℕ → Result Object Refusal
-object_in p head content strings table =
-    counted_areas p head strings >>= λ _.
+-- behind the checks of OBJ_HEAD and OBJ_STRT as a whole
+unfoldable pub object_behind : Parts → List ℕ → List ℕ → List ℕ → List ℕ → Result Object Refusal
+object_behind p head content strings table =
     heads_of p head strings content >>= λ heads.
     each_of (next_area heads (word_in head 12) p.areas.offset content) heads [] >>= λ areas.
     symbols_of p strings heads table (word_in head 12) >>= λ symbols.
     entry_of p head heads >>= λ entry.
     Ok (record { areas = areas; symbols = symbols; entry = entry })
+
+unfoldable pub object_in : Parts → List ℕ → List ℕ → List ℕ → List ℕ → Result Object Refusal
+object_in p head content strings table = counted_areas p head strings >>= λ _. object_behind p head content strings table
 
 unfoldable pub object_of : List ℕ → Result Object Refusal
 object_of b =

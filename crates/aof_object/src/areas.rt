@@ -15,11 +15,11 @@ use crate::faults::bad_object;
 use crate::flags::AreaFlags;
 use crate::index::note_name;
 use crate::records::{Area, Reloc};
-use crate::strings::{left_behind, read_name};
+use crate::strings::{keep_name, read_name};
 use indexmap::IndexMap;
 use sdt_fault::answer::Fault;
 use sdt_fault::kinds::FileKind;
-use sdt_fault::{Bytes, List, NoMemory, Text};
+use sdt_fault::{Bytes, List, Text};
 use sdt_word::word_at;
 use std::alloc::Global;
 
@@ -67,9 +67,8 @@ fn read_head<'a>(
     if let Some(flaw) = judge_area(repeated, attributes, size, count, word_at(row, 16)) {
         return Err(fault_of(alloc, at, flaw));
     }
-    *left = left_behind(*left, name)?;
     Ok(AreaHead {
-        name: Text::from_slice(alloc, name)?,
+        name: keep_name(alloc, left, name)?,
         attributes,
         size,
         count,

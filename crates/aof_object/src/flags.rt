@@ -16,7 +16,7 @@ pub struct AreaFlags(pub u32);
 pub struct SymbolFlags(pub u32);
 
 /// What the attributes of an area say.
-#[derive(Clone, Copy, PartialEq, Eq, Default)]
+#[derive(Clone, Copy)]
 pub struct AreaParts {
     /// The exponent of 2.
     pub alignment: u32,

@@ -1,11 +1,12 @@
 //! Reading an object file.
 
 ghost use Rattle.std.specs.Prelude.{◌≡◌, ℕ, List as Items, ◌+◌, ◌*◌, ◌^◌, ◌<◌, ◌≤◌, [], length, None, IfOk, Ok};
+ghost use Rattle.std.specs.Option.{option_copied};
 ghost use Rattle.sdt_word.specs.Bytes.{word_in};
 ghost use Rattle.chunk_file.specs.Reading.{Gives};
 ghost use Rattle.aof_object.specs.Names.{number_from};
 ghost use Rattle.aof_object.specs.Index.{number_in};
-ghost use Rattle.aof_object.specs.Objects.{head_names, counted_areas, heads_of, total, entry_of, symbols_of, object_in, object_of};
+ghost use Rattle.aof_object.specs.Objects.{head_names, counted_areas, heads_of, total, entry_in, entry_of, symbols_of, object_behind, object_in, object_of};
 ghost use Rattle.aof_object.specs.Validity.{IsValid};
 ghost use Rattle.aof_object.specs.Grammar.{ReadsObject};
 
@@ -112,6 +113,30 @@ fn symbols_in(
     read_symbols(alloc, strings, heads, index, left, start, table, count)
 }
 
+/// The entry at an offset of an area of a number from 1 on, of which OBJ_HEAD tells, which begins there.
+fn entry_within(
+    alloc: Global,
+    start: usize,
+    area: u32,
+    offset: u32,
+    within: Option<&AreaHead>,
+) -> Result<Option<Entry>, Fault>
+    requires area { 0 < area }
+    requires place { start + 20 < 2 ^ 32 }
+    ensures { Gives result (entry_in start area offset (option_copied within.entry)) }
+{
+    let Some(within) = within else {
+        return Err(bad_object(alloc, start + 16, FileKind::Entry));
+    };
+    if let Some(flaw) = judge_entry(within.attributes, within.size, offset) {
+        return Err(fault_of(alloc, start, flaw));
+    }
+    Ok(Some(Entry {
+        area: area - 1,
+        offset,
+    }))
+}
+
 #[tactic(auto, unfolding(crate::specs::Objects::entry_of))]
 fn read_entry(
     alloc: Global,
@@ -128,17 +153,41 @@ fn read_entry(
     if area == 0 {
         return Ok(None);
     }
-    let offset = word_at(head, 20);
-    let Some(within) = heads.get((area - 1) as usize) else {
-        return Err(bad_object(alloc, start + 16, FileKind::Entry));
-    };
-    if let Some(flaw) = judge_entry(within.attributes, within.size, offset) {
-        return Err(fault_of(alloc, start, flaw));
-    }
-    Ok(Some(Entry {
-        area: area - 1,
-        offset,
-    }))
+    let within = heads.get((area - 1) as usize);
+    entry_within(alloc, start, area, word_at(head, 20), within)
+}
+
+/// The object of parts whose lengths are judged, with an index of the areas' names, in which none is yet.
+#[tactic(auto, unfolding(crate::specs::Objects::object_behind))]
+fn indexed_object<'a>(
+    alloc: Global,
+    p: &Parts,
+    head: &[u8],
+    content: &[u8],
+    strings: &'a [u8],
+    table: &[u8],
+    index: &mut IndexMap<&'a [u8], u32>,
+) -> Result<Object, Fault>
+    requires empty { (q : Items ℕ) → number_in index.old q ≡ None }
+    requires rows { 24 + 20 * word_in head.now 8 ≤ length head.now }
+    requires head { p.now.head.offset + length head.now < 2 ^ 32 }
+    requires content { p.now.areas.offset + length content.now < 2 ^ 32 }
+    requires table { p.now.symbols.offset + length table.now < 2 ^ 32 }
+    ensures { Gives result (object_behind p.now head.now content.now strings.now table.now) }
+{
+    let mut left = MOST_NAMED;
+    let heads = read_heads(alloc, p, head, strings, content, index, &mut left)?;
+    let heads = heads.as_slice();
+    let count = word_at(head, 12);
+    let start = p.areas.offset as usize;
+    let areas = read_areas(alloc, heads, count as usize, start, content)?;
+    let symbols = symbols_in(alloc, p, strings, heads, index, &mut left, table, count)?;
+    let entry = read_entry(alloc, p, head, heads)?;
+    Ok(Object {
+        areas,
+        symbols,
+        entry,
+    })
 }
 
 #[tactic(auto, unfolding(crate::specs::Objects::object_in))]
@@ -157,24 +206,9 @@ fn object_of_parts(
 {
     count_areas(alloc, p, head, strings)?;
     let mut index = IndexMap::new(alloc);
-    let mut left = MOST_NAMED;
-    let heads = read_heads(alloc, p, head, strings, content, &mut index, &mut left)?;
-    let heads = heads.as_slice();
-    let count = word_at(head, 12);
-    let areas = read_areas(
-        alloc,
-        heads,
-        count as usize,
-        p.areas.offset as usize,
-        content,
-    )?;
-    let symbols = symbols_in(alloc, p, strings, heads, &index, &mut left, table, count)?;
-    let entry = read_entry(alloc, p, head, heads)?;
-    Ok(Object {
-        areas,
-        symbols,
-        entry,
-    })
+    let object = indexed_object(alloc, p, head, content, strings, table, &mut index);
+    drop(index);
+    object
 }
 
 #[tactic(auto, unfolding(crate::specs::Objects::object_of))]

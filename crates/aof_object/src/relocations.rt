@@ -7,7 +7,7 @@ use crate::records::Reloc;
 use sdt_word::field as bits;
 
 /// What a field is: a byte, a half-word, a word, or a branch of ARM code or, where true, of Thumb code.
-#[derive(Clone, Copy, PartialEq, Eq, Hash)]
+#[derive(Clone, Copy, PartialEq, Eq)]
 pub enum FieldKind {
     Byte,
     Half,

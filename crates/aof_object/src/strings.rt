@@ -1,17 +1,21 @@
 //! Names in a string table.
 
-ghost use Rattle.std.specs.Prelude.{◌≡◌, ◌≤◌, length, take, Some, MatchOption, None};
+ghost use Rattle.std.specs.Prelude.{◌≡◌, ◌≤◌, length, take, Some, MatchOption, None, IfOk};
 ghost use Rattle.std.specs.Option.{option_copied};
 ghost use Rattle.aof_object.specs.Names.{terminated, name_at};
 
-use sdt_fault::NoMemory;
+use sdt_fault::{NoMemory, Text};
+use std::alloc::Global;
 
 /// The most bytes that the names of an object take up, which may share bytes of its string table.
 pub const MOST_NAMED: usize = 1 << 30;
 
-/// How many bytes are left for names behind this one.
-pub fn left_behind(left: usize, name: &[u8]) -> Result<usize, NoMemory> {
-    left.checked_sub(name.len()).ok_or(NoMemory)
+/// A copy of a name, and how many bytes are left for names behind it.
+pub fn keep_name(alloc: Global, left: &mut usize, name: &[u8]) -> Result<Text, NoMemory>
+    ensures { IfOk result (λ kept. kept ≡ name.now) }
+{
+    *left = left.checked_sub(name.len()).ok_or(NoMemory)?;
+    Text::from_slice(alloc, name)
 }
 
 /// How many bytes stand before the first zero byte, where there is one.

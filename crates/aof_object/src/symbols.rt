@@ -1,6 +1,6 @@
 //! Symbols: the rows of OBJ_SYMT.
 
-ghost use Rattle.std.specs.Prelude.{◌≡◌, ℕ, List as Items, ◌+◌, ◌*◌, ◌^◌, ◌<◌, ◌≤◌, ◌&&◌, ◌||◌, [], length, slice_get, is_some, OnOk, IfOk};
+ghost use Rattle.std.specs.Prelude.{◌≡◌, ℕ, List as Items, ◌+◌, ◌*◌, ◌^◌, ◌<◌, ◌≤◌, ◌&&◌, ◌||◌, [], length, slice_get, is_some, None, OnOk, IfOk};
 ghost use Rattle.std.specs.Str.{bytes_eq};
 ghost use Rattle.chunk_file.specs.Reading.{Gives, each};
 ghost use Rattle.aof_object.specs.Names.{number_from};
@@ -14,7 +14,7 @@ use crate::faults::bad_object;
 use crate::flags::SymbolFlags;
 use crate::index::{find_name, note_name};
 use crate::records::Symbol;
-use crate::strings::{left_behind, read_name};
+use crate::strings::{keep_name, read_name};
 use indexmap::IndexMap;
 use sdt_fault::answer::Fault;
 use sdt_fault::kinds::FileKind;
@@ -114,13 +114,48 @@ fn read_symbol<'a>(
     if let Some(flaw) = judge_symbol(repeated, attributes, value, told.home) {
         return Err(fault_of(alloc, at, flaw));
     }
-    *left = left_behind(*left, name)?;
     Ok(Symbol {
-        name: Text::from_slice(alloc, name)?,
+        name: keep_name(alloc, left, name)?,
         attributes,
         value,
         area: told.area,
     })
+}
+
+/// The rows of the symbols in OBJ_SYMT, with the index of the areas' names. No name is taken yet.
+fn read_rows<'a>(
+    alloc: Global,
+    strings: &'a [u8],
+    heads: &[AreaHead],
+    areas: &IndexMap<&[u8], u32>,
+    taken: &mut IndexMap<&'a [u8], u32>,
+    left: &mut usize,
+    start: usize,
+    content: &[u8],
+    count: u32,
+) -> Result<List<Symbol>, Fault>
+    requires known { (q : Items ℕ) → number_in areas.now q ≡ number_from 0 q (head_names heads.now) }
+    requires none { (q : Items ℕ) → number_in taken.old q ≡ None }
+    requires rows { 16 * count ≤ length content.now }
+    requires place { start + length content.now < 2 ^ 32 }
+    ensures { Gives result (each (next_symbol strings.now heads.now start content.now) count []) }
+{
+    let mut symbols = Vec::with_capacity(alloc, count as usize)?;
+    for i in 0..count {
+        let at = 16 * i as usize;
+        let symbol = read_symbol(
+            alloc,
+            strings,
+            heads,
+            areas,
+            taken,
+            left,
+            start + at,
+            &content[at..],
+        )?;
+        symbols.push(symbol)?;
+    }
+    Ok(List::from_vec(symbols))
 }
 
 /// The rows of the symbols in OBJ_SYMT, with the index of the areas' names.
@@ -140,20 +175,9 @@ pub fn read_symbols(
     ensures { Gives result (each (next_symbol strings.now heads.now start content.now) count []) }
 {
     let mut taken = IndexMap::with_capacity(alloc, count as usize)?;
-    let mut symbols = Vec::with_capacity(alloc, count as usize)?;
-    for i in 0..count {
-        let at = 16 * i as usize;
-        let symbol = read_symbol(
-            alloc,
-            strings,
-            heads,
-            areas,
-            &mut taken,
-            left,
-            start + at,
-            &content[at..],
-        )?;
-        symbols.push(symbol)?;
-    }
-    Ok(List::from_vec(symbols))
+    let symbols = read_rows(
+        alloc, strings, heads, areas, &mut taken, left, start, content, count,
+    );
+    drop(taken);
+    symbols
 }

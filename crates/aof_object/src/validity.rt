@@ -1,6 +1,7 @@
 //! Whether an object is valid: what its spelling needs to be read again.
 
-ghost use Rattle.std.specs.Prelude.{◌≡◌, ℕ, List as Items, ◌&&◌, [], slice_get, length, IsTrue, ◌↔◌, IfOk};
+ghost use Rattle.std.specs.Prelude.{◌≡◌, ℕ, List as Items, ◌&&◌, [], slice_get, length, None, IsTrue, ◌↔◌, IfOk};
+ghost use Rattle.aof_object.specs.Index.{number_in};
 ghost use Rattle.aof_object.specs.Tests.{is_text, reloc_ok, area_by, area_ok, home_at, home_of, symbol_by, symbol_ok, entry_at, entry_ok, all_pass, is_valid};
 ghost use Rattle.aof_object.specs.Validity.{IsValid};
 
@@ -52,17 +53,31 @@ fn area_passes(repeated: bool, areas: usize, symbols: usize, area: &Area) -> boo
     relocs_pass(areas, symbols, area.relocs.as_slice())
 }
 
-fn areas_pass(alloc: Global, symbols: usize, areas: &[Area]) -> Result<bool, NoMemory>
+/// Whether areas pass, of whose names none is taken yet.
+fn each_area_passes<'a>(
+    taken: &mut IndexMap<&'a [u8], u32>,
+    symbols: usize,
+    areas: &'a [Area],
+) -> Result<bool, NoMemory>
+    requires { (q : Items ℕ) → number_in taken.old q ≡ None }
     ensures { IfOk result (λ b. b ≡ all_pass (area_ok (length areas.now) symbols) [] areas.now) }
 {
-    let mut taken = IndexMap::new(alloc);
     for area in areas {
-        let repeated = note_name(&mut taken, area.name.as_slice(), 0)?.is_some();
+        let repeated = note_name(taken, area.name.as_slice(), 0)?.is_some();
         if !area_passes(repeated, areas.len(), symbols, area) {
             return Ok(false);
         }
     }
     Ok(true)
+}
+
+fn areas_pass(alloc: Global, symbols: usize, areas: &[Area]) -> Result<bool, NoMemory>
+    ensures { IfOk result (λ b. b ≡ all_pass (area_ok (length areas.now) symbols) [] areas.now) }
+{
+    let mut taken = IndexMap::new(alloc);
+    let pass = each_area_passes(&mut taken, symbols, areas);
+    drop(taken);
+    pass
 }
 
 fn home_in(areas: &[Area], area: Option<u32>) -> Home
@@ -88,17 +103,31 @@ fn symbol_passes(repeated: bool, areas: &[Area], symbol: &Symbol) -> bool
     holds_no_zero(symbol.name.as_slice())
 }
 
-fn symbols_pass(alloc: Global, areas: &[Area], symbols: &[Symbol]) -> Result<bool, NoMemory>
+/// Whether symbols pass, of whose names none is taken yet.
+fn each_symbol_passes<'a>(
+    taken: &mut IndexMap<&'a [u8], u32>,
+    areas: &[Area],
+    symbols: &'a [Symbol],
+) -> Result<bool, NoMemory>
+    requires { (q : Items ℕ) → number_in taken.old q ≡ None }
     ensures { IfOk result (λ b. b ≡ all_pass (symbol_ok areas.now) [] symbols.now) }
 {
-    let mut taken = IndexMap::new(alloc);
     for symbol in symbols {
-        let repeated = note_exported(&mut taken, symbol.attributes, symbol.name.as_slice())?;
+        let repeated = note_exported(taken, symbol.attributes, symbol.name.as_slice())?;
         if !symbol_passes(repeated, areas, symbol) {
             return Ok(false);
         }
     }
     Ok(true)
+}
+
+fn symbols_pass(alloc: Global, areas: &[Area], symbols: &[Symbol]) -> Result<bool, NoMemory>
+    ensures { IfOk result (λ b. b ≡ all_pass (symbol_ok areas.now) [] symbols.now) }
+{
+    let mut taken = IndexMap::new(alloc);
+    let pass = each_symbol_passes(&mut taken, areas, symbols);
+    drop(taken);
+    pass
 }
 
 fn entry_passes(areas: &[Area], entry: Option<Entry>) -> bool

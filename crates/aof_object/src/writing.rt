@@ -1,9 +1,10 @@
 //! Writing: the one spelling.
 
-ghost use Rattle.std.specs.Prelude.{◌≡◌, ℕ, List as Items, ◌+◌, ◌++◌, [], ◌∷◌, length, slice_get, codes, OnOk, IfOk};
+ghost use Rattle.std.specs.Prelude.{◌≡◌, ℕ, List as Items, ◌+◌, ◌++◌, [], ◌∷◌, length, slice_get, codes, None, OnOk, IfOk};
 ghost use Rattle.std.specs.List.{flat_map};
 ghost use Rattle.sdt_word.specs.Bytes.{bytes_of};
 ghost use Rattle.chunk_file.specs.Reading.{Gives};
+ghost use Rattle.aof_object.specs.Index.{number_in};
 ghost use Rattle.aof_object.specs.Places.{Tells, IsTable};
 ghost use Rattle.aof_object.specs.Spelling.{names_of, strings_of, ended, area_row, area_row_at, entry_row, head_row, reloc_row, content_of, area_word, symbol_row, symbol_row_at, head_bytes, symbol_bytes, chunk, chunks_from, chunks_of, written};
 
@@ -226,20 +227,34 @@ fn list_chunks(
     })
 }
 
-fn chunks_of_object(alloc: Global, o: &Object) -> Result<Chunks, NoMemory>
+/// The chunks of an object, by the places of its names, of which none has one yet.
+fn placed_chunks<'a>(
+    alloc: Global,
+    places: &mut IndexMap<&'a [u8], usize>,
+    o: &'a Object,
+) -> Result<Chunks, NoMemory>
+    requires { (q : Items ℕ) → number_in places.old q ≡ None }
     ensures { IfOk result (λ c. c ≡ chunks_of o.now) }
 {
     let areas = o.areas.as_slice();
     let symbols = o.symbols.as_slice();
-    let mut places = IndexMap::new(alloc);
     let mut names = Vec::new(alloc);
-    gather_areas(&mut names, &mut places, areas)?;
-    gather_symbols(&mut names, &mut places, symbols)?;
-    let head = head_of_object(alloc, &places, o)?;
+    gather_areas(&mut names, places, areas)?;
+    gather_symbols(&mut names, places, symbols)?;
+    let head = head_of_object(alloc, places, o)?;
     let content = contents(alloc, areas)?;
-    let table = symbol_table(alloc, &places, areas, symbols)?;
+    let table = symbol_table(alloc, places, areas, symbols)?;
     let strings = string_table(alloc, &names)?;
     list_chunks(alloc, head, content, table, strings)
+}
+
+fn chunks_of_object(alloc: Global, o: &Object) -> Result<Chunks, NoMemory>
+    ensures { IfOk result (λ c. c ≡ chunks_of o.now) }
+{
+    let mut places = IndexMap::new(alloc);
+    let chunks = placed_chunks(alloc, &mut places, o);
+    drop(places);
+    chunks
 }
 
 /// The one spelling of an object: OBJ_HEAD, OBJ_AREA, OBJ_IDFN, OBJ_SYMT and OBJ_STRT. Gives `TooLarge`

@@ -1,9 +1,9 @@
-use Rattle.std.proofs.Common.{◌≡◌, ◌+◌, arith, [], ◌++◌, ◌∷◌, Ok, Err}
+use Rattle.std.proofs.Common.{◌≡◌, arith, [], ◌++◌, ◌∷◌, Ok, Err}
 use Rattle.std.proofs.lemmas.Result.{err_from_is_err_and}
 use Rattle.std.proofs.lemmas.List.{length_push}
 use Rattle.chunk_file.specs.Reading.{Gives}
 use Rattle.aof_object.specs.Objects.{next_area}
-use Rattle.aof_object.proofs.Rows.{of_goes_on, of_ends, total_more, total_room}
+use Rattle.aof_object.proofs.Rows.{of_goes_on, of_ends, of_is_done, total_more, total_room}
 use Rattle.aof_object.proofs.areas.read_areas.Goals as goal
 
 pub read_area-requires : goal.read_area-requires
@@ -36,3 +36,6 @@ loop-head-preserved c =
       many = rw pushed (omega (arith, long, c.loop-head.invariant.many));
       place = omega (arith, more, c.loop-head.invariant.place, c.extent_of-at.ensures.exact);
     }
+
+pub returns : goal.returns
+returns c = rw c.from_vec.ensures (of_is_done (next_area c.args.heads.now c.args.symbols c.args.start c.args.content.now) c.loop-head.areas.items c.args.heads.now c.loop-head.head-index _ c.loop-head-test.false c.loop-head.invariant.so_far)

@@ -2,7 +2,7 @@ use Rattle.std.proofs.Common.{◌≡◌, ◌+◌, ◌*◌, arith, [], ◌++◌, 
 use Rattle.std.proofs.lemmas.Result.{err_from_is_err_and}
 use Rattle.std.proofs.lemmas.List.{length_push, take_rest}
 use Rattle.chunk_file.specs.Reading.{Gives}
-use Rattle.chunk_file.proofs.Loops.{goes_on, ends}
+use Rattle.chunk_file.proofs.Loops.{goes_on, ends, is_done}
 use Rattle.aof_object.specs.Objects.{next_reloc}
 use Rattle.aof_object.proofs.areas.read_relocs.Goals as goal
 
@@ -24,3 +24,6 @@ loop-i-preserved c =
       so_far = rw pushed (goes_on step c.loop-i.relocs.items c.args.count c.loop-i.i reloc _ c.loop-i-test.true h c.loop-i.invariant.so_far);
       many = rw pushed (omega (arith, long, c.loop-i.invariant.many));
     }
+
+pub returns : goal.returns
+returns c = rw c.from_vec.ensures (is_done (next_reloc c.args.areas c.args.symbols c.args.start c.args.content.now c.args.at) c.loop-i.relocs.items c.args.count c.loop-i.i _ c.loop-i-test.false c.loop-i.invariant.so_far)

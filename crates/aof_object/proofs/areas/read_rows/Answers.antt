@@ -2,7 +2,7 @@ use Rattle.std.proofs.Common.{◌≡◌, ◌+◌, ◌-◌, ◌*◌, ◌∙◌, s
 use Rattle.std.proofs.lemmas.Result.{err_from_is_err_and}
 use Rattle.std.proofs.lemmas.List.{length_push, take_rest}
 use Rattle.chunk_file.specs.Reading.{Gives}
-use Rattle.chunk_file.proofs.Loops.{goes_on, ends}
+use Rattle.chunk_file.proofs.Loops.{goes_on, ends, is_done}
 use Rattle.aof_object.specs.declared.areas.AreaHead.{AreaHead}
 use Rattle.aof_object.specs.Names.{number_from}
 use Rattle.aof_object.specs.Objects.{next_head, head_names}
@@ -41,3 +41,6 @@ loop-i-preserved c =
       known = λ q. indexed_more c.loop-i.index c.read_head.new.index c.loop-i.heads.items area c.loop-i.i c.loop-i.invariant.many c.loop-i.invariant.known c.in_ok-area.ensures.noted q
           ∙ sym (ap (λ (hs : List AreaHead). number_from 0 q (head_names hs)) pushed);
     }
+
+pub returns-clause-exact : goal.returns-clause-exact
+returns-clause-exact c = rw c.from_vec.ensures (is_done (next_head c.args.strings.now c.args.start c.args.head.now) c.loop-i.heads.items c.args.count c.loop-i.i _ c.loop-i-test.false c.loop-i.invariant.so_far)

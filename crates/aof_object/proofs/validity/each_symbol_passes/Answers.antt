@@ -7,7 +7,7 @@ use Rattle.aof_object.specs.Checks.{is_exported}
 use Rattle.aof_object.specs.Objects.{exported}
 use Rattle.aof_object.specs.Tests.{symbol_ok, symbol_by}
 use Rattle.aof_object.proofs.ValidLaw.{pass_more, exported_after}
-use Rattle.aof_object.proofs.validity.symbols_pass.Goals as goal
+use Rattle.aof_object.proofs.validity.each_symbol_passes.Goals as goal
 
 pub loop-symbol-preserved : goal.loop-symbol-preserved
 loop-symbol-preserved c =

@@ -4,7 +4,7 @@ use Rattle.aof_object.specs.Names.{among}
 use Rattle.aof_object.specs.Index.{number_in}
 use Rattle.aof_object.specs.Objects.{exported}
 use Rattle.aof_object.specs.Tests.{all_pass, symbol_ok}
-use Rattle.aof_object.proofs.validity.symbols_pass.Given as goal
+use Rattle.aof_object.proofs.validity.each_symbol_passes.Given as goal
 
 abbrev pub invariant-loop-symbol : goal.invariant-loop-symbol
 invariant-loop-symbol l = record {

@@ -4,7 +4,7 @@ use Rattle.aof_object.specs.Names.{among}
 use Rattle.aof_object.specs.Index.{number_in}
 use Rattle.aof_object.specs.Spelling.{area_names}
 use Rattle.aof_object.specs.Tests.{all_pass, area_ok}
-use Rattle.aof_object.proofs.validity.areas_pass.Given as goal
+use Rattle.aof_object.proofs.validity.each_area_passes.Given as goal
 
 abbrev pub invariant-loop-area : goal.invariant-loop-area
 invariant-loop-area l = record {

@@ -1,15 +1,15 @@
-use Rattle.std.proofs.Common.{◌≡◌, ◌+◌, ◌*◌, ◌∙◌, sym, ap, arith, [], ◌++◌, ◌∷◌, Ok, Err, Bool, List, ℕ}
+use Rattle.std.proofs.Common.{◌≡◌, ◌*◌, ◌∙◌, sym, ap, arith, [], ◌++◌, ◌∷◌, Ok, Err, Bool, List, ℕ}
 use Rattle.std.specs.Prelude.{is_some}
 use Rattle.std.proofs.lemmas.Result.{err_from_is_err_and}
 use Rattle.std.proofs.lemmas.List.{length_push, take_rest}
 use Rattle.chunk_file.specs.Reading.{Gives}
-use Rattle.chunk_file.proofs.Loops.{goes_on, ends}
+use Rattle.chunk_file.proofs.Loops.{goes_on, ends, is_done}
 use Rattle.aof_object.specs.declared.records.Symbol.{Symbol}
 use Rattle.aof_object.specs.Names.{among}
 use Rattle.aof_object.specs.Index.{Numbers, number_in}
 use Rattle.aof_object.specs.Objects.{next_symbol, exported}
 use Rattle.aof_object.proofs.NamesLemmas.{exported_more}
-use Rattle.aof_object.proofs.symbols.read_symbols.Goals as goal
+use Rattle.aof_object.proofs.symbols.read_rows.Goals as goal
 
 same_test : (m : Numbers) (ns : List (List ℕ)) → ((q : List ℕ) → is_some (number_in m q) ≡ among q ns) → ◌≡◌ {A = List ℕ → Bool} (λ q. is_some (number_in m q)) (λ q. among q ns)
 same_test m ns known = λ i q. known q i
@@ -36,3 +36,6 @@ loop-i-preserved c =
       known = λ q. exported_more c.loop-i.taken c.read_symbol.new.taken c.loop-i.symbols.items symbol c.loop-i.invariant.known c.in_ok-symbol.ensures.noted q
           ∙ sym (ap (λ (ss : List Symbol). among q (exported ss)) pushed);
     }
+
+pub returns : goal.returns
+returns c = rw c.from_vec.ensures (is_done (next_symbol c.args.strings.now c.args.heads.now c.args.start c.args.content.now) c.loop-i.symbols.items c.args.count c.loop-i.i _ c.loop-i-test.false c.loop-i.invariant.so_far)

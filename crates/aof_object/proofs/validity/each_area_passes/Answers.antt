@@ -5,7 +5,7 @@ use Rattle.aof_object.specs.Names.{among}
 use Rattle.aof_object.specs.Spelling.{area_names}
 use Rattle.aof_object.specs.Tests.{area_ok, area_by}
 use Rattle.aof_object.proofs.ValidLaw.{pass_more, taken_more}
-use Rattle.aof_object.proofs.validity.areas_pass.Goals as goal
+use Rattle.aof_object.proofs.validity.each_area_passes.Goals as goal
 
 pub loop-area-preserved : goal.loop-area-preserved
 loop-area-preserved c =

@@ -1,4 +1,4 @@
-use Rattle.std.proofs.Common.{◌≡◌, ◌+◌, ◌∙◌, ◌++◌, [], ap, sym, subst, refl, ℕ, List, None, length}
+use Rattle.std.proofs.Common.{◌≡◌, ◌+◌, ◌∙◌, ◌++◌, [], ap, sym, subst, ℕ, List, None, length}
 use Rattle.std.specs.List.{flat_map}
 use Rattle.std.proofs.lemmas.Result.{IfOk-weaker}
 use Rattle.sdt_word.specs.Bytes.{bytes_of}
@@ -9,13 +9,10 @@ use Rattle.aof_object.specs.Index.{Numbers, number_in}
 use Rattle.aof_object.specs.Spelling.{gathered, area_names, symbol_names, names_of, strings_of, ended, content_of, head_bytes, symbol_row, symbol_bytes, chunks_from, chunks_of}
 use Rattle.aof_object.specs.Places.{IsTable}
 use Rattle.aof_object.proofs.TableLemmas.{gathered-append}
-use Rattle.aof_object.proofs.writing.chunks_of_object.Goals as goal
+use Rattle.aof_object.proofs.writing.placed_chunks.Goals as goal
 
 begins : (bytes : List ℕ) (m : Numbers) → bytes ≡ [] → ((q : List ℕ) → number_in m q ≡ None) → IsTable bytes m []
 begins bytes m e none = record { names = e; tells = record { at = none } }
-
-none_in : (m : Numbers) → m.entries ≡ [] → (q : List ℕ) → number_in m q ≡ None
-none_in m e q = rw e refl
 
 whole : (o : Object) (areas : List Area) (symbols : List Symbol) (bytes : List ℕ) (m : Numbers) → areas ≡ o.areas → symbols ≡ o.symbols
     → IsTable bytes m (gathered (gathered [] (area_names areas)) (symbol_names symbols)) → IsTable bytes m (names_of o)
@@ -37,7 +34,7 @@ strings_are o names s n e = e ∙ ap (λ (x : List ℕ). bytes_of (4 + length x)
 pub returns : goal.returns
 returns c =
     let o = c.args.o.now in
-    let start = begins c.new-names.result.items c.new-places.result c.new-names.ensures.items (none_in c.new-places.result c.new-places.ensures.empty) in
+    let start = begins c.new-names.result.items c.args.places.now c.new-names.ensures.items c.requires in
     let one = c.in_ok-gather_areas.ensures [] start in
     let two = c.in_ok-gather_symbols.ensures (gathered [] (area_names c.as_slice-areas.result.now)) one in
     let table = whole o c.as_slice-areas.result.now c.as_slice-symbols.result.now c.gather_symbols.new.bytes.items c.gather_symbols.new.places c.as_slice-areas.ensures c.as_slice-symbols.ensures two in

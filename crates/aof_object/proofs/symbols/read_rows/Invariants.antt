@@ -4,7 +4,7 @@ use Rattle.chunk_file.specs.Reading.{each}
 use Rattle.aof_object.specs.Names.{among}
 use Rattle.aof_object.specs.Index.{number_in}
 use Rattle.aof_object.specs.Objects.{next_symbol, exported}
-use Rattle.aof_object.proofs.symbols.read_symbols.Given as goal
+use Rattle.aof_object.proofs.symbols.read_rows.Given as goal
 
 abbrev pub invariant-loop-i : goal.invariant-loop-i
 invariant-loop-i l = record {
