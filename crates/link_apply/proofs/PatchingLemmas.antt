@@ -1,9 +1,10 @@
 -- Areas whose relocations are judged one by one.
-use Rattle.std.proofs.Common.{◌≡◌, ℕ, zero, suc, ◌+◌, ◌<◌, ◌≤◌, ◌^◌, List, [], ◌∷◌, ◌++◌, length, map, get_or, take, drop, Result, Ok, Err, refl, sym, ap, subst, ◌∙◌, append_assoc, length-append, arith}
+use Rattle.std.proofs.Common.{◌≡◌, ℕ, zero, suc, ◌+◌, ◌<◌, ◌≤◌, ◌^◌, List, [], ◌∷◌, ◌++◌, length, map, get_or, take, drop, Result, Ok, Err, refl, sym, ap, subst, ◌∙◌, append_assoc, append-nil, length-append, arith}
 use Rattle.std.specs.Prelude.{Option, Some, None, slice_get}
 use Rattle.std.specs.List.{AllByRecursion, filter_map, flat_map, cons_option}
 use Rattle.std.specs.Result.{IsErrAnd}
 use Rattle.std.proofs.Math.Seq.{take-append_seam}
+use Rattle.std.proofs.lemmas.List.{drop_all}
 use Rattle.sdt_fault.specs.declared.answer.Fault.{Fault}
 use Rattle.sdt_fault.specs.declared.answer.Fault.TheVariants as fault
 use Rattle.sdt_fault.specs.declared.refusal.Refusal.{Refusal}
@@ -133,3 +134,11 @@ gives_by o q x y (fault.ReadFault n) more h = h
 
 pub taken_front : {A : Type 0} (n : ℕ) (xs ys : List A) → n ≡ length xs → take n (xs ++ ys) ≡ xs
 taken_front n xs ys e = ap (λ k. take k (xs ++ ys)) e ∙ take-append_seam xs ys
+
+-- all are judged, and none is refused
+pub all_numbers : {A B : Type 0} (f : A → ℕ) (first : List A → Option B) (xs : List A) (n : ℕ) (numbers result : List ℕ) → length xs ≤ n → first [] ≡ None
+    → numbers ++ map f (drop n xs) ≡ map f xs → first xs ≡ first (drop n xs) → result ≡ numbers → refused_or (first xs) (map f xs) ≡ Ok result
+all_numbers f first xs n numbers result end none known sound same =
+    let gone = drop_all n xs end in
+    ap (λ (o : Option _). refused_or o (map f xs)) (sound ∙ ap first gone ∙ none)
+    ∙ ap Ok (sym known ∙ ap (λ (l : List _). numbers ++ map f l) gone ∙ append-nil numbers ∙ sym same)

@@ -1,5 +1,5 @@
 -- One more mark, and several.
-use Rattle.std.proofs.Common.{◌≡◌, ℕ, zero, suc, ◌+◌, ◌<◌, Bool, true, false, ◌||◌, true≢false, length, List, [], ◌∷◌, ◌++◌, refl, sym, ap, ◌∙◌, subst, set, inl, inr, arith, length-append, append_assoc}
+use Rattle.std.proofs.Common.{◌≡◌, ℕ, zero, suc, ◌+◌, ◌<◌, Bool, true, false, ◌||◌, true≢false, length, List, [], ◌∷◌, ◌++◌, refl, sym, ap, ◌∙◌, subst, set, inl, inr, arith, length-append, append_assoc, append-nil}
 use Rattle.std.specs.Prelude.{◌⊎◌, ◌==◌}
 use Rattle.std.proofs.lemmas.List.{get_or-set_same, length-set}
 use Rattle.std.proofs.lemmas.Bool.{eqb-true, eq-eqb}
@@ -83,7 +83,22 @@ marks_new m k h f = record {
     one j (inl e) = inl e
     one j (inr e) = inr (subst (λ (n : ℕ). is_in n (k ∷ []) ≡ true) e (is_itself k))
 
--- ---- marks, and then more marks
+-- ---- no marks, and marks and then more
+
+pub takes_none : (m : List Bool) (w : List ℕ) → Takes m m w w []
+takes_none m w = record {
+  added = [];
+  behind = sym (append-nil w);
+  marks = record {
+    size = refl;
+    kept = λ k h. h;
+    all = tt;
+    only = λ k h. inl h;
+    waits = λ k h. inl h;
+    added_marked = tt;
+    fewer = omega arith;
+  };
+}
 
 pub marks_both : (a b c : List Bool) (x y w v : List ℕ) → Marks a b x w → Marks b c y v → Marks a c (x ++ y) (w ++ v)
 marks_both a b c x y w v p q = record {

@@ -1,9 +1,6 @@
 -- What is linked, and what is selected of it.
 use Rattle.std.proofs.Common.{◌≡◌, ℕ, suc, ◌+◌, ◌<◌, Bool, true, false, cond, List, [], ◌∷◌, ◌++◌, length, map, drop, Option, Some, None, Result, Ok, Err, refl, sym, ap, ◌∙◌, subst, arith, append_assoc}
 use Rattle.std.specs.Prelude.{slice_get, is_some, IfOk, IsSomeAnd}
-use Rattle.std.specs.Borrow.{Bor}
-use Rattle.std.specs.Map.{lookup}
-use Rattle.std.specs.Str.{bytes_eq}
 use Rattle.sdt_fault.specs.declared.answer.Fault.{Fault}
 use Rattle.sdt_fault.specs.declared.answer.Fault.TheVariants as fault
 use Rattle.sdt_fault.specs.declared.refusal.Refusal.{Refusal}
@@ -31,11 +28,8 @@ use Rattle.link_select.proofs.ExportLemmas.{exporter_within}
 
 -- ---- the index and the supply
 
-pub empty_index : (m : Numbers) → m.entries ≡ [] → (q : List ℕ) → number_in m q ≡ None
-empty_index m e q = ap (λ (es : List (Bor (List ℕ) × ℕ)). lookup (λ k. bytes_eq q k.now) es) e
-
-pub index_none : (m : Numbers) → m.entries ≡ [] → (os : List (Named Object)) (n : ℕ) → n ≡ length os → IsIndexOf n (objects_in (drop n os)) m
-index_none m e os n len q = empty_index m e q ∙ ap (λ (l : List (Named Object)). exporter n q (objects_in l)) (sym (ap (λ (k : ℕ). drop k os) len ∙ drop_end os))
+pub index_none : (m : Numbers) → ((q : List ℕ) → number_in m q ≡ None) → (os : List (Named Object)) (n : ℕ) → n ≡ length os → IsIndexOf n (objects_in (drop n os)) m
+index_none m none os n len q = none q ∙ ap (λ (l : List (Named Object)). exporter n q (objects_in l)) (sym (ap (λ (k : ℕ). drop k os) len ∙ drop_end os))
 
 pub supply_within : (s : Supply) (members : List Object) (n : ℕ) → IsIndexOf 0 members s.offered → n ≡ length members → IsWithin (supply_of s) n
 supply_within s members n known len = record { below = λ q k h. by q k (is_some (number_in s.defined q)) h }

@@ -1,6 +1,6 @@
 -- Names that two linked objects export: the first such name, by the order of the objects and their
 -- symbols, with the first two objects that export it. This project's.
-use Rattle.std.specs.Prelude.{ℕ, if◌then◌else◌, List, [], ◌∷◌, Option, None}
+use Rattle.std.specs.Prelude.{ℕ, if◌then◌else◌, List, [], ◌∷◌, Option, Some, None}
 use Rattle.std.specs.List.{find}
 use Rattle.std.specs.Option.{option_map, option_or}
 use Rattle.sdt_fault.specs.declared.refusal.Refusal.{Refusal}
@@ -11,6 +11,7 @@ use Rattle.aof_object.specs.Checks.{is_exported}
 use Rattle.link_model.specs.declared.selection.Named.{Named}
 use Rattle.link_model.specs.Options.{first_given}
 use Rattle.link_model.specs.Chosen.{exports}
+use Rattle.link_select.specs.declared.exports.TwoExports.{TwoExports}
 
 -- a symbol of the object called `name` that one of the later objects exports too
 abbrev pub clash : List ℕ → List (Named Object) → Symbol → Option Refusal
@@ -20,3 +21,8 @@ clash name later s =
 abbrev pub duplicate : List (Named Object) → Option Refusal
 duplicate [] = None
 duplicate (o ∷ os) = option_or (first_given (clash o.name os) o.value.symbols) (duplicate os)
+
+-- what is told of a name that two objects export
+abbrev pub told : Option TwoExports → Option Refusal
+told None = None
+told (Some names) = Some (Duplicate names.symbol.now names.first.now names.second.now)

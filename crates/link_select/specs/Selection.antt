@@ -35,11 +35,19 @@ refused (Some r) next = Err r
 abbrev pub limited : {A : Type 0} → Quantity → ℕ → ℕ → Result A Refusal → Result A Refusal
 limited quantity limit n next = if nat_lt limit n then Err (TooLarge quantity limit) else next
 
+-- nothing, unless something is refused
+abbrev pub passes : Option Refusal → Result (Unit {0}) Refusal
+passes None = Ok tt
+passes (Some r) = Err r
+
+-- the entry of the linked objects, where there are not too many
+abbrev pub sized : List (Named Object) → Result LinkedEntry Refusal
+sized os = only_entry (entered_from 0 os) >>= λ e. limited Areas 65535 (count_areas os) (limited Symbols 1000000 (count_symbols os) (Ok e))
+
 -- the entry of the linked objects, with the region symbols that the image has
 abbrev pub judged : Option (List (List ℕ)) → List (Named Object) → Result LinkedEntry Refusal
 judged regions os =
-    refused (duplicate os) (refused (undefined regions os) (only_entry (entered_from 0 os) >>= λ e.
-    limited Areas 65535 (count_areas os) (limited Symbols 1000000 (count_symbols os) (Ok e))))
+    refused (duplicate os) (refused (undefined regions os) (sized os))
 
 unfoldable pub selection_of : Option (List (List ℕ)) → List (Named Object) → Result Linked Refusal
 selection_of regions os = judged regions os >>= λ e. Ok (record { objects = os; definitions = definitions_from 0 (objects_in os); entry = e })

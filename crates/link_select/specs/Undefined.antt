@@ -10,6 +10,7 @@ use Rattle.link_model.specs.Members.{objects_in}
 use Rattle.link_model.specs.Options.{first_given}
 use Rattle.link_model.specs.Chosen.{exporter, is_needed}
 use Rattle.link_model.specs.RegionNames.{names_a_region}
+use Rattle.link_select.specs.declared.undefined.Unresolved.{Unresolved}
 
 -- a name means something among these objects
 abbrev pub is_known : Option (List (List ℕ)) → List Object → List ℕ → Bool
@@ -24,3 +25,8 @@ lacking_in known o = first_given (lacking known o.name) o.value.symbols
 
 abbrev pub undefined : Option (List (List ℕ)) → List (Named Object) → Option Refusal
 undefined regions os = first_given (lacking_in (is_known regions (objects_in os))) os
+
+-- what is told of a name that has no meaning
+abbrev pub told : Option Unresolved → Option Refusal
+told None = None
+told (Some names) = Some (Undefined names.symbol.now names.object.now)

@@ -89,25 +89,7 @@ fn take_all(
     Ok(())
 }
 
-/// Marks what the command-line objects ask for.
-fn ask_all(
-    alloc: Global,
-    supply: &Supply,
-    objects: &[Named<Object>],
-    marks: &mut Vec<bool>,
-    waiting: &mut Vec<usize>,
-) -> Result<(), NoMemory>
-    requires { IsWithin (supply_of supply.now) (length marks.old.items) }
-    ensures { OnOk result (Takes marks.old.items marks.new.items waiting.old.items waiting.new.items (flat_map (λ object. wanted (supply_of supply.now) object.value) objects.now)) }
-{
-    for object in objects {
-        let numbers = wanted_by(alloc, supply, object.value.symbols.as_slice())?;
-        take_all(marks, waiting, numbers.as_slice())?;
-    }
-    Ok(())
-}
-
-/// Marks what a member asks for by these symbols.
+/// Marks what an object asks for by these symbols.
 fn look_at(
     alloc: Global,
     supply: &Supply,
@@ -120,6 +102,29 @@ fn look_at(
 {
     let numbers = wanted_by(alloc, supply, symbols)?;
     take_all(marks, waiting, numbers.as_slice())
+}
+
+/// Marks what the command-line objects ask for.
+fn ask_all(
+    alloc: Global,
+    supply: &Supply,
+    objects: &[Named<Object>],
+    marks: &mut Vec<bool>,
+    waiting: &mut Vec<usize>,
+) -> Result<(), NoMemory>
+    requires { IsWithin (supply_of supply.now) (length marks.old.items) }
+    ensures { OnOk result (Takes marks.old.items marks.new.items waiting.old.items waiting.new.items (flat_map (λ object. wanted (supply_of supply.now) object.value) objects.now)) }
+{
+    for object in objects {
+        look_at(
+            alloc,
+            supply,
+            object.value.symbols.as_slice(),
+            marks,
+            waiting,
+        )?;
+    }
+    Ok(())
 }
 
 fn no_marks(alloc: Global, count: usize) -> Result<Vec<bool>, NoMemory>

@@ -1,6 +1,6 @@
 //! The selection.
 
-ghost use Rattle.std.specs.Prelude.{◌≡◌, ◌++◌, ◌+◌, ◌^◌, ◌<◌, ◌≤◌, length, OnOk, IfOk, List as Items};
+ghost use Rattle.std.specs.Prelude.{◌≡◌, ◌++◌, ◌+◌, ◌^◌, ◌<◌, ◌≤◌, length, ℕ, None, OnOk, IfOk, List as Items};
 ghost use Rattle.std.specs.Option.{option_copied};
 ghost use Rattle.sdt_fault.specs.declared.answer.Fault.TheVariants.{Refused};
 ghost use Rattle.sdt_fault.specs.declared.refusal.Refusal.TheVariants.{TooLarge};
@@ -12,17 +12,22 @@ ghost use Rattle.link_model.specs.Definitions.{definition_in, definitions_in, de
 ghost use Rattle.link_model.specs.declared.selection.Named.{Named as NamedValue};
 ghost use Rattle.link_select.specs.Laws.{AreDefinedOnce, HaveMeanings};
 ghost use Rattle.link_select.specs.Search.{marked};
-ghost use Rattle.link_select.specs.Selection.{count_symbols, judged, selection_of, Selects};
+ghost use Rattle.link_select.specs.Selection.{count_symbols, judged, passes, refused, selection_of, sized, Selects};
+ghost use Rattle.link_select.specs.Exports.{duplicate};
+ghost use Rattle.link_select.specs.Index.{number_in};
+ghost use Rattle.link_select.specs.Places.{places_from};
+ghost use Rattle.link_select.specs.Undefined.{undefined};
 
 use crate::choosing::{Supply, choose};
 use crate::entries::one_entry;
-use crate::exports::{Exports, index_members, index_objects, judge_exports};
+use crate::exports::{index_members, index_objects, judge_exports, refuse_duplicate};
 use crate::limits::{more_areas_than, more_symbols_than};
 use crate::linking::linked_objects;
-use crate::members::places_of;
-use crate::undefined::undefined;
+use crate::members::{MemberPlace, places_of};
+use crate::undefined::refuse_undefined;
 use alf_archive::Archive;
 use aof_object::{Object, Symbol};
+use indexmap::IndexMap;
 use link_model::{Definition, Linked, LinkedEntry, Named};
 use sdt_fault::answer::Fault;
 use sdt_fault::kinds::Quantity;
@@ -35,6 +40,25 @@ const MOST_AREAS: usize = 65_535;
 
 const MOST_SYMBOLS: usize = 1_000_000;
 
+/// The members that are linked, by the names that objects define and members offer, of which none is noted yet.
+fn mark_supplied<'a>(
+    alloc: Global,
+    supply: &mut Supply<'a>,
+    objects: &'a [Named<Object>],
+    archives: &'a [Named<Archive>],
+    places: &[MemberPlace],
+) -> Result<Vec<bool>, NoMemory>
+    requires defined { (q : Items ℕ) → number_in supply.old.defined q ≡ None }
+    requires offered { (q : Items ℕ) → number_in supply.old.offered q ≡ None }
+    requires places { places.now ≡ places_from 0 archives.now }
+    ensures size { IfOk result (λ marks. length marks.items ≡ length (members_of archives.now)) }
+    ensures chosen { IfOk result (λ marks. AreChosen (objects_in objects.now) (objects_in (members_of archives.now)) (marked marks.items)) }
+{
+    index_objects(&mut supply.defined, objects)?;
+    index_members(&mut supply.offered, archives, places)?;
+    choose(alloc, supply, objects, archives, places)
+}
+
 /// The members that are linked: for each a mark, in library order.
 fn mark_members(
     alloc: Global,
@@ -45,11 +69,13 @@ fn mark_members(
     ensures chosen { IfOk result (λ marks. AreChosen (objects_in objects.now) (objects_in (members_of archives.now)) (marked marks.items)) }
 {
     let places = places_of(alloc, archives)?;
-    let supply = Supply {
-        defined: index_objects(alloc, objects)?,
-        offered: index_members(alloc, archives, places.as_slice())?,
+    let mut supply = Supply {
+        defined: IndexMap::new(alloc),
+        offered: IndexMap::new(alloc),
     };
-    choose(alloc, &supply, objects, archives, places.as_slice())
+    let marks = mark_supplied(alloc, &mut supply, objects, archives, places.as_slice());
+    drop(supply);
+    marks
 }
 
 /// The objects that are linked.
@@ -119,6 +145,23 @@ fn definitions_of(alloc: Global, objects: &[Named<Object>]) -> Result<List<Defin
     Ok(List::from_vec(definitions))
 }
 
+/// Refuses names of the linked objects that don't have one meaning each; notes which object exports each name, where none is
+/// noted yet.
+fn judge_names<'a>(
+    alloc: Global,
+    index: &mut IndexMap<&'a [u8], usize>,
+    objects: &'a [Named<Object>],
+    regions: Option<&[Text]>,
+) -> Result<(), Fault>
+    requires { (q : Items ℕ) → number_in index.old q ≡ None }
+    ensures { Gives result (refused (duplicate objects.now)
+        (passes (undefined (option_copied regions.entry) objects.now))) }
+{
+    let duplicate = judge_exports(index, objects)?;
+    refuse_duplicate(alloc, duplicate)?;
+    refuse_undefined(alloc, index, regions, objects)
+}
+
 /// The entry of the linked objects, where their names have one meaning each and there are not too many.
 fn judge(
     alloc: Global,
@@ -128,13 +171,18 @@ fn judge(
     requires { length objects.now < 2 ^ 32 }
     ensures { Gives result (judged (option_copied regions.entry) objects.now) }
 {
-    let Exports { index, duplicate } = judge_exports(alloc, objects)?;
-    if let Some(refusal) = duplicate {
-        return Err(Fault::Refused(refusal));
-    }
-    if let Some(refusal) = undefined(alloc, &index, regions, objects)? {
-        return Err(Fault::Refused(refusal));
-    }
+    let mut index = IndexMap::new(alloc);
+    let named = judge_names(alloc, &mut index, objects, regions);
+    drop(index);
+    named?;
+    judge_size(alloc, objects)
+}
+
+/// The entry of the linked objects, where there are not too many.
+fn judge_size(alloc: Global, objects: &[Named<Object>]) -> Result<LinkedEntry, Fault>
+    requires { length objects.now < 2 ^ 32 }
+    ensures { Gives result (sized objects.now) }
+{
     let entry = one_entry(alloc, objects)?;
     if more_areas_than(MOST_AREAS, objects) {
         return Err(too_large(Quantity::Areas, 65_535));

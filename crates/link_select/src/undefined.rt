@@ -1,20 +1,23 @@
 //! Names without a meaning.
 
-ghost use Rattle.std.specs.Prelude.{◌≡◌, IfOk};
+ghost use Rattle.std.specs.Prelude.{◌≡◌};
 ghost use Rattle.std.specs.Option.{option_copied};
+ghost use Rattle.chunk_file.specs.Reading.{Gives};
 ghost use Rattle.link_model.specs.Members.{objects_in};
 ghost use Rattle.link_model.specs.Options.{first_given};
 ghost use Rattle.link_select.specs.Index.{IsIndexOf};
 ghost use Rattle.link_select.specs.Regions.{known_by};
-ghost use Rattle.link_select.specs.Undefined.{lacking, lacking_in, undefined as undefined_name};
+ghost use Rattle.link_select.specs.Undefined.{lacking, lacking_in, told, undefined};
+ghost use Rattle.link_select.specs.Selection.{passes};
 
 use crate::index::find;
 use crate::regions::{RegionSymbols, is_region_symbol, region_symbols};
 use aof_object::{Object, Symbol};
 use indexmap::IndexMap;
 use link_model::Named;
+use sdt_fault::Text;
+use sdt_fault::answer::Fault;
 use sdt_fault::refusal::Refusal;
-use sdt_fault::{NoMemory, Text};
 use std::alloc::Global;
 
 /// Whether a name is exported by a linked object, or is a region symbol.
@@ -27,77 +30,95 @@ fn is_known(exports: &IndexMap<&[u8], usize>, regions: &RegionSymbols, name: &[u
     is_region_symbol(regions, name)
 }
 
-/// The refusal of a symbol of the object called `name`, where it needs a meaning and has none.
-fn lacking_of(
-    alloc: Global,
+/// A name that needs a meaning and has none, with its object's.
+#[derive(Clone, Copy)]
+pub struct Unresolved<'a> {
+    pub symbol: &'a Text,
+    pub object: &'a Text,
+}
+
+/// The name of a symbol of the object called `name`, where it needs a meaning and has none.
+fn lacking_of<'a>(
     exports: &IndexMap<&[u8], usize>,
     regions: &RegionSymbols,
-    name: &Text,
-    symbol: &Symbol,
-) -> Result<Option<Refusal>, NoMemory>
-    ensures { IfOk result (λ refusal. refusal ≡ lacking (known_by exports.now regions.now) name.now symbol.now) }
+    name: &'a Text,
+    symbol: &'a Symbol,
+) -> Option<Unresolved<'a>>
+    ensures { told result ≡ lacking (known_by exports.now regions.now) name.now symbol.now }
 {
     if !symbol.flags().is_reference() {
-        return Ok(None);
+        return None;
     }
     if symbol.flags().is_weak() {
-        return Ok(None);
+        return None;
     }
     if is_known(exports, regions, symbol.name.as_slice()) {
-        return Ok(None);
+        return None;
     }
-    Ok(Some(Refusal::Undefined {
-        symbol: symbol.name.try_clone(alloc)?,
-        object: name.try_clone(alloc)?,
-    }))
+    Some(Unresolved {
+        symbol: &symbol.name,
+        object: name,
+    })
 }
 
-fn first_lacking(
-    alloc: Global,
+fn first_lacking<'a>(
     exports: &IndexMap<&[u8], usize>,
     regions: &RegionSymbols,
-    name: &Text,
-    symbols: &[Symbol],
-) -> Result<Option<Refusal>, NoMemory>
-    ensures { IfOk result (λ refusal. refusal ≡ first_given (lacking (known_by exports.now regions.now) name.now) symbols.now) }
+    name: &'a Text,
+    symbols: &'a [Symbol],
+) -> Option<Unresolved<'a>>
+    ensures { told result ≡ first_given (lacking (known_by exports.now regions.now) name.now) symbols.now }
 {
     for symbol in symbols {
-        let refusal = lacking_of(alloc, exports, regions, name, symbol)?;
-        if refusal.is_some() {
-            return Ok(refusal);
+        let lacking = lacking_of(exports, regions, name, symbol);
+        if lacking.is_some() {
+            return lacking;
         }
     }
-    Ok(None)
+    None
 }
 
-fn first_undefined(
-    alloc: Global,
+fn first_undefined<'a>(
     exports: &IndexMap<&[u8], usize>,
     regions: &RegionSymbols,
-    objects: &[Named<Object>],
-) -> Result<Option<Refusal>, NoMemory>
-    ensures { IfOk result (λ refusal. refusal ≡ first_given (lacking_in (known_by exports.now regions.now)) objects.now) }
+    objects: &'a [Named<Object>],
+) -> Option<Unresolved<'a>>
+    ensures { told result ≡ first_given (lacking_in (known_by exports.now regions.now)) objects.now }
 {
     for object in objects {
         let symbols = object.value.symbols.as_slice();
-        let refusal = first_lacking(alloc, exports, regions, &object.name, symbols)?;
-        if refusal.is_some() {
-            return Ok(refusal);
+        let lacking = first_lacking(exports, regions, &object.name, symbols);
+        if lacking.is_some() {
+            return lacking;
         }
     }
-    Ok(None)
+    None
 }
 
-/// The refusal of the first name that has no meaning.
-pub fn undefined(
+fn refuse(alloc: Global, lacking: Option<Unresolved<'_>>) -> Result<(), Fault>
+    ensures { Gives result (passes (told lacking.entry)) }
+{
+    let Some(names) = lacking else {
+        return Ok(());
+    };
+    Err(Fault::Refused(Refusal::Undefined {
+        symbol: names.symbol.try_clone(alloc)?,
+        object: names.object.try_clone(alloc)?,
+    }))
+}
+
+/// Refuses the first name that has no meaning.
+pub fn refuse_undefined(
     alloc: Global,
     exports: &IndexMap<&[u8], usize>,
     regions: Option<&[Text]>,
     objects: &[Named<Object>],
-) -> Result<Option<Refusal>, NoMemory>
+) -> Result<(), Fault>
     requires { IsIndexOf 0 (objects_in objects.now) exports.now }
-    ensures { IfOk result (λ refusal. refusal ≡ undefined_name (option_copied regions.entry) objects.now) }
+    ensures { Gives result (passes (undefined (option_copied regions.entry) objects.now)) }
 {
     let symbols = region_symbols(alloc, regions, objects)?;
-    first_undefined(alloc, exports, &symbols, objects)
+    let lacking = first_undefined(exports, &symbols, objects);
+    drop(symbols);
+    refuse(alloc, lacking)
 }

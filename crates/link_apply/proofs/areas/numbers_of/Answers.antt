@@ -1,16 +1,25 @@
-use Rattle.std.proofs.Common.{◌≡◌, ℕ, List, ◌<◌, ◌∷◌, ◌++◌, [], get_or, take, length, map, length-take-le, sym, ap, subst, ◌∙◌, arith}
+use Rattle.std.proofs.Common.{◌≡◌, ℕ, List, ◌<◌, ◌∷◌, ◌≤◌, ◌++◌, [], refl, get_or, take, length, map, length-take-le, sym, ap, subst, ◌∙◌, arith}
 use Rattle.std.specs.Prelude.{slice_get, Some}
 use Rattle.std.specs.Option.{option_map}
+use Rattle.std.proofs.lemmas.List.{take_all}
 use Rattle.std.proofs.lemmas.Option.{slice_get-get_or}
 use Rattle.aof_object.specs.declared.records.Reloc.{Reloc}
 use Rattle.link_apply.specs.Flaws.{told}
 use Rattle.link_apply.specs.Patching.{first_refusal, flaw_at, number_at, refusal_at}
 use Rattle.link_apply.specs.Written.{AreFitting, AreInside}
-use Rattle.link_apply.proofs.PatchingLemmas.{ok_sound, ok_same, err_refused, first_dropped, first_stopped, fitting_more, inside_more, next_taken, pushed_many, pushed_numbers}
+use Rattle.link_apply.proofs.PatchingLemmas.{ok_sound, ok_same, err_refused, first_dropped, first_stopped, all_numbers, fitting_more, inside_more, next_taken, pushed_many, pushed_numbers}
 use Rattle.link_apply.proofs.areas.numbers_of.Goals as goal
 
 there_at : (xs ys : List Reloc) (i : ℕ) (d : Reloc) → xs ≡ ys → i < length ys → slice_get ys i ≡ Some (get_or xs i d)
 there_at xs ys i d e h = slice_get-get_or ys i d h ∙ ap (λ l. Some (get_or l i d)) (sym e)
+
+pub judged-requires-clause-own : goal.judged-requires-clause-own
+judged-requires-clause-own c =
+    let relocs = c.args.site.now.area.now.relocs in
+    let i = c.loop-reloc.reloc-index in
+    let zero : Reloc = record { offset = 0; word = 0 } in
+    let size = ap length c.as_slice-reloc-items.ensures in
+    (i, there_at c.as_slice-reloc-items.result.now relocs i zero c.as_slice-reloc-items.ensures (omega (arith, size, c.loop-reloc-test.true)))
 
 pub returns-in-Err-clause-exact : goal.returns-in-Err-clause-exact
 returns-in-Err-clause-exact c =
@@ -61,3 +70,35 @@ loop-reloc-preserved c =
           subst (AreInside (length site.area.now.bytes)) (sym (next_taken relocs i r there))
           (inside_more (length site.area.now.bytes) (take i relocs) r inv.inside c.in-Ok.ensures.inside);
     }
+
+pub loop-reloc-init : goal.loop-reloc-init
+loop-reloc-init c = record {
+  many = ap length c.new-numbers.ensures.items;
+  numbers = ap (λ (ns : List ℕ). ns ++ map (number_at c.args.known.now c.args.site.now) c.args.site.now.area.now.relocs) c.new-numbers.ensures.items;
+  sound = refl;
+  fitting = λ k r h. absurd (cc);
+  inside = λ k r h. absurd (cc);
+}
+
+pub returns-clause-exact : goal.returns-clause-exact
+returns-clause-exact c =
+    let relocs = c.args.site.now.area.now.relocs in
+    let size = ap length c.as_slice-reloc-items.ensures in
+    let end : length relocs ≤ c.loop-reloc.reloc-index = omega (arith, size, c.loop-reloc-test.false) in
+    all_numbers (number_at c.args.known.now c.args.site.now) (first_refusal c.args.known.now c.args.site.now c.args.object.now) relocs c.loop-reloc.reloc-index c.loop-reloc.numbers.items c.from_vec.result end refl
+    c.loop-reloc.invariant.numbers c.loop-reloc.invariant.sound c.from_vec.ensures
+
+pub returns-clause-fitting : goal.returns-clause-fitting
+returns-clause-fitting c =
+    let relocs = c.args.site.now.area.now.relocs in
+    let size = ap length c.as_slice-reloc-items.ensures in
+    let end : length relocs ≤ c.loop-reloc.reloc-index = omega (arith, size, c.loop-reloc-test.false) in
+    subst (λ (ns : List ℕ). AreFitting relocs ns) (sym c.from_vec.ensures)
+    (subst (λ (rs : List Reloc). AreFitting rs c.loop-reloc.numbers.items) (take_all c.loop-reloc.reloc-index relocs end) c.loop-reloc.invariant.fitting)
+
+pub returns-clause-inside : goal.returns-clause-inside
+returns-clause-inside c =
+    let relocs = c.args.site.now.area.now.relocs in
+    let size = ap length c.as_slice-reloc-items.ensures in
+    let end : length relocs ≤ c.loop-reloc.reloc-index = omega (arith, size, c.loop-reloc-test.false) in
+    subst (AreInside (length c.args.site.now.area.now.bytes)) (take_all c.loop-reloc.reloc-index relocs end) c.loop-reloc.invariant.inside

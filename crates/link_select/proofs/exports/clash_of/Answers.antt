@@ -1,4 +1,4 @@
-use Rattle.std.proofs.Common.{ℕ, List, Option, Some, sym, ap, ◌∙◌, ◌%◌}
+use Rattle.std.proofs.Common.{ℕ, List, Option, sym, ap, ◌∙◌, ◌%◌}
 use Rattle.std.specs.Prelude.{◌==◌}
 use Rattle.std.specs.Option.{option_map}
 use Rattle.sdt_fault.specs.declared.refusal.Refusal.TheVariants.{Duplicate}
@@ -18,6 +18,5 @@ returns-in_default-name_at c =
 pub returns : goal.returns
 returns c =
     let exported = sym (ap (λ (n : ℕ). n % 4 == 3) c.flags.ensures) ∙ sym c.is_exported.ensures ∙ c.if-not-is_exported.false in
-    (λ i. Some (Duplicate (c.in_ok-try_clone.ensures i) (c.in_ok-try_clone-2.ensures i) (c.in_ok-try_clone-3.ensures i)))
-    ∙ sym (clash_some c.args.index.now c.args.objects.now c.args.first c.args.name.now c.args.symbol.now c.in-Some.number c.requires (ap (λ (n : List ℕ). number_in c.args.index.now n) (sym c.as_slice.ensures) ∙ sym c.in-Some.ensures) exported
+    sym (clash_some c.args.index.now c.args.objects.now c.args.first c.args.name.now c.args.symbol.now c.in-Some.number c.requires (ap (λ (n : List ℕ). number_in c.args.index.now n) (sym c.as_slice.ensures) ∙ sym c.in-Some.ensures) exported
     ∙ ap (λ (o : Option (List ℕ)). option_map (λ n. Duplicate c.args.symbol.now.name c.args.name.now n) o) (sym c.in-Some-name_at.ensures))

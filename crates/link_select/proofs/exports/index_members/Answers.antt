@@ -8,8 +8,8 @@ use Rattle.link_select.proofs.exports.index_members.Goals as goal
 
 pub loop-i-init : goal.loop-i-init
 loop-i-init c =
-    index_none c.new-index.result c.new-index.ensures.empty (members_of c.args.archives.now) (length c.args.places.now)
-    (ap (λ (l : List MemberPlace). length l) c.requires ∙ length_from 0 c.args.archives.now)
+    index_none c.args.index.now c.requires.none (members_of c.args.archives.now) (length c.args.places.now)
+    (ap (λ (l : List MemberPlace). length l) c.requires.places ∙ length_from 0 c.args.archives.now)
 
 pub loop-i-preserved : goal.loop-i-preserved
 loop-i-preserved c =
