@@ -2,10 +2,10 @@
 
 use crate::devices::{Left, Seat, put_left};
 use crate::forms::Verb;
-use crate::sections::{Section, body};
+use crate::sections::Section;
 use crate::settings::set;
 use crate::steps::{Step, read_step};
-use crate::told::{Told, push_shown};
+use crate::told::Told;
 use crate::wishes::{want_of_file, want_of_run};
 use sdt_fault::answer::{Answer, status_of};
 use sdt_fault::report::text_of;
@@ -65,28 +65,26 @@ impl Bench {
     }
 }
 
-/// Carries out the steps of the case that the first of these sections begins. What is told is of the first that fails.
+/// Carries out the steps of these sections up to the next case. What is told is of the first that fails.
 pub fn carry_all_out<'a, T: Tool>(
     alloc: Global,
     tool: &T,
     bench: &mut Bench,
     step: &mut Step<'a>,
-    lines: &'a [&'a str],
-    sections: &'a [Section<'a>],
+    sections: &[Section<'a>],
     told: &mut Told,
-) -> Result<(), NoMemory> {
-    for (at, section) in sections.iter().enumerate().skip(1) {
+) {
+    for section in sections {
         if section.is_case {
             break;
         }
-        let next = sections.get(at.saturating_add(1));
-        read_step(alloc, step, section, body(lines, section.line, next), told)?;
-        carry_out(alloc, tool, bench, step, told)?;
-        if !told.text.is_empty() {
-            return Ok(());
+        read_step(alloc, step, section, told);
+        carry_out(alloc, tool, bench, step, told);
+        if told.is_over() {
+            return;
         }
     }
-    settle(bench, told)
+    settle(bench, told);
 }
 
 fn carry_out<T: Tool>(
@@ -95,15 +93,14 @@ fn carry_out<T: Tool>(
     bench: &mut Bench,
     step: &Step<'_>,
     told: &mut Told,
-) -> Result<(), NoMemory> {
+) {
     match step.verb {
         Verb::Run => {
             let line = told.line;
-            settle(bench, told)?;
-            if told.text.is_empty() {
-                run(alloc, tool, bench, line, step.command.as_slice())?;
+            settle(bench, told);
+            if !told.is_over() && run(alloc, tool, bench, line, step.command.as_slice()).is_err() {
+                told.text.short = true;
             }
-            Ok(())
         }
         Verb::Holds | Verb::Length | Verb::Same | Verb::Absent => {
             want_of_file(alloc, &bench.store, step, told)
@@ -116,20 +113,18 @@ fn carry_out<T: Tool>(
 }
 
 // Of a command its status or its answer was asked for, and its text where it printed one.
-fn settle(bench: &Bench, told: &mut Told) -> Result<(), NoMemory> {
+fn settle(bench: &Bench, told: &mut Told) {
     let Some(line) = bench.line else {
-        return Ok(());
+        return;
     };
     if !bench.is_answer_wanted {
         told.line = line;
-        return told.differ("a status or an answer behind it", "none");
-    }
-    if !bench.is_text_wanted && !bench.sink.bytes.is_empty() {
+        told.differ("a status or an answer behind it", "none");
+    } else if !bench.is_text_wanted && !bench.sink.bytes.is_empty() {
         told.line = line;
-        told.differ("no text", "")?;
-        return push_shown(&mut told.text, bench.sink.bytes.as_slice(), 0);
+        told.differ("no text", "");
+        told.text.show(bench.sink.bytes.as_slice(), 0);
     }
-    Ok(())
 }
 
 fn run<T: Tool>(
@@ -139,11 +134,7 @@ fn run<T: Tool>(
     line: usize,
     words: &[String],
 ) -> Result<(), NoMemory> {
-    bench.line = Some(line);
-    bench.is_answer_wanted = false;
-    bench.is_text_wanted = false;
-    bench.left.clear();
-    bench.sink = MemorySink::with_room(alloc, bench.room)?;
+    begin(alloc, bench, line)?;
     let mut devices: Vec<Box<dyn Device>> = Vec::new(alloc);
     for seat in bench.seats.iter() {
         let device: Box<dyn Device> = if seat.is_timer {
@@ -153,9 +144,16 @@ fn run<T: Tool>(
         };
         devices.push(device)?;
     }
-    let done = run_with(alloc, tool, bench, words, &mut devices);
-    drop(devices);
-    done
+    run_with(alloc, tool, bench, words, &mut devices)
+}
+
+fn begin(alloc: Global, bench: &mut Bench, line: usize) -> Result<(), NoMemory> {
+    bench.line = Some(line);
+    bench.is_answer_wanted = false;
+    bench.is_text_wanted = false;
+    bench.left.clear();
+    bench.sink = MemorySink::with_room(alloc, bench.room)?;
+    Ok(())
 }
 
 fn timer_on(seat: &Seat) -> Timer {

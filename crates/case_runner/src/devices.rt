@@ -4,6 +4,7 @@ ghost use Rattle.std.specs.Prelude.{◌≡◌, ◌≤◌, ◌+◌, ◌%◌, ◌^
 ghost use Rattle.sdt_word.specs.declared.codes.Width.TheVariants.{Word};
 ghost use Rattle.sdt_outside.specs.Devices.{IsWithin};
 
+use crate::told::Growing;
 use sdt_fault::NoMemory;
 use sdt_outside::Device;
 use sdt_word::Width;
@@ -103,15 +104,20 @@ fn timer_line(device: &mut Box<dyn Device>) -> LeftKind {
 }
 
 /// What is left of a device, as a step `shows` has it, without the address; nothing of one that was taken out.
-pub fn push_left(out: &mut String, left: &Left) -> Result<(), NoMemory> {
-    let first = left.first;
-    let second = left.second;
-    let third = left.third;
-    match left.kind {
-        LeftKind::Gone => {}
-        LeftKind::TimerUp => write!(out, "timer {first} {second} {third} up")?,
-        LeftKind::TimerDown => write!(out, "timer {first} {second} {third} down")?,
-        LeftKind::Port => write!(out, "uart {first} {second}")?,
+pub fn say_left(out: &mut Growing, left: &Left) {
+    let (kind, line) = match left.kind {
+        LeftKind::Gone => return,
+        LeftKind::TimerUp => ("timer ", " up"),
+        LeftKind::TimerDown => ("timer ", " down"),
+        LeftKind::Port => ("uart ", ""),
+    };
+    out.say(kind);
+    out.say_number(u64::from(left.first));
+    out.say(" ");
+    out.say_number(u64::from(left.second));
+    if !line.is_empty() {
+        out.say(" ");
+        out.say_number(u64::from(left.third));
+        out.say(line);
     }
-    Ok(())
 }

@@ -1,10 +1,10 @@
 //! Case files: their cases one after another, and the report on them.
 
 use crate::bench::{Bench, Tool, carry_all_out};
-use crate::sections::{Section, body, lines_of, sections};
+use crate::sections::{Section, lines_of, sections};
 use crate::steps::{Step, read_step};
-use crate::told::Told;
-use sdt_fault::{NoMemory, Text};
+use crate::told::{Growing, Told};
+use sdt_fault::{Bytes, NoMemory, Text};
 use sdt_outside::{Store, StoreError};
 use std::alloc::Global;
 use std::str;
@@ -12,7 +12,7 @@ use std::str;
 /// A line for each case that fails, and how many passed and failed.
 #[derive(Drop)]
 pub struct Report {
-    pub text: String,
+    text: Growing,
     pub passed: u64,
     pub failed: u64,
     // Of the case at hand.
@@ -22,30 +22,55 @@ pub struct Report {
 impl Report {
     pub fn new(alloc: Global) -> Report {
         Report {
-            text: String::new(alloc),
+            text: Growing::new(alloc),
             passed: 0,
             failed: 0,
             told: Told {
                 line: 1,
-                text: String::new(alloc),
+                text: Growing::new(alloc),
             },
         }
     }
 
+    /// Its lines, in UTF-8 where the names of the files are.
+    pub fn text(&self) -> &[u8] {
+        self.text.bytes.as_slice()
+    }
+
     // Counts a case, tells what is wrong with it, and is ready for the next one.
     fn note(&mut self, file: &str, name: &str) -> Result<(), NoMemory> {
-        if self.told.text.is_empty() {
+        if self.told.text.bytes.is_empty() {
             self.passed = self.passed.saturating_add(1);
         } else {
             self.failed = self.failed.saturating_add(1);
-            let name = if name.is_empty() { "-" } else { name };
-            let line = self.told.line;
-            let text = self.told.text.as_str();
-            write!(self.text, "{file}:{line}: {name}: {text}\n")?;
+            self.text.say(file);
+            self.text.say(":");
+            self.text.say_number(self.told.line as u64);
+            self.text.say(": ");
+            self.text.say(if name.is_empty() { "-" } else { name });
+            self.text.say(": ");
+            self.text.put_all(self.told.text.bytes.as_slice());
+            self.text.say("\n");
         }
         self.told.line = 1;
-        self.told.text.clear();
+        self.told.text.bytes.clear();
+        if self.text.short || self.told.text.short {
+            return Err(NoMemory);
+        }
         Ok(())
+    }
+
+    // Tells that a file has no case.
+    fn note_none(&mut self, file: &str, wanted: &str) -> Result<(), NoMemory> {
+        self.told.differ(wanted, "none");
+        self.note(file, "")
+    }
+
+    fn count(&mut self) {
+        self.text.say_number(self.passed);
+        self.text.say(" passed, ");
+        self.text.say_number(self.failed);
+        self.text.say(" failed\n");
     }
 }
 
@@ -60,9 +85,7 @@ pub fn check_files<T: Tool, S: Store>(
     for name in names {
         check_file(alloc, tool, store, name.as_str(), report)?;
     }
-    let passed = report.passed;
-    let failed = report.failed;
-    write!(report.text, "{passed} passed, {failed} failed\n")?;
+    report.count();
     Ok(())
 }
 
@@ -73,68 +96,53 @@ fn check_file<T: Tool, S: Store>(
     file: &str,
     report: &mut Report,
 ) -> Result<(), NoMemory> {
-    let name = Text::from_slice(alloc, file.as_bytes())?;
-    let read = store.read(alloc, &name);
-    drop(name);
-    let wanted = match read {
-        Ok(bytes) => {
-            let checked = check_bytes(alloc, tool, file, bytes.as_slice(), report);
-            drop(bytes);
-            checked?
-        }
-        Err(StoreError::NoMemory) => return Err(NoMemory),
-        Err(_) => "a case file",
-    };
-    if !wanted.is_empty() {
-        report.told.differ(wanted, "none")?;
-        report.note(file, "")?;
+    match content_of(alloc, store, file) {
+        Ok(bytes) => check_bytes(alloc, tool, file, bytes.as_slice(), report),
+        Err(StoreError::NoMemory) => Err(NoMemory),
+        Err(_) => report.note_none(file, "a case file"),
     }
-    Ok(())
 }
 
-// Carries out the cases of a file; where it has none, the result is what was wanted.
+fn content_of<S: Store>(alloc: Global, store: &mut S, file: &str) -> Result<Bytes, StoreError> {
+    let name = Text::from_slice(alloc, file.as_bytes())?;
+    store.read(alloc, &name)
+}
+
 fn check_bytes<T: Tool>(
     alloc: Global,
     tool: &T,
     file: &str,
     bytes: &[u8],
     report: &mut Report,
-) -> Result<&'static str, NoMemory> {
+) -> Result<(), NoMemory> {
     let Ok(text) = str::from_utf8(bytes) else {
-        return Ok("a text in UTF-8");
+        return report.note_none(file, "a text in UTF-8");
     };
     let lines = lines_of(alloc, text)?;
     let sections = sections(alloc, lines.as_slice())?;
     if sections.is_empty() {
-        return Ok("a case");
+        return report.note_none(file, "a case");
     }
-    check_sections(
-        alloc,
-        tool,
-        file,
-        lines.as_slice(),
-        sections.as_slice(),
-        report,
-    )?;
-    Ok("")
+    check_sections(alloc, tool, file, sections.as_slice(), report)
 }
 
 // A case begins at each line that begins one, and at the first step where none does in front of it.
-fn check_sections<'a, T: Tool>(
+fn check_sections<T: Tool>(
     alloc: Global,
     tool: &T,
     file: &str,
-    lines: &'a [&'a str],
-    sections: &'a [Section<'a>],
+    sections: &[Section<'_>],
     report: &mut Report,
 ) -> Result<(), NoMemory> {
     let mut names = Vec::new(alloc);
-    for (at, head) in sections.iter().enumerate() {
-        if at == 0 || head.is_case {
+    let mut number = 0usize;
+    for head in sections {
+        number = number.wrapping_add(1);
+        if number == 1 || head.is_case {
             let name = name_of(head);
-            let rest = sections.get(at..).unwrap_or(&[]);
-            judge_head(head, name, names.as_slice(), &mut report.told)?;
-            check_case(alloc, tool, &*lines, &*rest, &mut report.told)?;
+            judge_head(head, name, names.as_slice(), &mut report.told);
+            let steps = sections.get(number..).unwrap_or(&[]);
+            check_case(alloc, tool, steps, &mut report.told);
             report.note(file, name)?;
             names.push(name)?;
         }
@@ -154,58 +162,33 @@ fn name_of<'a>(head: &Section<'a>) -> &'a str {
 }
 
 // Tells what is wrong with the line that begins a case.
-fn judge_head(
-    head: &Section<'_>,
-    name: &str,
-    names: &[&str],
-    told: &mut Told,
-) -> Result<(), NoMemory> {
+fn judge_head(head: &Section<'_>, name: &str, names: &[&str], told: &mut Told) {
     told.line = head.line;
     if !head.is_case {
-        return told.differ("a case in front of its steps", head.head);
+        told.differ("a case in front of its steps", head.head);
+    } else if name.is_empty() {
+        told.differ("a name", "none");
+    } else if names.contains(&name) {
+        told.differ("a name of its own", name);
     }
-    if name.is_empty() {
-        return told.differ("a name", "none");
-    }
-    if names.contains(&name) {
-        return told.differ("a name of its own", name);
-    }
-    Ok(())
 }
 
-// Carries out the case that the first of these sections begins, once each of its steps can be read.
-fn check_case<'a, T: Tool>(
-    alloc: Global,
-    tool: &T,
-    lines: &'a [&'a str],
-    sections: &'a [Section<'a>],
-    told: &mut Told,
-) -> Result<(), NoMemory> {
+// Carries out the case to which these sections belong up to the next case, once each of its steps can be read.
+fn check_case<T: Tool>(alloc: Global, tool: &T, sections: &[Section<'_>], told: &mut Told) {
     let mut step = Step::new(alloc);
-    read_all(alloc, &mut step, lines, sections, told)?;
-    if !told.text.is_empty() {
-        return Ok(());
+    read_all(alloc, &mut step, sections, told);
+    if !told.is_over() {
+        let mut bench = Bench::new(alloc);
+        carry_all_out(alloc, tool, &mut bench, &mut step, sections, told);
     }
-    let mut bench = Bench::new(alloc);
-    let done = carry_all_out(alloc, tool, &mut bench, &mut step, lines, sections, told);
-    drop(bench);
-    done
 }
 
 // Tells of the first step that can't be read.
-fn read_all<'a>(
-    alloc: Global,
-    step: &mut Step<'a>,
-    lines: &'a [&'a str],
-    sections: &'a [Section<'a>],
-    told: &mut Told,
-) -> Result<(), NoMemory> {
-    for (at, section) in sections.iter().enumerate().skip(1) {
-        if section.is_case || !told.text.is_empty() {
-            return Ok(());
+fn read_all<'a>(alloc: Global, step: &mut Step<'a>, sections: &[Section<'a>], told: &mut Told) {
+    for section in sections {
+        if section.is_case || told.is_over() {
+            return;
         }
-        let next = sections.get(at.saturating_add(1));
-        read_step(alloc, step, section, body(lines, section.line, next), told)?;
+        read_step(alloc, step, section, told);
     }
-    Ok(())
 }

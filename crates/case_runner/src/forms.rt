@@ -230,11 +230,11 @@ pub fn wanted_of(words: &[&str]) -> &'static str {
 // How many of a form's parts these words begin with.
 fn count_of(form: &Form, words: &[&str]) -> usize {
     let mut count = 0usize;
-    for (part, word) in form.parts.iter().zip(words) {
-        if !is_part(*part, *word) {
-            return count;
+    for part in form.parts {
+        match words.get(count) {
+            Some(word) if is_part(*part, *word) => count = count.wrapping_add(1),
+            _ => return count,
         }
-        count = count.wrapping_add(1);
     }
     count
 }

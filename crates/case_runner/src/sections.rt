@@ -3,12 +3,13 @@
 use sdt_fault::NoMemory;
 use std::alloc::Global;
 
-/// A line that begins a case (`== `) or a step (`-- `), without its mark, and its number.
+/// A line that begins a case (`== `) or a step (`-- `), without its mark, its number, and the lines behind it.
 #[derive(Clone, Copy)]
 pub struct Section<'a> {
     pub line: usize,
     pub is_case: bool,
     pub head: &'a str,
+    pub body: &'a [&'a str],
 }
 
 pub fn lines_of<'a>(alloc: Global, text: &'a str) -> Result<Vec<&'a str>, NoMemory> {
@@ -19,45 +20,57 @@ pub fn lines_of<'a>(alloc: Global, text: &'a str) -> Result<Vec<&'a str>, NoMemo
     Ok(lines)
 }
 
-/// The sections of a file. Lines in front of the first belong to none.
-pub fn sections<'a>(alloc: Global, lines: &[&'a str]) -> Result<Vec<Section<'a>>, NoMemory> {
+/// The sections of a file. Lines in front of the first belong to none, and neither do blank lines in front of a case and at
+/// the end.
+pub fn sections<'a>(alloc: Global, lines: &'a [&'a str]) -> Result<Vec<Section<'a>>, NoMemory> {
     let mut found = Vec::new(alloc);
+    let mut open = None;
     let mut number = 0usize;
     for line in lines {
-        number = number.wrapping_add(1);
-        if let Some(section) = section_of(number, *line) {
-            found.push(section)?;
+        if let Some(next) = begun(number, *line) {
+            if let Some(section) = open {
+                found.push(ended(section, lines, number, next.is_case))?;
+            }
+            open = Some(next);
         }
+        number = number.wrapping_add(1);
+    }
+    if let Some(section) = open {
+        found.push(ended(section, lines, number, true))?;
     }
     Ok(found)
 }
 
-fn section_of(line: usize, text: &str) -> Option<Section<'_>> {
-    if let Some(head) = text.strip_prefix("== ") {
-        return Some(Section {
-            line,
-            is_case: true,
-            head,
-        });
+// The section that a line begins behind so many others.
+fn begun(number: usize, line: &str) -> Option<Section<'_>> {
+    let mark = line.get(..3)?;
+    if mark != "== " && mark != "-- " {
+        return None;
     }
-    let head = text.strip_prefix("-- ")?;
     Some(Section {
-        line,
-        is_case: false,
-        head,
+        line: number.wrapping_add(1),
+        is_case: mark == "== ",
+        head: line.get(3..)?,
+        body: &[],
     })
 }
 
-/// The lines behind a section's own, up to the next section. Blank lines in front of a case and at the end are left out.
-pub fn body<'a>(lines: &'a [&'a str], from: usize, next: Option<&Section<'a>>) -> &'a [&'a str] {
-    let end = match next {
-        Some(next) => next.line.saturating_sub(1),
-        None => lines.len(),
-    };
-    let body = lines.get(from..end).unwrap_or(&[]);
-    match next {
-        Some(next) if !next.is_case => body,
-        _ => body.get(..length_without_blank_end(body)).unwrap_or(body),
+// The section with the lines behind its own, up to so many.
+fn ended<'a>(
+    section: Section<'a>,
+    lines: &'a [&'a str],
+    end: usize,
+    is_in_front_of_case: bool,
+) -> Section<'a> {
+    let mut body = lines.get(section.line..end).unwrap_or(&[]);
+    if is_in_front_of_case {
+        body = body.get(..length_without_blank_end(body)).unwrap_or(&[]);
+    }
+    Section {
+        line: section.line,
+        is_case: section.is_case,
+        head: section.head,
+        body,
     }
 }
 

@@ -3,9 +3,10 @@
 use crate::contents::{number_of, put_content, put_hex, put_unescaped};
 use crate::forms::{Form, Rest, Verb, form_of, wanted_of};
 use crate::sections::Section;
-use crate::told::Told;
+use crate::told::{Growing, Told};
 use sdt_fault::NoMemory;
 use std::alloc::Global;
+use std::str;
 
 /// What is read of a step.
 #[derive(Drop)]
@@ -15,7 +16,7 @@ pub struct Step<'a> {
     pub words: Vec<&'a str>,
     /// The words of its command.
     pub command: Vec<String>,
-    pub content: Vec<u8>,
+    pub content: Growing,
 }
 
 impl<'a> Step<'a> {
@@ -24,7 +25,7 @@ impl<'a> Step<'a> {
             verb: Verb::Run,
             words: Vec::new(alloc),
             command: Vec::new(alloc),
-            content: Vec::new(alloc),
+            content: Growing::new(alloc),
         }
     }
 
@@ -42,53 +43,44 @@ impl<'a> Step<'a> {
 }
 
 /// Reads the step of a section in place of another one, or tells what its line is wanted to be.
-pub fn read_step<'a>(
-    alloc: Global,
-    step: &mut Step<'a>,
-    section: &Section<'a>,
-    body: &[&'a str],
-    told: &mut Told,
-) -> Result<(), NoMemory> {
+pub fn read_step<'a>(alloc: Global, step: &mut Step<'a>, section: &Section<'a>, told: &mut Told) {
     told.line = section.line;
     step.words.clear();
     step.command.clear();
-    step.content.clear();
+    step.content.bytes.clear();
     for word in section.head.split_whitespace() {
-        step.words.push(word)?;
+        if step.words.push(word).is_err() {
+            told.text.short = true;
+        }
     }
     if let Some(form) = form_of(step.words.as_slice()) {
         step.verb = form.verb;
-        if put_rest(alloc, step, form, section.head, body)? {
-            return Ok(());
+        if put_rest(alloc, step, form, section) {
+            told.text.short |= step.content.short;
+            return;
         }
     }
-    told.differ(wanted_of(step.words.as_slice()), section.head)
+    told.differ(wanted_of(step.words.as_slice()), section.head);
 }
 
 // Puts what stands behind the words of a form, unless it can't be read.
-fn put_rest<'a>(
-    alloc: Global,
-    step: &mut Step<'a>,
-    form: &Form,
-    head: &'a str,
-    body: &[&'a str],
-) -> Result<bool, NoMemory> {
+fn put_rest(alloc: Global, step: &mut Step<'_>, form: &Form, section: &Section<'_>) -> bool {
     let words = step.words.get(form.parts.len()..).unwrap_or(&[]);
     if let Rest::Modes = form.rest {
-        return put_content(alloc, &mut step.content, body, words);
+        return put_content(alloc, &mut step.content, section.body, words);
     }
-    if !are_blank(body) {
-        return Ok(false);
+    if !are_blank(section.body) {
+        return false;
     }
     match form.rest {
-        Rest::Numbers => Ok(words.iter().all(|word| number_of(*word).is_some())),
-        Rest::Command => put_command(alloc, &mut step.command, words),
-        Rest::Text => put_text(&mut step.content, head),
+        Rest::Numbers => are_numbers(words),
+        Rest::Command => put_command(alloc, &mut step.command, &mut step.content, words),
+        Rest::Text => put_text(&mut step.content, section.head),
         Rest::Bytes => match words {
             [digits] => put_hex(&mut step.content, digits.as_bytes()),
-            _ => Ok(false),
+            _ => false,
         },
-        _ => Ok(true),
+        _ => true,
     }
 }
 
@@ -101,25 +93,47 @@ fn are_blank(lines: &[&str]) -> bool {
     true
 }
 
-fn put_command(alloc: Global, command: &mut Vec<String>, words: &[&str]) -> Result<bool, NoMemory> {
+fn are_numbers(words: &[&str]) -> bool {
     for word in words {
-        let mut bytes = Vec::new(alloc);
-        if !put_unescaped(&mut bytes, word.as_bytes())? {
-            return Ok(false);
-        }
-        match String::from_utf8(bytes) {
-            Ok(word) => command.push(word)?,
-            Err(_) => return Ok(false),
+        if number_of(*word).is_none() {
+            return false;
         }
     }
-    Ok(true)
+    true
+}
+
+// Puts the words of a command, each of which is unescaped in a buffer.
+fn put_command(
+    alloc: Global,
+    command: &mut Vec<String>,
+    buffer: &mut Growing,
+    words: &[&str],
+) -> bool {
+    for word in words {
+        buffer.bytes.clear();
+        if !put_unescaped(buffer, word.as_bytes()) {
+            return false;
+        }
+        let Ok(word) = str::from_utf8(buffer.bytes.as_slice()) else {
+            return false;
+        };
+        if put_word(alloc, command, word).is_err() {
+            buffer.short = true;
+        }
+    }
+    true
+}
+
+fn put_word(alloc: Global, command: &mut Vec<String>, word: &str) -> Result<(), NoMemory> {
+    command.push(String::from_str(alloc, word)?)?;
+    Ok(())
 }
 
 // The text of an answer is the rest of the line.
-fn put_text(content: &mut Vec<u8>, head: &str) -> Result<bool, NoMemory> {
+fn put_text(content: &mut Growing, head: &str) -> bool {
     let Some(text) = head.strip_prefix("answer ") else {
-        return Ok(false);
+        return false;
     };
-    content.extend_from_slice(text.as_bytes())?;
-    Ok(true)
+    content.say(text);
+    true
 }

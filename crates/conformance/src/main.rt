@@ -62,6 +62,6 @@ fn report(rt: &HostRuntime, names: &[String]) -> io::Result<u64> {
     if checked.is_err() {
         return Err(io::ErrorKind::OutOfMemory.into());
     }
-    rt.stdout().write_all(report.text.as_bytes())?;
+    rt.stdout().write_all(report.text())?;
     Ok(report.failed)
 }
