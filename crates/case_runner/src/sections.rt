@@ -43,14 +43,14 @@ pub fn sections<'a>(alloc: Global, lines: &'a [&'a str]) -> Result<Vec<Section<'
 
 // The section that a line begins behind so many others.
 fn begun(number: usize, line: &str) -> Option<Section<'_>> {
-    let mark = line.get(..3)?;
-    if mark != "== " && mark != "-- " {
-        return None;
-    }
+    let (is_case, head) = match line.strip_prefix("== ") {
+        Some(head) => (true, head),
+        None => (false, line.strip_prefix("-- ")?),
+    };
     Some(Section {
         line: number.wrapping_add(1),
-        is_case: mark == "== ",
-        head: line.get(3..)?,
+        is_case,
+        head,
         body: &[],
     })
 }

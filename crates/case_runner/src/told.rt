@@ -109,12 +109,12 @@ impl Told {
     pub fn compare(&mut self, wanted: &[u8], came: &[u8]) {
         let mut place = 0usize;
         let mut from = 0usize;
-        for (a, b) in wanted.iter().zip(came) {
-            if *a != *b {
+        for byte in wanted {
+            if came.get(place) != Some(byte) {
                 break;
             }
             place = place.wrapping_add(1);
-            if *a == b'\n' {
+            if *byte == b'\n' {
                 from = place;
             }
         }
