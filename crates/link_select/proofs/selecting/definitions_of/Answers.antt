@@ -6,7 +6,7 @@ use Rattle.link_model.specs.declared.selection.Definition.{Definition}
 use Rattle.link_model.specs.declared.selection.Named.{Named}
 use Rattle.link_model.specs.Members.{objects_in}
 use Rattle.link_model.specs.Definitions.{definitions_in, definitions_from}
-use Rattle.link_select.proofs.ListLemmas.{rest_more}
+use Rattle.link_select.proofs.ListLemmas.{rest_all, rest_more}
 use Rattle.link_select.proofs.selecting.definitions_of.Goals as goal
 
 pub push_definitions-requires : goal.push_definitions-requires
@@ -22,3 +22,9 @@ loop-i-preserved c =
     c.loop-i.definitions.items c.push_definitions.new.definitions.items (definitions_from 0 (objects_in c.args.objects.now)) c.loop-i-test.true c.index-objects-i.is
     (c.in_ok-push_definitions.ensures ∙ ap (λ (ds : List Definition). ds ++ definitions_in c.loop-i.i 0 c.as_slice-symbols.result.now) c.in_ok-reserve.ensures.items
     ∙ ap (λ (ss : List Symbol). c.loop-i.definitions.items ++ definitions_in c.loop-i.i 0 ss) c.as_slice-symbols.ensures) c.loop-i.invariant
+
+pub returns : goal.returns
+returns c =
+    c.from_vec.ensures
+    ∙ rest_all {X = Named Object} {Y = Definition} (λ i os. definitions_from i (objects_in os)) (λ i. refl) c.args.objects.now c.loop-i.i c.loop-i.definitions.items (definitions_from 0 (objects_in c.args.objects.now))
+    (omega (arith, c.loop-i-test.false, c.loop-i.auto.i-end)) c.loop-i.invariant
