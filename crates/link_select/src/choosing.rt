@@ -98,7 +98,8 @@ fn look_at(
     waiting: &mut Vec<usize>,
 ) -> Result<(), NoMemory>
     requires { IsWithin (supply_of supply.now) (length marks.old.items) }
-    ensures { OnOk result (Takes marks.old.items marks.new.items waiting.old.items waiting.new.items (filter_map (asked (supply_of supply.now)) symbols.now)) }
+    ensures { OnOk result (Takes marks.old.items marks.new.items
+        waiting.old.items waiting.new.items (filter_map (asked (supply_of supply.now)) symbols.now)) }
 {
     let numbers = wanted_by(alloc, supply, symbols)?;
     take_all(marks, waiting, numbers.as_slice())
@@ -113,7 +114,8 @@ fn ask_all(
     waiting: &mut Vec<usize>,
 ) -> Result<(), NoMemory>
     requires { IsWithin (supply_of supply.now) (length marks.old.items) }
-    ensures { OnOk result (Takes marks.old.items marks.new.items waiting.old.items waiting.new.items (flat_map (λ object. wanted (supply_of supply.now) object.value) objects.now)) }
+    ensures { OnOk result (Takes marks.old.items marks.new.items
+        waiting.old.items waiting.new.items (flat_map (λ object. wanted (supply_of supply.now) object.value) objects.now)) }
 {
     for object in objects {
         look_at(

@@ -46,7 +46,8 @@ fn push_data(
     head: DataHead,
     operand: Piece,
 ) -> Result<(), NoMemory>
-    ensures { OnOk result (out.new.items ≡ out.old.items ++ texts.processing head.condition head.operation head.set_flags head.rn head.rd (pieces.piece operand)) }
+    ensures { OnOk result (out.new.items
+        ≡ out.old.items ++ texts.processing head.condition head.operation head.set_flags head.rn head.rd (pieces.piece operand)) }
 {
     let name = operation_name(head.operation);
     let flags = mark(marks_flags(head.operation, head.set_flags), b"S");
@@ -211,7 +212,8 @@ fn push_at(
     place: ListedPlace,
     by: Offset,
 ) -> Result<(), NoMemory>
-    ensures { OnOk result (out.new.items ≡ out.old.items ++ texts.transfer head.condition head.load suffix.now head.rd (pieces.placed place by)) }
+    ensures { OnOk result (out.new.items
+        ≡ out.old.items ++ texts.transfer head.condition head.load suffix.now head.rd (pieces.placed place by)) }
 {
     let name = transfer_name(head.load);
     push_transfer(alloc, out, name, head.condition, suffix, head.rd, place, by)
@@ -229,7 +231,9 @@ fn push_half(
     high: u8,
     low: u8,
 ) -> Result<(), NoMemory>
-    ensures { OnOk result (out.new.items ≡ out.old.items ++ texts.transfer head.condition head.load (texts.half_suffix kind) head.rd (texts.half_place place.pre place.up immediate place.write_back place.base high low)) }
+    ensures { OnOk result (out.new.items
+        ≡ out.old.items ++ texts.transfer head.condition head.load (texts.half_suffix kind) head.rd
+        (texts.half_place place.pre place.up immediate place.write_back place.base high low)) }
 {
     if immediate {
         let offset = Offset::Number(16 * u32::from(high) + u32::from(low));
@@ -255,7 +259,8 @@ fn push_block(
     place: ListedPlace,
     list: u16,
 ) -> Result<(), NoMemory>
-    ensures { OnOk result (out.new.items ≡ out.old.items ++ texts.block condition place.pre place.up user place.write_back load place.base list) }
+    ensures { OnOk result (out.new.items
+        ≡ out.old.items ++ texts.block condition place.pre place.up user place.write_back load place.base list) }
 {
     let listed = [
         Piece::Register(place.base),

@@ -223,7 +223,8 @@ pub fn push_transfer(
     place: ListedPlace,
     by: Offset,
 ) -> Result<(), NoMemory>
-    ensures { OnOk result (out.new.items ≡ out.old.items ++ parts.spoken operation.now condition suffix.now (parts.register rd ++ (codes "," ++ pieces.placed place by))) }
+    ensures { OnOk result (out.new.items
+        ≡ out.old.items ++ parts.spoken operation.now condition suffix.now (parts.register rd ++ (codes "," ++ pieces.placed place by))) }
 {
     let first = [Piece::Register(rd), Piece::Letter(b',')];
     push_spoken(alloc, out, operation, condition, suffix, &first)?;

@@ -219,7 +219,8 @@ fn push_on_two(
     rs: u8,
     operand: Piece,
 ) -> Result<(), NoMemory>
-    ensures { OnOk result (out.new.items ≡ out.old.items ++ texts.on operation.now rd (parts.register rs ++ (codes "," ++ pieces.piece operand))) }
+    ensures { OnOk result (out.new.items
+        ≡ out.old.items ++ texts.on operation.now rd (parts.register rs ++ (codes "," ++ pieces.piece operand))) }
 {
     let operands = [
         Piece::Register(rd),
@@ -279,7 +280,8 @@ fn push_stacked(
     link: bool,
     list: u8,
 ) -> Result<(), NoMemory>
-    ensures { OnOk result (out.new.items ≡ out.old.items ++ (parts.named (registers 8 list) ++ parts.mark link (parts.next (texts.linked load)))) }
+    ensures { OnOk result (out.new.items
+        ≡ out.old.items ++ (parts.named (registers 8 list) ++ parts.mark link (parts.next (texts.linked load)))) }
 {
     push_named(alloc, out, u16::from(list), 0, 8)?;
     if link {
@@ -311,7 +313,9 @@ fn push_multiple(
     rn: u8,
     list: u8,
 ) -> Result<(), NoMemory>
-    ensures { OnOk result (out.new.items ≡ out.old.items ++ texts.said (texts.multiple_name load) (parts.register rn ++ (codes "!," ++ parts.braced (parts.named (registers 8 list))))) }
+    ensures { OnOk result (out.new.items
+        ≡ out.old.items ++ texts.said (texts.multiple_name load)
+        (parts.register rn ++ (codes "!," ++ parts.braced (parts.named (registers 8 list))))) }
 {
     let listed = [
         Piece::Register(rn),
