@@ -1,0 +1,4 @@
+-- What the clauses of the crate cite.
+pub mod Fields
+pub mod Framing
+pub mod Requests
