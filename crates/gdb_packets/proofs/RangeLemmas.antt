@@ -4,7 +4,8 @@ use Rattle.std.proofs.Math.Bridge.{le_prop}
 use Rattle.sdt_word.specs.declared.ranges.Range32.{Range32}
 use Rattle.gdb_packets.specs.Requests.{ending, range_by}
 
-pub range_ends : (base size told : ℕ) (h : base + told ≤ 2 ^ 32) → told ≡ size → Some (record { base = base; size = told; in_space = h }) ≡ ending base size
+pub range_ends : (base size told : ℕ) (h : base + told ≤ 2 ^ 32) → told ≡ size
+    → Some (record { base = base; size = told; in_space = h }) ≡ ending base size
 range_ends base size told h same = subst (λ (n : ℕ). Some (made base told h) ≡ ending base n) same (by (nat_le (base + told) (2 ^ 32)) refl)
   where
     made : (b s : ℕ) → b + s ≤ 2 ^ 32 → Range32
