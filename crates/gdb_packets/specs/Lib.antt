@@ -1,5 +1,6 @@
 -- What the clauses of the crate cite.
 pub mod Fields
+pub mod Forms
 pub mod Framing
 pub mod Replies
 pub mod Requests

@@ -4,6 +4,7 @@
 
 pub mod fields;
 pub mod framing;
+pub mod laws;
 pub mod replies;
 pub mod request;
 
