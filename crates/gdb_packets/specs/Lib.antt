@@ -1,6 +1,8 @@
 -- What the clauses of the crate cite.
+pub mod Escapes
 pub mod Fields
 pub mod Forms
 pub mod Framing
+pub mod Heard
 pub mod Replies
 pub mod Requests
