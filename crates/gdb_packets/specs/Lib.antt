@@ -6,3 +6,4 @@ pub mod Framing
 pub mod Heard
 pub mod Replies
 pub mod Requests
+pub mod Target

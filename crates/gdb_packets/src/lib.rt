@@ -7,7 +7,9 @@ pub mod framing;
 pub mod laws;
 pub mod replies;
 pub mod request;
+pub mod target;
 
 pub use crate::framing::{Framer, Heard, Place};
 pub use crate::replies::{framed, reply_to};
 pub use crate::request::{Query, Request, read_request};
+pub use crate::target::description_reply;
