@@ -6,4 +6,5 @@ pub mod Framing
 pub mod Heard
 pub mod Replies
 pub mod Requests
+pub mod Shown
 pub mod Target
