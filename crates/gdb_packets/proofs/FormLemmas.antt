@@ -59,12 +59,14 @@ reads forms.registers = refl
 reads (forms.set_registers e) = ap (of_data SetRegisters) e
 reads (forms.register e) = ap (of_one Register) e
 reads (forms.set_register t v {k} {w} e f) =
-    ap (λ c. of_two SetRegister (register_write_of c)) (cut_whole 61 t v (digits_differ 61 t (digits_of t k e) refl)) ∙ ap₂ (λ a b. of_two SetRegister (written a b)) e f
+    ap (λ c. of_two SetRegister (register_write_of c)) (cut_whole 61 t v (digits_differ 61 t (digits_of t k e) refl))
+            ∙ ap₂ (λ a b. of_two SetRegister (written a b)) e f
 reads (forms.memory {t} {a} {n} p) = ap (of_two Memory) (pair_whole t a n p)
 reads (forms.store t hex {bytes} {a} p g) =
     ap hexadecimal_by (place_whole t hex a (length bytes) p) ∙ ap (requests.store a (length bytes)) g ∙ same_length bytes a
 reads (forms.store_binary t binary {bytes} {a} p g) =
-    ap binary_by (place_whole t binary a (length bytes) p) ∙ ap (λ (x : List ℕ). requests.store a (length bytes) (Some x)) g ∙ same_length bytes a
+    ap binary_by (place_whole t binary a (length bytes) p) ∙ ap (λ (x : List ℕ). requests.store a (length bytes) (Some x)) g
+            ∙ same_length bytes a
 reads forms.continue_alone = refl
 reads forms.continue_first = refl
 reads forms.continue_signal = refl
@@ -155,7 +157,8 @@ name_told text front make other s o = by (starts_with nat_eq text front) refl
         let whole : text ≡ front ++ drop (length front) text = (starts_is Decides-eqb text front true (sym e)).0 refl in
         λ h. subst (λ (x : List ℕ). Says x (make (drop (length front) text))) (sym whole) (s (drop (length front) text) h)
 
-data_told : (front rest : List ℕ) (make : List ℕ → Request) → ((bytes : List ℕ) → bytes_in rest ≡ Some bytes → Says (front ++ rest) (make bytes))
+data_told : (front rest : List ℕ) (make : List ℕ → Request)
+    → ((bytes : List ℕ) → bytes_in rest ≡ Some bytes → Says (front ++ rest) (make bytes))
     → Told (front ++ rest) (of_data make (bytes_in rest))
 data_told front rest make s = by (bytes_in rest) refl
   where
@@ -189,7 +192,8 @@ action_told (b ∷ rest) =
 named_told : (text : List ℕ) → ToldIf text (named text)
 named_told text =
     name_told text (codes "vCont;") requests.action _ action_told (
-    name_told text (codes "qXfer:features:read:target.xml:") requests.target _ (λ rest. pair_told (codes "qXfer:features:read:target.xml:") rest Target (λ a n p. forms.target p)) (
+    name_told text (codes "qXfer:features:read:target.xml:") requests.target _
+        (λ rest. pair_told (codes "qXfer:features:read:target.xml:") rest Target (λ a n p. forms.target p)) (
     name_told text (codes "qRcmd,") requests.command _ (λ rest. data_told (codes "qRcmd,") rest Command (λ bytes e. forms.command e)) (
     name_told text (codes "qSupported") (λ rest. Known Supported) _ (λ rest h. forms.supported) (
     name_told text (codes "vKill;") (λ rest. Leave) _ (λ rest h. forms.kill_process) (
@@ -232,7 +236,8 @@ record IsPlace (text : List ℕ) (a n : ℕ) (rest : List ℕ) : Type 0 where
 place_back : (text : List ℕ) (a n : ℕ) (rest : List ℕ) → place text ≡ Some (a, n, rest) → IsPlace text a n rest
 place_back text a n rest e = by (cut 58 text) refl e
   where
-    found : (t r : List ℕ) → text ≡ t ++ 58 ∷ r → (o : Option (ℕ × ℕ)) → pair 44 t ≡ o → with_rest o r ≡ Some (a, n, rest) → IsPlace text a n rest
+    found : (t r : List ℕ) → text ≡ t ++ 58 ∷ r → (o : Option (ℕ × ℕ)) → pair 44 t ≡ o → with_rest o r ≡ Some (a, n, rest)
+            → IsPlace text a n rest
     found t r w None f g = absurd (cc)
     found t r w (Some p) f g =
         let all : (p.0, p.1, r) ≡ (a, n, rest) = cc in
@@ -244,7 +249,8 @@ place_back text a n rest e = by (cut 58 text) refl e
     by None f g = absurd (cc)
     by (Some p) f g = found p.0 p.1 (cut_back 58 text p.0 p.1 f) (pair 44 p.0) refl g
 
-store_told : (text : List ℕ) (a n : ℕ) (o : Option (List ℕ)) → ((bytes : List ℕ) → o ≡ Some bytes → n ≡ length bytes → Says text (Store a bytes))
+store_told : (text : List ℕ) (a n : ℕ) (o : Option (List ℕ))
+    → ((bytes : List ℕ) → o ≡ Some bytes → n ≡ length bytes → Says text (Store a bytes))
     → Told text (requests.store a n o)
 store_told text a n None s = λ h. absurd h
 store_told text a n (Some bytes) s = by (length bytes == n) refl
@@ -260,7 +266,8 @@ hexadecimal_told rest = by (place rest) refl
     by None e = λ h. absurd h
     by (Some p) e =
         let q = place_back rest p.0 p.1 p.2 e in
-        store_told (codes "M" ++ rest) p.0 p.1 (bytes_in p.2) (λ bytes f g. subst (λ (x : List ℕ). Says (codes "M" ++ x) (Store p.0 bytes)) (sym q.whole)
+        store_told (codes "M" ++ rest) p.0 p.1 (bytes_in p.2) (λ bytes f g.
+            subst (λ (x : List ℕ). Says (codes "M" ++ x) (Store p.0 bytes)) (sym q.whole)
         (forms.store q.t p.2 (subst (λ (n : ℕ). IsPair q.t p.0 n) g q.numbers) f))
 
 binary_told : (rest : List ℕ) → Told (codes "X" ++ rest) (requests.binary_store rest)
@@ -270,7 +277,8 @@ binary_told rest = by (place rest) refl
     by None e = λ h. absurd h
     by (Some p) e =
         let q = place_back rest p.0 p.1 p.2 e in
-        store_told (codes "X" ++ rest) p.0 p.1 (Some (unescaped false p.2)) (λ bytes f g. subst (λ (x : List ℕ). Says (codes "X" ++ x) (Store p.0 bytes)) (sym q.whole)
+        store_told (codes "X" ++ rest) p.0 p.1 (Some (unescaped false p.2)) (λ bytes f g.
+            subst (λ (x : List ℕ). Says (codes "X" ++ x) (Store p.0 bytes)) (sym q.whole)
         (forms.store_binary q.t p.2 (subst (λ (n : ℕ). IsPair q.t p.0 n) g q.numbers) (cc)))
 
 abbrev letter_of : Bool → ℕ
@@ -322,18 +330,27 @@ point_told set kind t a n p = by (bytes_eq kind (codes "0")) (bytes_eq kind (cod
     by : (b c d : Bool) → bytes_eq kind (codes "0") ≡ b → bytes_eq kind (codes "1") ≡ c → bytes_eq kind (codes "2") ≡ d
         → Told (letter_of set ∷ (kind ++ 44 ∷ t)) (cond (b || c) (cond set (SetPoint a) (DropPoint a))
         (cond d (cond set (of_range SetWatch (range a n)) (of_range DropWatch (range a n))) Unknown))
-    by true c d e f g = λ h. subst (λ (k : List ℕ). Says (letter_of set ∷ (k ++ 44 ∷ t)) (cond set (SetPoint a) (DropPoint a))) (same (codes "0") e) (soft_told set t a n p)
-    by false true d e f g = λ h. subst (λ (k : List ℕ). Says (letter_of set ∷ (k ++ 44 ∷ t)) (cond set (SetPoint a) (DropPoint a))) (same (codes "1") f) (hard_told set t a n p)
-    by false false true e f g = subst (λ (k : List ℕ). Told (letter_of set ∷ (k ++ 44 ∷ t)) (cond set (of_range SetWatch (range a n)) (of_range DropWatch (range a n)))) (same (codes "2") g) (watch_told set t a n p)
+    by true c d e f g =
+        λ h. subst (λ (k : List ℕ). Says (letter_of set ∷ (k ++ 44 ∷ t)) (cond set (SetPoint a) (DropPoint a)))
+            (same (codes "0") e) (soft_told set t a n p)
+    by false true d e f g =
+        λ h. subst (λ (k : List ℕ). Says (letter_of set ∷ (k ++ 44 ∷ t)) (cond set (SetPoint a) (DropPoint a)))
+            (same (codes "1") f) (hard_told set t a n p)
+    by false false true e f g =
+        subst (λ (k : List ℕ). Told (letter_of set ∷ (k ++ 44 ∷ t))
+                (cond set (of_range SetWatch (range a n)) (of_range DropWatch (range a n))))
+            (same (codes "2") g) (watch_told set t a n p)
     by false false false e f g = λ h. absurd h
 
 points_told : (set : Bool) (rest : List ℕ) → Told (letter_of set ∷ rest) (requests.points set rest)
 points_told set rest = by (cut 44 rest) refl
   where
-    found : (kind t : List ℕ) → rest ≡ kind ++ 44 ∷ t → (o : Option (ℕ × ℕ)) → pair 44 t ≡ o → Told (letter_of set ∷ rest) (points_by set kind o)
+    found : (kind t : List ℕ) → rest ≡ kind ++ 44 ∷ t → (o : Option (ℕ × ℕ)) → pair 44 t ≡ o
+            → Told (letter_of set ∷ rest) (points_by set kind o)
     found kind t w None f = λ h. absurd h
     found kind t w (Some p) f =
-        subst (λ (x : List ℕ). Told (letter_of set ∷ x) (point set kind p.0 p.1)) (sym w) (point_told set kind t p.0 p.1 (pair_back t p.0 p.1 f))
+        subst (λ (x : List ℕ). Told (letter_of set ∷ x) (point set kind p.0 p.1)) (sym w)
+            (point_told set kind t p.0 p.1 (pair_back t p.0 p.1 f))
 
     by : (o : Option (List ℕ × List ℕ)) → cut 44 rest ≡ o → Told (letter_of set ∷ rest) (points_of set o)
     by None e = λ h. absurd h
@@ -343,8 +360,11 @@ answer_told : (rest : List ℕ) → Told (codes "F" ++ rest) (requests.answer re
 answer_told rest = by (ends_with nat_eq rest (codes ",C")) refl
   where
     by : (b : Bool) → ends_with nat_eq rest (codes ",C") ≡ b → Told (codes "F" ++ rest) (Answer b)
-    by false e = λ h. forms.answered (λ front w. true≢false (sym (ap (λ (x : List ℕ). ends_with nat_eq x (codes ",C")) w ∙ ends_true front) ∙ e))
-    by true e = λ h. subst (λ (x : List ℕ). Says (codes "F" ++ x) (Answer true)) (sym ((ends_is Decides-eqb rest (codes ",C") true (sym e)).0 refl)) (forms.interrupted (take (length rest - 2) rest))
+    by false e =
+        λ h. forms.answered (λ front w. true≢false (sym (ap (λ (x : List ℕ). ends_with nat_eq x (codes ",C")) w ∙ ends_true front) ∙ e))
+    by true e =
+        λ h. subst (λ (x : List ℕ). Says (codes "F" ++ x) (Answer true)) (sym ((ends_is Decides-eqb rest (codes ",C") true (sym e)).0 refl))
+            (forms.interrupted (take (length rest - 2) rest))
 
 letters_told : (text : List ℕ) → Told text (by_letter text)
 letters_told [] = λ h. absurd h

@@ -24,17 +24,22 @@ kept_all h (b ∷ rest) = kept_all (kept h b) rest
 abbrev at : Place → Hearing → Hearing
 at p h = record h { place = p }
 
+-- behind one more byte, by whether there is room
+abbrev kept_if : Bool → Hearing → ℕ → Hearing
+kept_if c h b =
+    cond c (record h { content = h.content ++ b ∷ []; sum = (h.sum + b) % 256 }) (record h { sum = (h.sum + b) % 256; long = true })
+
 kept_place : (h : Hearing) (b : ℕ) → (kept h b).place ≡ h.place
 kept_place h b = by (nat_lt (length h.content) 65536)
   where
-    by : (c : Bool) → (cond c (record h { content = h.content ++ b ∷ []; sum = (h.sum + b) % 256 }) (record h { sum = (h.sum + b) % 256; long = true })).place ≡ h.place
+    by : (c : Bool) → (kept_if c h b).place ≡ h.place
     by true = refl
     by false = refl
 
 kept_sum : (h : Hearing) (b : ℕ) → (kept h b).sum ≡ (h.sum + b) % 256
 kept_sum h b = by (nat_lt (length h.content) 65536)
   where
-    by : (c : Bool) → (cond c (record h { content = h.content ++ b ∷ []; sum = (h.sum + b) % 256 }) (record h { sum = (h.sum + b) % 256; long = true })).sum ≡ (h.sum + b) % 256
+    by : (c : Bool) → (kept_if c h b).sum ≡ (h.sum + b) % 256
     by true = refl
     by false = refl
 
@@ -54,8 +59,8 @@ kept_fits : (h : Hearing) (b : ℕ) → length h.content < 65536 → ((kept h b)
 kept_fits h b room = by (nat_lt (length h.content) 65536) (lt-ltb (length h.content) 65536 room)
   where
     by : (c : Bool) → c ≡ true
-        → ((cond c (record h { content = h.content ++ b ∷ []; sum = (h.sum + b) % 256 }) (record h { sum = (h.sum + b) % 256; long = true })).content ≡ h.content ++ b ∷ [])
-        × ((cond c (record h { content = h.content ++ b ∷ []; sum = (h.sum + b) % 256 }) (record h { sum = (h.sum + b) % 256; long = true })).long ≡ h.long)
+        → ((kept_if c h b).content ≡ h.content ++ b ∷ [])
+        × ((kept_if c h b).long ≡ h.long)
     by true e = (refl, refl)
     by false e = absurd (cc)
 
@@ -73,7 +78,7 @@ kept_long : (h : Hearing) (b : ℕ) → (h.long ≡ true) ⊎ (65536 ≤ length 
 kept_long h b e = by (nat_lt (length h.content) 65536) refl
   where
     by : (c : Bool) → nat_lt (length h.content) 65536 ≡ c
-        → (cond c (record h { content = h.content ++ b ∷ []; sum = (h.sum + b) % 256 }) (record h { sum = (h.sum + b) % 256; long = true })).long ≡ true
+        → (kept_if c h b).long ≡ true
     by true f = ⊎_elim (λ g. g) (λ g. absurd (let lt = ltb-true (length h.content) 65536 f in omega arith)) e
     by false f = refl
 
@@ -81,7 +86,8 @@ long_stays : (h : Hearing) (content : List ℕ) → h.long ≡ true → (kept_al
 long_stays h [] e = e
 long_stays h (b ∷ rest) e = long_stays (kept h b) rest (kept_long h b (inl e))
 
-all_long : (h : Hearing) (content : List ℕ) → 65536 < length h.content + length content → length h.content ≤ 65536 → (kept_all h content).long ≡ true
+all_long : (h : Hearing) (content : List ℕ) → 65536 < length h.content + length content → length h.content ≤ 65536
+    → (kept_all h content).long ≡ true
 all_long h [] over fits = absurd (omega arith)
 all_long h (b ∷ rest) over fits = by (all_long (kept h b) rest) (nat_lt (length h.content) 65536) refl
   where
@@ -89,7 +95,8 @@ all_long h (b ∷ rest) over fits = by (all_long (kept h b) rest) (nat_lt (lengt
         → (c : Bool) → nat_lt (length h.content) 65536 ≡ c → (kept_all (kept h b) rest).long ≡ true
     by more true f =
         let room : length h.content < 65536 = ltb-true (length h.content) 65536 f in
-        let longer : length (kept h b).content ≡ length h.content + 1 = ap (length {A = ℕ}) (kept_fits h b room).0 ∙ length-append h.content (b ∷ []) in
+        let longer : length (kept h b).content ≡ length h.content + 1 = ap (length {A = ℕ}) (kept_fits h b room).0
+                ∙ length-append h.content (b ∷ []) in
         more (omega arith) (omega arith)
     by more false f = long_stays (kept h b) rest (kept_long h b (inr (ltb-false (length h.content) 65536 f)))
 
@@ -157,14 +164,16 @@ start_step checked h rest p = ap (λ (q : Place). add (told_at q checked h 36) h
 
 -- behind a content, `#` and two digits
 behind_packet : (checked : Bool) (h : Hearing) (high low : ℕ) (rest : List ℕ) → h.place ≡ Inside
-    → heard_from checked h (35 ∷ high ∷ low ∷ rest) ≡ add (ended (not checked || writes high low h.sum) h.long) h.content (heard_from checked idle rest)
+    → heard_from checked h (35 ∷ high ∷ low ∷ rest)
+    ≡ add (ended (not checked || writes high low h.sum) h.long) h.content (heard_from checked idle rest)
 behind_packet checked h high low rest p =
     hash_step checked h (high ∷ low ∷ rest) p
         ∙ ap (add (ended (not checked || writes high low h.sum) h.long) h.content) (between_any checked (at Between h) rest refl)
 
 whole_packet : (checked : Bool) (content rest : List ℕ) (high low : ℕ) → IsContent content
     → heard_from checked idle (36 ∷ (content ++ 35 ∷ high ∷ low ∷ rest))
-    ≡ add (ended (is_right checked content high low) (kept_all begun content).long) (kept_all begun content).content (heard_from checked idle rest)
+    ≡ add (ended (is_right checked content high low) (kept_all begun content).long) (kept_all begun content).content
+            (heard_from checked idle rest)
 whole_packet checked content rest high low c =
     let k : Hearing = kept_all begun content in
     let total : k.sum ≡ sum content % 256 = (let s = all_sum begun content (omega arith) in omega arith) in
@@ -174,10 +183,12 @@ whole_packet checked content rest high low c =
 
 noise_heard : (checked : Bool) (b : ℕ) (rest : List ℕ) → b ≢ 36 → b ≢ 43 → b ≢ 45 → b ≢ 3
     → heard_from checked idle (b ∷ rest) ≡ heard_from checked idle rest
-noise_heard checked b rest p q r s = by (b == 36) (b == 43) (b == 45) (b == 3) (ne_eqb b 36 p) (ne_eqb b 43 q) (ne_eqb b 45 r) (ne_eqb b 3 s)
+noise_heard checked b rest p q r s =
+    by (b == 36) (b == 43) (b == 45) (b == 3) (ne_eqb b 36 p) (ne_eqb b 43 q) (ne_eqb b 45 r) (ne_eqb b 3 s)
   where
     by : (x y z w : Bool) → x ≡ false → y ≡ false → z ≡ false → w ≡ false
-        → add (cond y heard.Accepted (cond z heard.Again (cond w heard.Interrupt heard.Nothing))) [] (heard_from checked (cond x begun idle) rest)
+        → add (cond y heard.Accepted (cond z heard.Again (cond w heard.Interrupt heard.Nothing))) []
+            (heard_from checked (cond x begun idle) rest)
         ≡ heard_from checked idle rest
     by true y z w e f g h = absurd (cc)
     by false true z w e f g h = absurd (cc)
@@ -204,7 +215,8 @@ hears {checked} (stream.too_long content rest high low c over right s) =
     let k : Hearing = kept_all begun content in
     whole_packet checked content rest high low c
         ∙ ap (λ (x : Bool). add (ended x k.long) k.content (heard_from checked idle rest)) right
-        ∙ ap (λ (x : Bool). add (ended true x) k.content (heard_from checked idle rest)) (all_long begun content (omega arith) (omega arith))
+        ∙ ap (λ (x : Bool). add (ended true x) k.content (heard_from checked idle rest))
+            (all_long begun content (omega arith) (omega arith))
         ∙ ap (λ (e : List Event). TooLong ∷ e) (hears s)
 hears {checked} (stream.broken content rest high low c wrong s) =
     let k : Hearing = kept_all begun content in
@@ -212,13 +224,15 @@ hears {checked} (stream.broken content rest high low c wrong s) =
         ∙ ap (λ (x : Bool). add (ended x k.long) k.content (heard_from checked idle rest)) wrong
         ∙ ap (λ (e : List Event). Broken ∷ e) (hears s)
 hears {checked} (stream.cut_off content rest c s) =
-    inside_all checked begun content (36 ∷ rest) refl c ∙ start_step checked (kept_all begun content) rest (all_place begun content) ∙ hears s
+    inside_all checked begun content (36 ∷ rest) refl c ∙ start_step checked (kept_all begun content) rest (all_place begun content)
+            ∙ hears s
 hears {checked} (stream.open_content content c) =
     ap (heard_from checked begun) (sym (append-nil content)) ∙ inside_all checked begun content [] refl c
 hears {checked} (stream.open_sum content c) =
     inside_all checked begun content (35 ∷ []) refl c ∙ hash_step checked (kept_all begun content) [] (all_place begun content)
 hears {checked} (stream.open_digit content high c) =
-    inside_all checked begun content (35 ∷ high ∷ []) refl c ∙ hash_step checked (kept_all begun content) (high ∷ []) (all_place begun content)
+    inside_all checked begun content (35 ∷ high ∷ []) refl c
+            ∙ hash_step checked (kept_all begun content) (high ∷ []) (all_place begun content)
 
 -- ---- each stream says what is heard of it
 
@@ -264,7 +278,8 @@ in_said : (checked : Bool) (b : ℕ) (front rest : List ℕ) → IsContent front
 in_said checked b front rest c s t u = by (b == 36) (b == 35) refl refl
   where
     by : (x y : Bool) → (b == 36) ≡ x → (b == 35) ≡ y → IsSaid checked (36 ∷ (front ++ b ∷ rest))
-    by true y e f = subst (λ (k : ℕ). IsSaid checked (36 ∷ (front ++ k ∷ rest))) (sym (eqb-true b 36 e)) (said (stream.cut_off front rest c s))
+    by true y e f =
+        subst (λ (k : ℕ). IsSaid checked (36 ∷ (front ++ k ∷ rest))) (sym (eqb-true b 36 e)) (said (stream.cut_off front rest c s))
     by false true e f = subst (λ (k : ℕ). IsSaid checked (36 ∷ (front ++ k ∷ rest))) (sym (eqb-true b 35 f)) t
     by false false e f =
         let plain : list_all is_plain (b ∷ []) ≡ true = ap₂ (λ (x y : Bool). (not x && not y) && true) e f in
@@ -283,12 +298,14 @@ packet_said checked content rest high low c s = by (is_right checked content hig
 
 says : (checked : Bool) (bytes : List ℕ) (s : Stage) → Claim checked s bytes
 says checked [] Out = stream.ends
-says checked [] (In front) = λ c. subst (λ (x : List ℕ). IsSaid checked (36 ∷ x)) (sym (append-nil front)) (said (stream.open_content front c))
+says checked [] (In front) =
+    λ c. subst (λ (x : List ℕ). IsSaid checked (36 ∷ x)) (sym (append-nil front)) (said (stream.open_content front c))
 says checked [] (Hash front) = λ c. said (stream.open_sum front c)
 says checked [] (Digit front high) = λ c. said (stream.open_digit front high c)
 says checked (b ∷ rest) Out = out_said checked b rest (says checked rest Out) (says checked rest (In []) refl)
 says checked (b ∷ rest) (In front) =
-    λ c. in_said checked b front rest c (says checked rest (In []) refl) (says checked rest (Hash front) c) (says checked rest (In (front ++ b ∷ [])))
+    λ c. in_said checked b front rest c (says checked rest (In []) refl) (says checked rest (Hash front) c)
+        (says checked rest (In (front ++ b ∷ [])))
 says checked (b ∷ rest) (Hash front) = λ c. says checked rest (Digit front b) c
 says checked (b ∷ rest) (Digit front high) = λ c. packet_said checked front rest high b c (says checked rest Out)
 
@@ -300,7 +317,8 @@ hears_stream = (λ checked bytes events s. hears s, λ checked bytes. says check
 glyph_value : (d : ℕ) → d < 16 → digit_value (digit_glyph false d) ≡ d
 glyph_value d lt = grind arith
 
-glyphs_write : (high low s : ℕ) → high < 16 → low < 16 → 16 * high + low ≡ s → writes (digit_glyph false high) (digit_glyph false low) s ≡ true
+glyphs_write : (high low s : ℕ) → high < 16 → low < 16 → 16 * high + low ≡ s
+    → writes (digit_glyph false high) (digit_glyph false low) s ≡ true
 glyphs_write high low s h l e =
     ap₂ (λ (x y : ℕ). nat_lt x 16 && nat_lt y 16 && (16 * x + y == s)) (glyph_value high h) (glyph_value low l)
         ∙ ap₂ (λ (x y : Bool). x && y) (ap₂ (λ (x y : Bool). x && y) (lt-ltb high 16 h) (lt-ltb low 16 l)) (eq-eqb (16 * high + low) s e)
@@ -312,7 +330,8 @@ pub hears_framed : HearsFramed
 hears_framed checked content rest c fits =
     let high : ℕ = digit_glyph false (sum content % 256 / 16) in
     let low : ℕ = digit_glyph false (sum content % 16) in
-    let right : is_right checked content high low ≡ true = ap (λ (x : Bool). not checked || x) (sum_writes (sum content)) ∙ either checked in
+    let right : is_right checked content high low ≡ true = ap (λ (x : Bool). not checked || x) (sum_writes (sum content))
+            ∙ either checked in
     ap (λ (x : List ℕ). heard_from checked idle (36 ∷ x)) (append_assoc content (35 ∷ sum_digits content) rest)
         ∙ hears (stream.packet content rest high low c fits right (says checked rest Out))
   where

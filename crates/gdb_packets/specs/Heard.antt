@@ -53,7 +53,7 @@ pub data Stream (checked : Bool) : List ℕ → List Event → Type 0 where
   open_sum : (content : List ℕ) → IsContent content → Stream checked (36 ∷ (content ++ 35 ∷ [])) []
   open_digit : (content : List ℕ) (high : ℕ) → IsContent content → Stream checked (36 ∷ (content ++ 35 ∷ high ∷ [])) []
 
--- what was heard, byte by byte, the content taken from what is held
+-- what `told` tells byte by byte, with the content that is held then
 abbrev pub add : Heard → List ℕ → List Event → List Event
 add heard.Nothing content events = events
 add heard.Accepted content events = Accepted ∷ events
@@ -69,7 +69,8 @@ heard_from checked h (b ∷ rest) = add (told checked h b) h.content (heard_from
 
 -- what is heard is what the stream says
 abbrev pub HearsStream : Type 0
-HearsStream = ((checked : Bool) (bytes : List ℕ) (events : List Event) → Stream checked bytes events → heard_from checked idle bytes ≡ events)
+HearsStream =
+    ((checked : Bool) (bytes : List ℕ) (events : List Event) → Stream checked bytes events → heard_from checked idle bytes ≡ events)
     × ((checked : Bool) (bytes : List ℕ) → Stream checked bytes (heard_from checked idle bytes))
 
 -- a framed content is heard as that content
