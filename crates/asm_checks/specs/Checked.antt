@@ -26,7 +26,7 @@ checked_kinds settled all l before =
     ++ state_kinds l.area l.thumb l.statement.what all
     ++ own_kinds l.statement
 
--- what is kept of lines of which none has such a kind
+-- what is kept of lines
 pub record IsChecked (before : List LaidLine) (c : Checks) : Type 0 where
   pub contents : c.contents ≡ contents_behind (statements_of before)
   pub areas : AreAreasOf before c.areas
@@ -57,8 +57,8 @@ Tells known old told =
     (settled : List (List ℕ)) (all : List Statement) (l : LaidLine) (before : List LaidLine)
     → IsChecked before old → known settled all l before → told ≡ told_kind (checked_kinds settled all l before)
 
--- what is kept behind it, where none is told
-abbrev pub Keeps : Line → Checks → Checks → Option LineKind → Type 0
-Keeps known old new told =
+-- what is kept behind it
+abbrev pub Keeps : Line → Checks → Checks → Type 0
+Keeps known old new =
     (settled : List (List ℕ)) (all : List Statement) (l : LaidLine) (before : List LaidLine)
-    → IsChecked before old → known settled all l before → told ≡ None → IsChecked (l ∷ before) new
+    → IsChecked before old → known settled all l before → IsChecked (l ∷ before) new

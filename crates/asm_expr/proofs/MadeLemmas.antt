@@ -33,13 +33,13 @@ first_told f a (Err j) k r ea er = rw ea (ap Err er)
 -- the statement of a line with this source
 pub stated : (flat : Flat) (source : List ℕ) (label : Result (Option (List ℕ)) LineKind) (what : Result What LineKind) (l : Option (List ℕ)) (w : What)
     → label ≡ Ok l → what ≡ Ok w → source ≡ flat.source
-    → Ok (Some (record { source = source; number = flat.number; label = l; what = w; is_long = false })) ≡ on_both (statement flat) label what
+    → Ok (Some (record { source = source; number = flat.number; label = l; what = w; is_long = false; unread = None })) ≡ on_both (statement flat) label what
 stated flat source label what l w el ew es = rw (el, ew, es) refl
 
 pub stated_of : (flat : Flat) (source : List ℕ) (label : Result (Option (List ℕ)) LineKind) (said : Result DirectiveLine LineKind) (l : Option (List ℕ))
     (d : DirectiveLine)
     → label ≡ Ok l → said ≡ Ok d → source ≡ flat.source
-    → Ok (Some (record { source = source; number = flat.number; label = l; what = Directive d; is_long = false })) ≡ on_both (statement_of flat) label said
+    → Ok (Some (record { source = source; number = flat.number; label = l; what = Directive d; is_long = false; unread = None })) ≡ on_both (statement_of flat) label said
 stated_of flat source label said l d el ew es = rw (el, ew, es) refl
 
 -- what is made of one reading

@@ -154,10 +154,9 @@ OkExtent (Err k) = Unit {0}
 
 -- ---- the answer
 
--- the kind that is told of a laid line, of those that this crate finds
+-- the kind that is told of a laid line, of those that this crate finds; a line behind the last offset has its extent's
 abbrev pub told_of : LaidLine → Option LineKind
-told_of l =
-    told_kind (fault_kinds l.extent ++ map_kinds l.seen l.statement.what ++ kind_if (nat_lt area_bytes (l.offset + l.size)) TooMany)
+told_of l = told_kind (fault_kinds l.extent ++ map_kinds l.seen l.statement.what)
 
 -- a statement is a laid line behind those before it
 pub record IsStatement (x : LaidStatement) (l : LaidLine) (before : List LaidLine) : Type 0 where
@@ -165,31 +164,24 @@ pub record IsStatement (x : LaidStatement) (l : LaidLine) (before : List LaidLin
   pub literal : x.literal ≡ entry_behind l.area (pieces_of before) (taken l.extent)
   pub strings : x.strings ≡ string_marks l.seen l.statement.what
 
+-- a statement that is reached gets its place, by what it needs of values
 pub record IsLaid (declared : List LaidName) (l : LaidLine) (before : List LaidLine) (state : Laying) (x : LaidStatement) : Type 0 where
-  pub told : told_of l ≡ None
   pub statement : IsStatement x l before
+  pub told : x.fault ≡ told_of l
   pub laying : IsLaying declared (l ∷ before) state
 
--- where a line more stands, or the kind that is told of it
-abbrev pub IsPlaced : List LaidName → LaidLine → List LaidLine → Laying → Result LaidStatement LineKind → Type 0
-IsPlaced declared l before state (Ok x) = IsLaid declared l before state x
-IsPlaced declared l before state (Err kind) = told_of l ≡ Some kind
-
--- a statement that is reached gets its place, by what it needs of values
 abbrev pub Puts : Statement → StatementPlace → Result Code LineKind → Result ℕ LineKind → Option LaidName → Equated → List Bool → Laying → Laying
-    → Result (Result LaidStatement LineKind) NoMemory → Type 0
+    → Result LaidStatement NoMemory → Type 0
 Puts s p extent map own equal strings old new result =
     (declared : List LaidName) (before : List LaidLine) → Reaches declared s before old p
     → AreNeeded declared p (names_behind declared s before) s extent map equal
     → strings ≡ string_marks (names_behind declared s before) s.what
-    → own ≡ unsized_entry (defined_by s) p → IfOk result (λ placed. IsPlaced declared (laid_behind declared s before) before new placed)
+    → own ≡ unsized_entry (defined_by s) p → IfOk result (λ x. IsLaid declared (laid_behind declared s before) before new x)
 
--- what laying a line tells of it
+-- what laying a line gives
 pub record Tells (declared : List LaidName) (l : LaidLine) (before : List LaidLine) (state : Laying) (x : LaidOutcome) : Type 0 where
-  pub area : x.area ≡ l.area
-  pub thumb : x.thumb ≡ l.thumb
   pub number : x.number ≡ said_number l.seen l.statement.what
-  pub placed : IsPlaced declared l before state x.placed
+  pub laid : IsLaid declared l before state x.laid
 
 -- what a line more gives
 abbrev pub Lays : List LaidName → LaidLine → List LaidLine → Laying → Result LaidOutcome NoMemory → Type 0

@@ -32,19 +32,17 @@ pub struct LaidStatement<'a> {
     pub literal: Option<u32>,
     /// For DCB, of each operand whether it is a string by what is known at its line.
     pub strings: Listed<bool>,
+    /// The kind that is told of its faults that are found so far. A statement whose extent isn't known, or doesn't fit
+    /// into its area, takes up nothing.
+    pub fault: Option<LineKind>,
 }
 
 /// What laying a statement tells of it.
 #[derive(Drop)]
 pub struct LaidOutcome<'a> {
-    /// Its area, counted from 0; None before the first.
-    pub area: Option<u32>,
-    /// Whether it stands in Thumb state.
-    pub thumb: bool,
     /// The number that checks ask for: the exponent of an AREA's alignment, or what RN gives a name.
     pub number: Result<u32, LineKind>,
-    /// The statement with its place, or the kind of its fault that is told, of those that laying finds.
-    pub placed: Result<LaidStatement<'a>, LineKind>,
+    pub laid: LaidStatement<'a>,
 }
 
 /// The state behind the lines so far.

@@ -1,14 +1,13 @@
--- The layout of a source, and the refusal of its first faulty line. Statements and laid lines are listed with the nearest
+-- The layout of a source, or its faulty lines. Statements and laid lines are listed with the nearest
 -- first, those of a layout in the order of the source. SDT 2.50 Reference Guide, chapter on the assembler.
-use Rattle.std.specs.Prelude.{◌≡◌, ◌⊎◌, ℕ, List, [], ◌∷◌, ◌++◌, length, slice_get, Option, Some, None, Result, Ok, Err}
-use Rattle.sdt_fault.specs.declared.answer.Fault.{Fault}
-use Rattle.sdt_fault.specs.declared.answer.Fault.TheVariants as fault
+use Rattle.std.specs.Prelude.{◌≡◌, ℕ, List, [], ◌∷◌, ◌++◌, length, map, slice_get, Some, Result, Ok, Err}
+use Rattle.std.specs.Global.{Vec}
 use Rattle.sdt_fault.specs.declared.kinds.LineKind.{LineKind}
-use Rattle.sdt_fault.specs.declared.refusal.Refusal.TheVariants.{BadLine}
 use Rattle.asm_model.specs.declared.statements.Statement.{Statement}
 use Rattle.asm_layout.specs.declared.laid.LaidArea.{LaidArea}
 use Rattle.asm_laying.specs.declared.laying.LaidStatement.{LaidStatement}
 use Rattle.asm_layout.specs.declared.laid.Layout.{Layout}
+use Rattle.asm_layout.specs.declared.laid.LineFault.{LineFault}
 use Rattle.asm_pool.specs.Pooled.{flushed}
 use Rattle.asm_laying.specs.Laying.{IsStatement}
 use Rattle.asm_offsets.specs.Running.{pools_behind}
@@ -49,15 +48,12 @@ pub record IsLayout (statements : List Statement) (l : Layout) : Type 0 where
   pub lines : AreStatements (laid statements) l.statements
   pub names : l.names ≡ final_names (laid statements)
 
--- ---- the refusal of a line
+-- ---- its faulty lines
 
--- a fault is the refusal of the line that is told, or want of memory
-abbrev pub IsTold : Option (Statement × LineKind) → Fault → Type 0
-IsTold told f =
-    (f ≡ fault.NoMemory)
-    ⊎ ((s : Statement) × (kind : LineKind) × (told ≡ Some (s, kind)) × (f ≡ fault.Refused (BadLine s.source s.number kind)))
+abbrev pub faults_in : List LineFault → List (Statement × LineKind)
+faults_in faults = map (λ (f : LineFault). (f.statement.now, f.kind)) faults
 
--- a layout where no line is told, and else the refusal
-abbrev pub IsOutcome : List Statement → Result Layout Fault → Type 0
-IsOutcome statements (Ok l) = (layout_faults statements ≡ None) × IsLayout statements l
-IsOutcome statements (Err f) = IsTold (layout_faults statements) f
+-- a layout where no line has a fault, and else the faulty lines
+abbrev pub IsOutcome : List Statement → Result Layout (Vec LineFault) → Type 0
+IsOutcome statements (Ok l) = (layout_faults statements ≡ []) × IsLayout statements l
+IsOutcome statements (Err faults) = (layout_faults statements ≡ faults_in faults.items) × (layout_faults statements ≡ [] → ⊥)

@@ -13,7 +13,7 @@ use Rattle.asm_model.specs.declared.statements.What.TheVariants as what
 use Rattle.asm_locals.specs.Naming.{hidden_name, in_names}
 
 abbrev says : Option (List ℕ) → What → Statement
-says label w = record { source = codes "t.s"; number = 1; label = label; what = w; is_long = false }
+says label w = record { source = codes "t.s"; number = 1; label = label; what = w; is_long = false; unread = None }
 
 abbrev area : Statement
 area = says None (what.Directive (line.Area (codes "a") (record {

@@ -73,5 +73,5 @@ ahead_table k s rest number begins table e same h =
 
 pub ahead_named : (k : ℕ) (s : Statement) (rest : List Statement) (label : Option (List ℕ)) (number : Option ℕ) (w : What) (f : List ℕ → Option ℕ)
     → label ≡ named_label k number s.label → number ≡ local_number s → w ≡ named_what f s.what → f ≡ forth_to (label_ahead (suc k) rest)
-    → record { source = s.source; number = s.number; label = label; what = w; is_long = s.is_long } ≡ named_ahead k s rest
+    → record { source = s.source; number = s.number; label = label; what = w; is_long = s.is_long; unread = s.unread } ≡ named_ahead k s rest
 ahead_named k s rest label number w f l n v g = rw (l, n, v, g) refl

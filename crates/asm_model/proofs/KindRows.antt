@@ -19,7 +19,7 @@ use Rattle.asm_model.specs.declared.directives.ImportMark.TheVariants as mark
 use Rattle.asm_model.specs.LayoutKinds.{layout_fault}
 
 abbrev says : ℕ → Option (List ℕ) → DirectiveLine → Statement
-says n label l = record { source = codes "t.s"; number = n; label = label; what = what.Directive l; is_long = false }
+says n label l = record { source = codes "t.s"; number = n; label = label; what = what.Directive l; is_long = false; unread = None }
 
 abbrev area : ℕ → Contents → Bool → Statement
 area n holds interwork = says n None (line.Area (codes "a") (record {
@@ -86,13 +86,13 @@ entry_and_label = refl
 
 -- and its place where no line has a fault of its own
 pub place_and_label : told
-    (record { source = codes "t.s"; number = 4; label = Some (codes "x"); what = what.Nothing; is_long = false }
+    (record { source = codes "t.s"; number = 4; label = Some (codes "x"); what = what.Nothing; is_long = false; unread = None }
     ∷ says 3 None line.Entry ∷ words 2 (Some (codes "x")) ∷ area 1 contents.Code false ∷ []) ≡ Some (4, DuplicateName)
 place_and_label = refl
 
 -- the area's only instruction is one of ARM state
 pub entry_in_thumb : told
-    (record { source = codes "t.s"; number = 5; label = None; what = what.Pseudo pseudo.NoOperation; is_long = false }
+    (record { source = codes "t.s"; number = 5; label = None; what = what.Pseudo pseudo.NoOperation; is_long = false; unread = None }
     ∷ says 4 None line.Code32 ∷ says 3 None line.Entry ∷ says 2 None line.Code16 ∷ area 1 contents.Code false ∷ []) ≡ Some (3, BadOperand)
 entry_in_thumb = refl
 

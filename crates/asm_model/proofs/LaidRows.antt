@@ -24,7 +24,7 @@ use Rattle.asm_model.specs.Offsets.{area_size}
 use Rattle.asm_model.specs.Symbols.{symbols_of}
 
 abbrev says : Option (List ℕ) → What → Statement
-says label w = record { source = codes "t.s"; number = 1; label = label; what = w; is_long = false }
+says label w = record { source = codes "t.s"; number = 1; label = label; what = w; is_long = false; unread = None }
 
 abbrev area : List ℕ → Contents → Statement
 area name holds = says None (what.Directive (line.Area name (record {

@@ -1,9 +1,9 @@
 -- A source laid out: each statement with its place, and what an expression sees at its line. What is known at a line are
 -- names of the lines before it, and of the whole source only which names there are. SDT 2.50 Reference Guide, chapter on the
 -- assembler. Statements and laid lines are listed with the nearest first.
-use Rattle.std.specs.Prelude.{ℕ, zero, suc, ◌+◌, ◌%◌, ◌^◌, List, [], ◌∷◌, ◌++◌, length, map, Bool, Option, Some, None, Result, Ok, Err}
+use Rattle.std.specs.Prelude.{ℕ, zero, suc, ◌+◌, ◌%◌, ◌^◌, List, [], ◌∷◌, ◌++◌, length, map, nat_lt, Bool, if◌then◌else◌, Option, Some, None, Result, Ok, Err}
 use Rattle.sdt_fault.specs.declared.kinds.LineKind.{LineKind}
-use Rattle.sdt_fault.specs.declared.kinds.LineKind.TheVariants.{Syntax}
+use Rattle.sdt_fault.specs.declared.kinds.LineKind.TheVariants.{Syntax, TooMany}
 use Rattle.asm_model.specs.declared.exprs.Expr.{Expr}
 use Rattle.asm_model.specs.declared.values.Value.{Value}
 use Rattle.asm_model.specs.declared.names.LaidName.{LaidName}
@@ -29,7 +29,7 @@ pub record LaidLine : Type 0 where
   pub area : Option ℕ
   pub offset : ℕ
   pub thumb : Bool
-  -- what it takes up, or why that isn't known
+  -- what it takes up, or why that isn't known or doesn't fit
   pub extent : Result Extent LineKind
   pub size : ℕ
   -- what its expressions see, before its size is known
@@ -38,6 +38,10 @@ pub record LaidLine : Type 0 where
   pub line : SourceLine
   pub imported : List SourceLine
 
+-- the last offset at which an area may end
+abbrev pub area_bytes : ℕ
+area_bytes = 2 ^ 24
+
 abbrev pub statements_of : List LaidLine → List Statement
 statements_of lines = map (λ l. l.statement) lines
 
@@ -45,7 +49,7 @@ abbrev pub lines_of : List LaidLine → List SourceLine
 lines_of [] = []
 lines_of (l ∷ ls) = l.imported ++ l.line ∷ lines_of ls
 
--- a statement whose extent isn't known takes up nothing
+-- a statement whose extent isn't known, or doesn't fit, takes up nothing
 abbrev pub taken : Result Extent LineKind → Extent
 taken (Ok e) = e
 taken (Err k) = Block 1 0
@@ -186,8 +190,18 @@ abbrev pub sized : List LaidName → Statement → List LaidLine → Result Exte
 sized declared s before extent =
     with_extent declared s before extent (size_behind (area_behind (s ∷ statements_of before)) (pieces_of before) (taken extent))
 
+-- what a statement takes up, which doesn't fit where it would end behind the last offset that an area may have
+abbrev pub within : ℕ → ℕ → Result Extent LineKind → Result Extent LineKind
+within offset size (Ok e) = if nat_lt area_bytes (offset + size) then Err TooMany else Ok e
+within offset size (Err k) = Err k
+
+-- what a statement behind lines takes up
+abbrev pub fitting : Statement → List LaidLine → Result Extent LineKind → Result Extent LineKind
+fitting s before extent =
+    within (offset_behind s before) (size_behind (area_behind (s ∷ statements_of before)) (pieces_of before) (taken extent)) extent
+
 abbrev pub laid_behind : List LaidName → Statement → List LaidLine → LaidLine
-laid_behind declared s before = sized declared s before (extent_of (names_behind declared s before) s.what)
+laid_behind declared s before = sized declared s before (fitting s before (extent_of (names_behind declared s before) s.what))
 
 abbrev pub with_line : List LaidName → Statement → List LaidLine → List LaidLine
 with_line declared s before = laid_behind declared s before ∷ before

@@ -1,8 +1,8 @@
 -- The kinds of faults that a line which can be read has by itself and by the lines around it: NoArea,
 -- DuplicateName, places where a statement may not stand, areas that are named again otherwise, what must be known at its
 -- line, names that depend on themselves, an ENTRY in another state than its area's, and areas that grow too large. SDT
--- 2.50 Reference Guide, chapter on the assembler; the kinds are this project's. What needs the whole layout, as an
--- ENTRY's place and the pool at an area's end, counts only where no line has a kind of these.
+-- 2.50 Reference Guide, chapter on the assembler; the kinds are this project's. Two kinds need the layout of all lines: an
+-- ENTRY's place, and the word of a literal in the pool at an area's end.
 use Rattle.std.specs.Prelude.{ℕ, zero, suc, ◌+◌, ◌^◌, ◌==◌, ◌&&◌, ◌||◌, not, nat_lt, Bool, true, false, if◌then◌else◌}
 use Rattle.std.specs.Prelude.{List, [], ◌∷◌, ◌++◌, length, Option, Some, None, Result, Ok, Err}
 use Rattle.std.specs.List.{list_any}
@@ -26,7 +26,7 @@ use Rattle.asm_model.specs.Forms.{same}
 use Rattle.asm_model.specs.Kinds.{told_kind, kind_if}
 use Rattle.asm_model.specs.Extents.{Extent, Loading, number_there}
 use Rattle.asm_model.specs.Labels.{Defined, Label, Equal, MapField, RegisterName, defined_by, imported_in}
-use Rattle.asm_model.specs.Laid.{LaidLine, MapStep, Keep, Set, Add, map_step, statements_of, taken, pieces_of, laid, reversed}
+use Rattle.asm_model.specs.Laid.{LaidLine, MapStep, Keep, Set, Add, map_step, statements_of, taken, pieces_of, area_bytes}
 use Rattle.asm_model.specs.Offsets.{Piece, is_of, area_size, literal_word}
 use Rattle.asm_model.specs.Occupied.{Occupied, Unplaced, Opening, Marking, Entering, Items, Zeroes, UpTo, Literals, occupied}
 use Rattle.asm_model.specs.OwnKinds.{own_kinds}
@@ -154,14 +154,23 @@ same_attributes s a t b =
     && same_mark a.halfword b.halfword && same_mark a.pic b.pic && same_mark a.reentrant b.reentrant
     && same_exponent (exponent s a.alignments) (exponent t b.alignments)
 
-abbrev pub again_with : List ℕ → Names → AreaAttributes → Names → What → Bool → Bool
-again_with name s a t (what.Directive (line.Area other b)) rest = if same name other then not (same_attributes s a t b) || rest else rest
-again_with name s a t _ rest = rest
+-- the attributes that a line gives the area, with what it sees
+abbrev pub named_with : List ℕ → Names → What → Option (Names × AreaAttributes)
+named_with name t (what.Directive (line.Area other b)) = if same name other then Some (t, b) else None
+named_with name t _ = None
 
--- whether an earlier line names the area with other attributes
+-- those of the first line that names the area
+abbrev pub first_named : List ℕ → List LaidLine → Option (Names × AreaAttributes)
+first_named name [] = None
+first_named name (l ∷ before) = or_else (first_named name before) (named_with name l.seen l.statement.what)
+
+abbrev pub differ : Names → AreaAttributes → Option (Names × AreaAttributes) → Bool
+differ s a None = false
+differ s a (Some (t, b)) = not (same_attributes s a t b)
+
+-- whether the first line that names the area has other attributes
 abbrev pub is_named_otherwise : List ℕ → Names → AreaAttributes → List LaidLine → Bool
-is_named_otherwise name s a [] = false
-is_named_otherwise name s a (l ∷ before) = again_with name s a l.seen l.statement.what (is_named_otherwise name s a before)
+is_named_otherwise name s a before = differ s a (first_named name before)
 
 abbrev pub area_kinds : Names → What → List LaidLine → List LineKind
 area_kinds s (what.Directive (line.Area name a)) before =
@@ -275,9 +284,6 @@ state_kinds (Some area) thumb w all = kind_if (is_entry w && not (same_mark thum
 
 -- ---- lines
 
-abbrev pub area_bytes : ℕ
-area_bytes = 2 ^ 24
-
 abbrev pub step_kinds : Names → MapStep → List LineKind
 step_kinds s Keep = []
 step_kinds s (Set e) = fault_kinds (number_there s e)
@@ -319,18 +325,7 @@ abbrev pub literal_kinds : Option ℕ → Extent → List Piece → List Piece �
 literal_kinds (Some area) (Loading n v) before rest = kind_if (nat_lt area_bytes (literal_word area before rest v + 4)) TooMany
 literal_kinds _ e before rest = []
 
--- the first line with such a fault, where these lines stand before it, the nearest first, and these from it on
-abbrev pub first_late : List LaidLine → List LaidLine → List LaidLine → Option (Statement × LineKind)
-first_late all before [] = None
-first_late all before (l ∷ rest) =
-    or_else
-    (told_at l.statement (told_kind (entry_kinds l.area l all ++ literal_kinds l.area (taken l.extent) (pieces_of (l ∷ before))
-    (pieces_of rest))))
-    (first_late all (l ∷ before) rest)
-
--- the first faulty line of a source that can be read, by its layout
-abbrev pub layout_fault : List Statement → Option (Statement × LineKind)
-layout_fault statements = fault_of (laid statements)
-  where
-    fault_of : List LaidLine → Option (Statement × LineKind)
-    fault_of lines = or_else (first_fault (settled (equals_in statements)) statements lines) (first_late lines [] (reversed lines []))
+-- the kinds of a line by the layout of all these lines, where those stand before it, the nearest first, and these behind it
+abbrev pub whole_kinds : List LaidLine → LaidLine → List LaidLine → List LaidLine → List LineKind
+whole_kinds all l before rest =
+    entry_kinds l.area l all ++ literal_kinds l.area (taken l.extent) (pieces_of (l ∷ before)) (pieces_of rest)

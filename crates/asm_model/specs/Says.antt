@@ -225,7 +225,7 @@ Said = Result (Option Statement) LineKind
 
 -- a statement of the line
 abbrev pub statement : Flat → Option (List ℕ) → What → Option Statement
-statement flat label w = Some (record { source = flat.source; number = flat.number; label = label; what = w; is_long = false })
+statement flat label w = Some (record { source = flat.source; number = flat.number; label = label; what = w; is_long = false; unread = None })
 
 -- a directive of the line
 abbrev pub statement_of : Flat → Option (List ℕ) → DirectiveLine → Option Statement

@@ -7,6 +7,7 @@ use crate::files::FileName;
 use crate::operands::Register;
 use crate::shared_texts::SharedText;
 use crate::thumb_lines::ThumbLine;
+use sdt_fault::kinds::LineKind;
 use sdt_word::Condition;
 
 /// What a line says, with the file and line where its text stands. A local label is kept as its digits behind
@@ -19,6 +20,8 @@ pub struct Statement {
     pub what: What,
     /// Whether a name on the line is beyond the limit.
     pub is_long: bool,
+    /// The kind that is told of a line that can't be read. Such a line says nothing else, and takes up nothing.
+    pub unread: Option<LineKind>,
 }
 
 #[derive(Drop)]

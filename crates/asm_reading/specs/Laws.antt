@@ -11,8 +11,7 @@ use Rattle.asm_model.specs.Fit.{AllFit}
 use Rattle.asm_model.specs.Named.{AllLoadsNamed}
 use Rattle.asm_model.specs.Said.{AllSaid, AllHaveTexts}
 use Rattle.source_laws.specs.Laws.{KeepStates}
-use Rattle.asm_reading.specs.declared.flat_lines.Reading.{Reading}
-use Rattle.asm_reading.specs.FlatLines.{IsReading}
+use Rattle.asm_reading.specs.FlatLines.{AreRead}
 use Rattle.asm_reading.specs.Says.{SaysBy}
 
 -- a line, of Thumb or ARM state, says one statement, or has one fault
@@ -22,8 +21,7 @@ OneLine = (thumb : Bool) (flat : Flat) (a b : Said) → SaysBy thumb flat a → 
 -- two readings of the same lines are the same
 abbrev pub OneReading : Type 0
 OneReading =
-    (lines : List Flat) (a b : Reading) → IsReading lines a → IsReading lines b
-    → (a.statements.items ≡ b.statements.items) × (a.unread ≡ b.unread) × (a.before ≡ b.before)
+    (lines : List Flat) (a b : List Statement) → AreRead lines a → AreRead lines b → a ≡ b
 
 -- statements as layout and emission ask for them, with the last first; each is of the state that those before it leave
 pub record AreFit (statements : List Statement) : Type 0 where
@@ -36,4 +34,4 @@ pub record AreFit (statements : List Statement) : Type 0 where
 
 -- the statements of lines, as layout lists them
 abbrev pub ReadingsAreFit : Type 0
-ReadingsAreFit = (lines : List Flat) (r : Reading) → IsReading lines r → AreFit (reversed r.statements.items [])
+ReadingsAreFit = (lines : List Flat) (statements : List Statement) → AreRead lines statements → AreFit (reversed statements [])

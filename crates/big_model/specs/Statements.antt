@@ -24,7 +24,7 @@ constant k = record { items = item.Constant (Number k) ∷ [] }
 
 -- a statement at a line
 abbrev pub stated : List ℕ → ℕ → Option (List ℕ) → What → Statement
-stated source n label w = record { source = source; number = n; label = label; what = w; is_long = false }
+stated source n label w = record { source = source; number = n; label = label; what = w; is_long = false; unread = None }
 
 abbrev pub attributes : Contents → Bool → AreaAttributes
 attributes c read_only = record {

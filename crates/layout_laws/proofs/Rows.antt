@@ -18,7 +18,7 @@ use Rattle.asm_model.specs.Laid.{laid, source_lines, all_entries, final_names}
 use Rattle.asm_model.specs.Sound.{IsSound, ArePlain}
 
 abbrev says : ℕ → Option (List ℕ) → DirectiveLine → Statement
-says n label l = record { source = codes "t.s"; number = n; label = label; what = what.Directive l; is_long = false }
+says n label l = record { source = codes "t.s"; number = n; label = label; what = what.Directive l; is_long = false; unread = None }
 
 abbrev area : Statement
 area = says 1 None (line.Area (codes "a") (record {

@@ -19,7 +19,7 @@ use Rattle.asm_model.specs.declared.statements.What.TheVariants as what
 use Rattle.asm_model.specs.declared.values.Value.TheVariants.{Number}
 use Rattle.asm_model.specs.Before.{is_code}
 use Rattle.source_model.specs.Objects.{Piece, source_of, IsObject}
-use Rattle.source_model.specs.SourceFaults.{statements_fault}
+use Rattle.source_model.specs.SourceFaults.{statements_faults}
 use Rattle.source_model.specs.Units.{ByArea, BySymbol, Word, Instruction}
 use Rattle.stand_model.proofs.OneLine.{HasOne, is_object}
 use Rattle.stand_model.proofs.Rows.{here, far, of_own_label, of_imported_word, of_branch, of_call}
@@ -27,7 +27,7 @@ use Rattle.stand_model.proofs.Rows.{here, far, of_own_label, of_imported_word, o
 -- ---- sources; the last line stands first
 
 abbrev says : ℕ → Option (List ℕ) → What → Statement
-says number label w = record { source = []; number = number; label = label; what = w; is_long = false }
+says number label w = record { source = []; number = number; label = label; what = w; is_long = false; unread = None }
 
 abbrev area : Contents → Statement
 area c = says 1 None (what.Directive (line.Area (codes "words") (record {
@@ -112,11 +112,11 @@ call_object =
 
 -- ---- and the sources have no faults
 
-pub own_label_faultless : statements_fault own_label_source ≡ None
+pub own_label_faultless : statements_faults own_label_source ≡ []
 own_label_faultless = refl
 
-pub imported_word_faultless : statements_fault imported_word_source ≡ None
+pub imported_word_faultless : statements_faults imported_word_source ≡ []
 imported_word_faultless = refl
 
-pub branch_faultless : (link : Bool) → statements_fault (branch_source link) ≡ None
+pub branch_faultless : (link : Bool) → statements_faults (branch_source link) ≡ []
 branch_faultless link = refl
