@@ -1,5 +1,5 @@
 -- Worked sources: the first line with a fault of layout.
-use Rattle.std.proofs.Common.{◌≡◌, ℕ, List, [], ◌∷◌, Bool, true, false, refl, Option, Some, None, codes}
+use Rattle.std.proofs.Common.{◌≡◌, ℕ, List, [], ◌∷◌, ◌++◌, Bool, true, false, refl, Option, Some, None, codes}
 use Rattle.sdt_word.specs.declared.codes.Condition.TheVariants.{Al}
 use Rattle.sdt_fault.specs.declared.kinds.LineKind.{LineKind}
 use Rattle.sdt_fault.specs.declared.kinds.LineKind.TheVariants.{BadOperand, Forward, DuplicateName, NoArea, TooMany}
@@ -16,7 +16,10 @@ use Rattle.asm_model.specs.declared.directives.DataItem.TheVariants as datum
 use Rattle.asm_model.specs.declared.directives.DirectiveLine.{DirectiveLine}
 use Rattle.asm_model.specs.declared.directives.DirectiveLine.TheVariants as line
 use Rattle.asm_model.specs.declared.directives.ImportMark.TheVariants as mark
-use Rattle.asm_model.specs.LayoutKinds.{layout_fault}
+use Rattle.asm_model.specs.Directives.{or_else}
+use Rattle.asm_model.specs.Kinds.{told_kind}
+use Rattle.asm_model.specs.Laid.{LaidLine, laid, reversed}
+use Rattle.asm_model.specs.LayoutKinds.{layout_kinds, whole_kinds, equals_in, settled, told_at}
 
 abbrev says : ℕ → Option (List ℕ) → DirectiveLine → Statement
 says n label l = record { source = codes "t.s"; number = n; label = label; what = what.Directive l; is_long = false; unread = None }
@@ -46,9 +49,17 @@ abbrev numbered : Option (Statement × LineKind) → Option (ℕ × LineKind)
 numbered None = None
 numbered (Some f) = Some (f.0.number, f.1)
 
+-- the first faulty line from one on, where these lines stand before it, the nearest first
+abbrev first_from : List (List ℕ) → List Statement → List LaidLine → List LaidLine → List LaidLine → Option (Statement × LineKind)
+first_from fixed statements all before [] = None
+first_from fixed statements all before (l ∷ rest) =
+    or_else (told_at l.statement (told_kind (layout_kinds fixed statements l before ++ whole_kinds all l before rest)))
+    (first_from fixed statements all (l ∷ before) rest)
+
 -- the statements with the last first
 abbrev told : List Statement → Option (ℕ × LineKind)
-told statements = numbered (layout_fault statements)
+told statements =
+    numbered (first_from (settled (equals_in statements)) statements (laid statements) [] (reversed (laid statements) []))
 
 pub without_fault : told (words 3 (Some (codes "x")) ∷ says 2 None line.Entry ∷ area 1 contents.Code false ∷ []) ≡ None
 without_fault = refl
@@ -84,11 +95,15 @@ pub entry_and_label : told (words 5 (Some (codes "x")) ∷ words 4 (Some (codes 
     ∷ area 1 contents.Code false ∷ []) ≡ Some (3, BadOperand)
 entry_and_label = refl
 
--- and its place where no line has a fault of its own
+-- an ENTRY behind its area's last byte counts at its own line, before a line behind it
 pub place_and_label : told
     (record { source = codes "t.s"; number = 4; label = Some (codes "x"); what = what.Nothing; is_long = false; unread = None }
-    ∷ says 3 None line.Entry ∷ words 2 (Some (codes "x")) ∷ area 1 contents.Code false ∷ []) ≡ Some (4, DuplicateName)
+    ∷ says 3 None line.Entry ∷ words 2 (Some (codes "x")) ∷ area 1 contents.Code false ∷ []) ≡ Some (3, BadOperand)
 place_and_label = refl
+
+-- and comes first of its line's kinds
+pub entry_with_label : told (says 3 (Some (codes "x")) line.Entry ∷ words 2 (Some (codes "x")) ∷ area 1 contents.Code false ∷ []) ≡ Some (3, BadOperand)
+entry_with_label = refl
 
 -- the area's only instruction is one of ARM state
 pub entry_in_thumb : told
@@ -129,8 +144,13 @@ pub larger_pool : told
       number = 2;
       label = None;
       what = what.Pseudo (pseudo.LoadConstant Al (register.Number 0) (name (codes "x")));
-      is_long =
-          false;
+      is_long = false;
+      unread = None;
     }
     ∷ area 1 contents.Code false ∷ []) ≡ Some (2, TooMany)
 larger_pool = refl
+
+-- what doesn't fit takes up nothing, so the next line does
+pub behind_larger : told (words 3 (Some (codes "x")) ∷ says 2 (Some (codes "x")) (line.Space (number 0x1000001)) ∷ area 1 contents.Data false ∷ []) ≡ Some
+    (2, TooMany)
+behind_larger = refl

@@ -1,8 +1,8 @@
 -- Laid lines stand at their offsets, and load literals.
-use Rattle.std.proofs.Common.{◌≡◌, ℕ, List, ◌∷◌, Bool, true, false, cond, refl, sym, ap, subst, Option, Some, None}
+use Rattle.std.proofs.Common.{◌≡◌, ℕ, List, ◌∷◌, ◌+◌, Bool, true, false, cond, refl, sym, ◌∙◌, ap, subst, Option, Some, None, nat_lt}
 use Rattle.std.specs.Prelude.{Result, Ok, Err}
 use Rattle.sdt_fault.specs.declared.kinds.LineKind.{LineKind}
-use Rattle.sdt_fault.specs.declared.kinds.LineKind.TheVariants.{UnknownWord, Forward}
+use Rattle.sdt_fault.specs.declared.kinds.LineKind.TheVariants.{UnknownWord, Forward, TooMany}
 use Rattle.asm_model.specs.declared.values.Value.{Value}
 use Rattle.asm_model.specs.declared.values.Value.TheVariants.{Number, Truth, Words, Place}
 use Rattle.asm_model.specs.declared.names.LaidName.{LaidName}
@@ -21,7 +21,7 @@ use Rattle.asm_model.specs.Meaning.{meaning}
 use Rattle.asm_model.specs.Grammar.{Tree}
 use Rattle.asm_model.specs.Before.{area_behind}
 use Rattle.asm_model.specs.Extents.{Extent, Block, Padding, Loading, number_there, literal_there, tree_literal, is_moved, instruction, loading, thumb_extent, pseudo_extent, as_multiple, padding, occupied_extent, extent_of}
-use Rattle.asm_model.specs.Laid.{LaidLine, statements_of, pieces_of, taken, aligned_end, names_behind, laid_behind}
+use Rattle.asm_model.specs.Laid.{LaidLine, area_bytes, statements_of, pieces_of, taken, aligned_end, names_behind, offset_behind, within, laid_behind}
 use Rattle.asm_model.specs.Occupied.{Occupied, Unplaced, Opening, Marking, Entering, Items, Zeroes, UpTo, Literals, occupied}
 use Rattle.asm_model.specs.OffsetLaws.{IsLiteral}
 use Rattle.asm_model.specs.Offsets.{Piece, raised, waiting, end_behind, offset_of, size_behind}
@@ -36,11 +36,37 @@ pub starts_there : (area : Option ℕ) (pieces : List Piece) (s : Names) (w : Wh
 starts_there None pieces s w e h = refl
 starts_there (Some area) pieces s w e h = ap (raised (end_behind area pieces)) (sym (alignments_agree s w (waiting area pieces) e h))
 
+within_by : (b : Bool) (x e : Extent) (k : LineKind) (r : Result Extent LineKind) → cond b (Err k) (Ok x) ≡ r → r ≡ Ok e → (x ≡ e) × (b ≡ false)
+within_by true x e k r h q = absurd (cc)
+within_by false x e k r h q = (cc, refl)
+
+pub within_said : (o n : ℕ) (x : Result Extent LineKind) (e : Extent) → within o n x ≡ Ok e → (x ≡ Ok e) × (nat_lt area_bytes (o + n) ≡ false)
+within_said o n (Ok f) e h = let p = within_by (nat_lt area_bytes (o + n)) f e TooMany (Ok e) h refl in (ap Ok p.0, p.1)
+within_said o n (Err k) e h = absurd (cc)
+
+-- what a line takes up, where it is known and fits, is what its statement says
+pub extent_said : (d : List LaidName) (s : Statement) (before : List LaidLine) (e : Extent) → (laid_behind d s before).extent ≡ Ok e
+    → extent_of (names_behind d s before) s.what ≡ Ok e
+extent_said d s before e h =
+    (within_said (offset_behind s before)
+    (size_behind (area_behind (s ∷ statements_of before)) (pieces_of before) (taken (extent_of (names_behind d s before) s.what)))
+    (extent_of (names_behind d s before) s.what) e h).0
+
+-- and it ends within the area's limit
+pub line_fits : (d : List LaidName) (s : Statement) (before : List LaidLine) (e : Extent) → (laid_behind d s before).extent ≡ Ok e
+    → nat_lt area_bytes ((laid_behind d s before).offset + (laid_behind d s before).size) ≡ false
+line_fits d s before e h =
+    let p = within_said (offset_behind s before)
+    (size_behind (area_behind (s ∷ statements_of before)) (pieces_of before) (taken (extent_of (names_behind d s before) s.what)))
+    (extent_of (names_behind d s before) s.what) e h in
+    let same = ap taken p.0 ∙ sym (ap taken h) in
+    subst (λ x. nat_lt area_bytes (offset_behind s before + size_behind (area_behind (s ∷ statements_of before)) (pieces_of before) x) ≡ false) same p.1
+
 pub lines_stand_at_offsets : (d : List LaidName) (s : Statement) (before : List LaidLine) (e : Extent) → (laid_behind d s before).extent ≡ Ok e
     → ((laid_behind d s before).offset ≡ offset_of (laid_behind d s before).area (pieces_of before) e)
     × ((laid_behind d s before).size ≡ size_behind (laid_behind d s before).area (pieces_of before) e)
 lines_stand_at_offsets d s before e h = (
-  starts_there (area_behind (s ∷ statements_of before)) (pieces_of before) (names_behind d s before) s.what e h,
+  starts_there (area_behind (s ∷ statements_of before)) (pieces_of before) (names_behind d s before) s.what e (extent_said d s before e h),
   ap (λ r. size_behind (area_behind (s ∷ statements_of before)) (pieces_of before) (taken r)) h,
 )
 
