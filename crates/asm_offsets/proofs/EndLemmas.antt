@@ -9,8 +9,8 @@ use Rattle.asm_pool.specs.Pooled.{flushed}
 use Rattle.asm_model.specs.Extents.{Extent, Pool}
 use Rattle.asm_model.specs.Offsets.{Piece, is_of, raised, waiting, waiting_behind, start_from, end_from, start_in, end_behind, size_of, is_pool, pooled, all_pooled}
 use Rattle.asm_offsets.specs.Coded.{IsExtent}
-use Rattle.asm_offsets.specs.Running.{Standing, nothing, pools_from, entry_in, moved, pools_behind, HasNone, StandsBehind, IsStanding, IsBehind, piece, Places}
-use Rattle.asm_offsets.specs.Steps.{Steps}
+use Rattle.asm_offsets.specs.Running.{Standing, nothing, pools_from, entry_in, moved, pools_behind, HasNone, StandsBehind, IsStanding, IsBehind, IsAdded, piece, filling, Places}
+use Rattle.asm_offsets.specs.Steps.{Steps, Fills}
 use Rattle.asm_offsets.specs.Finished.{finished, IsLaid, IsLaidOut, AreLaid}
 use Rattle.asm_offsets.proofs.PlaceLemmas.{waits_behind, pool_placed, placed_behind}
 
@@ -114,6 +114,18 @@ places_some areas before k a b e (Ok (Ok p)) x within there step h =
       fits = step.fits;
       literal = step.literal ∙ ap (entry_in e) s.pools;
       behind = subst (λ c. IsBehind (piece (Some k) e ∷ before) (set areas k c)) (sym step.moves) (behind_some areas before k a e x within there h);
+    }
+
+pub adds_some : (areas : List Standing) (before : List Piece) (k : ℕ) (a b : Standing) (n : ℕ) → k < length areas → slice_get areas k ≡ Some a
+    → Fills a b n → IsBehind before areas → IsAdded (Some k) filling before (set areas k b) n
+adds_some areas before k a b n within there step h =
+    let s = standing_there areas before k a h there in
+    let x : IsExtent filling = omega arith in
+    record {
+      size =
+          step.size ∙ ap (λ m. size_of a.pools.waiting m filling) (starts k before filling a s)
+          ∙ ap (λ ws. size_of ws (start_in k before filling) filling) s.waiting;
+      behind = subst (λ c. IsBehind (piece (Some k) filling ∷ before) (set areas k c)) (sym step.moves) (behind_some areas before k a filling x within there h);
     }
 
 -- ---- areas that are laid out

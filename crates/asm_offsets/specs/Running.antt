@@ -7,7 +7,7 @@ use Rattle.sdt_fault.specs.declared.NoMemory.{NoMemory}
 use Rattle.asm_offsets.specs.declared.extents.PlacedExtent.{PlacedExtent}
 use Rattle.asm_offsets.specs.declared.extents.TooLarge.{TooLarge}
 use Rattle.asm_pool.specs.Pooled.{Pooled, noted, flushed}
-use Rattle.asm_model.specs.Extents.{Extent, Loading, Pool, pool_alignment}
+use Rattle.asm_model.specs.Extents.{Extent, Padding, Loading, Pool, pool_alignment}
 use Rattle.asm_model.specs.Offsets.{Piece, is_of, raised, waiting, pooled, start_from}
 use Rattle.asm_model.specs.Offsets.{end_from, start_in, end_behind, offset_of, size_behind}
 
@@ -97,6 +97,15 @@ abbrev pub Keeps : List Standing → List Standing → Result (Result PlacedExte
 Keeps old new (Ok (Ok p)) = length new ≡ length old
 Keeps old new (Ok (Err t)) = new ≡ old
 Keeps old new (Err m) = new ≡ old
+
+-- what fills an area up to the last offset at which it may end
+abbrev pub filling : Extent
+filling = Padding (2 ^ 24 + 1) (2 ^ 24)
+
+-- a statement that is placed behind these takes up so many bytes
+pub record IsAdded (area : Option ℕ) (e : Extent) (before : List Piece) (areas : List Standing) (bytes : ℕ) : Type 0 where
+  pub size : bytes ≡ size_behind area before e
+  pub behind : IsBehind (piece area e ∷ before) areas
 
 -- an area that is named is there
 abbrev pub IsThere : Option ℕ → List Standing → Type 0

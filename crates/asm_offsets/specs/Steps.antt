@@ -4,7 +4,7 @@ use Rattle.sdt_fault.specs.declared.NoMemory.{NoMemory}
 use Rattle.asm_model.specs.declared.values.Value.{Value}
 use Rattle.asm_offsets.specs.declared.extents.PlacedExtent.{PlacedExtent}
 use Rattle.asm_offsets.specs.declared.extents.TooLarge.{TooLarge}
-use Rattle.asm_offsets.specs.Running.{Standing, entry_in, pools_from, moved}
+use Rattle.asm_offsets.specs.Running.{Standing, entry_in, pools_from, moved, filling}
 use Rattle.asm_pool.specs.Pooled.{Pooled}
 use Rattle.asm_model.specs.Extents.{Extent, Loading, Pool, pool_alignment}
 use Rattle.asm_model.specs.Offsets.{start_from, size_of}
@@ -42,3 +42,8 @@ Steps e old new (Ok (Ok p)) = Stands e old new p
 Steps e old new (Ok (Err t)) =
     (new ≡ old) × (2 ^ 24 < start_from old.end old.pools.waiting e + size_of old.pools.waiting (start_from old.end old.pools.waiting e) e)
 Steps e old new (Err m) = new ≡ old
+
+-- an area that is filled, and the bytes that were left of it
+pub record Fills (old new : Standing) (bytes : ℕ) : Type 0 where
+  pub size : bytes ≡ size_of old.pools.waiting (start_from old.end old.pools.waiting filling) filling
+  pub moves : new ≡ moved filling old

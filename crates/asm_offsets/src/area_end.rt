@@ -7,7 +7,7 @@ ghost use Rattle.asm_offsets.specs.Coded.{extent_of_code, IsExtent};
 ghost use Rattle.asm_pool.specs.Pooled.{flushed};
 ghost use Rattle.asm_offsets.specs.Finished.{finished};
 ghost use Rattle.asm_offsets.specs.Running.{nothing};
-ghost use Rattle.asm_offsets.specs.Steps.{HasRoom, IsAligned, Takes, Steps};
+ghost use Rattle.asm_offsets.specs.Steps.{Fills, HasRoom, IsAligned, Takes, Steps};
 
 use crate::extents::{Extent, LaidPools, PlacedExtent, TooLarge};
 use crate::places::{pool_alignment, raised, size_of, start_of};
@@ -115,6 +115,15 @@ impl AreaEnd {
             size,
             literal,
         }))
+    }
+
+    /// Fills the area up to the last offset at which it may end. The bytes that were left.
+    pub fn fill(&mut self) -> u32
+        ensures { Fills self.old self.new result }
+    {
+        let left = LIMIT - self.end;
+        self.end = LIMIT;
+        left
     }
 
     /// Places the pool at the area's end, and pads the area to words.

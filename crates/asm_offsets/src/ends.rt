@@ -4,7 +4,7 @@ ghost use Rattle.std.specs.Prelude.{◌≡◌, ◌≤◌, ◌++◌, ◌∷◌, [
 ghost use Rattle.asm_model.specs.Offsets.{Piece};
 ghost use Rattle.asm_offsets.specs.Coded.{extent_of_code, IsExtent, IsAlignment};
 ghost use Rattle.asm_offsets.specs.Finished.{finished, AreLaid};
-ghost use Rattle.asm_offsets.specs.Running.{nothing, pool_alignment_behind, start_behind, IsBehind, IsThere, Keeps, Places};
+ghost use Rattle.asm_offsets.specs.Running.{filling, nothing, pool_alignment_behind, start_behind, IsAdded, IsBehind, IsThere, Keeps, Places};
 
 use crate::area_end::AreaEnd;
 use crate::extents::{Extent, LaidPools, PlacedExtent, TooLarge};
@@ -108,6 +108,19 @@ impl Ends {
         match area {
             None => Ok(Ok(NOWHERE)),
             Some(area) => self.areas[area as usize].place(&extent),
+        }
+    }
+
+    /// Fills the area up to the last offset at which it may end. The bytes that were left; none before the first area.
+    pub fn fill(&mut self, area: Option<u32>) -> u32
+        requires there { IsThere area self.old }
+        ensures adds { (before : List Piece) → IsBehind before self.old
+            → IsAdded area filling before self.new result }
+        ensures keeps { length self.new ≡ length self.old }
+    {
+        match area {
+            None => 0,
+            Some(area) => self.areas[area as usize].fill(),
         }
     }
 
