@@ -5,15 +5,15 @@ use Rattle.std.proofs.lemmas.Bool.{lt-ltb, le-ltb, ne_eqb}
 use Rattle.sdt_fault.specs.declared.kinds.LineKind.{LineKind}
 use Rattle.sdt_fault.specs.declared.kinds.LineKind.TheVariants.{TooMany}
 use Rattle.asm_model.specs.Extents.{Extent, Block}
-use Rattle.asm_model.specs.Laid.{area_bytes}
+use Rattle.asm_model.specs.Laid.{area_bytes, is_too_many, taken}
 use Rattle.asm_model.specs.Offsets.{Piece, waiting, raised, end_behind, end_from, offset_of, size_behind, start_in, pooled, all_pooled}
 use Rattle.asm_offsets.specs.declared.extents.Extent.{Extent as Code}
 use Rattle.asm_offsets.specs.declared.extents.PlacedExtent.{PlacedExtent as Put}
 use Rattle.asm_offsets.specs.Coded.{extent_of_code}
-use Rattle.asm_offsets.specs.Running.{Standing, piece, pools_behind, StandsBehind, IsStanding, IsBehind, IsPlaced, IsThere}
+use Rattle.asm_offsets.specs.Running.{Standing, piece, pools_behind, StandsBehind, IsStanding, IsAdded, IsBehind, IsPlaced, IsThere, entry_behind, filling}
 use Rattle.asm_laying.specs.declared.taking.Taken.{Taken}
 use Rattle.asm_laying.specs.Reading.{most_bytes, capped, all_capped, coded}
-use Rattle.asm_laying.specs.Taking.{fitted, IsTakenUp, TakesOne}
+use Rattle.asm_laying.specs.Taking.{fitted, IsTakenUp, Loses, TakesOne}
 
 -- ---- what code says
 
@@ -58,98 +58,24 @@ large_all (Some k) (Block a n) before h =
     let goal : 2 ^ 24 < start_in k before (Block a n) + n = omega (arith, g, less) in goal
 large_all area e before h = h
 
--- ---- a statement that takes up nothing
-
-raised_one : (at : ℕ) → raised at 1 + 0 ≡ at
-raised_one at = omega arith
-
--- an area stands behind it as it did
-stands_still : (k i : ℕ) (before : List Piece) (a : Standing) → StandsBehind i before a → StandsBehind i (piece (Some k) (Block 1 0) ∷ before) a
-stands_still k i before a h = by_test (eqb k i) refl
-  where
-    by_test : (b : Bool) → eqb k i ≡ b → StandsBehind i (piece (Some k) (Block 1 0) ∷ before) a
-    by_test true e = record {
-      end =
-          h.end ∙ sym (raised_one (end_behind i before))
-          ∙ sym (ap (λ b. cond b (end_from (end_behind i before) (waiting i before) (Block 1 0)) (end_behind i before)) e);
-      waiting = h.waiting ∙ sym (ap (λ b. cond b (waiting i before) (waiting i before)) e);
-      placed = h.placed ∙ sym (ap (λ b. cond (b && false) (all_pooled i before) (pooled i before)) e);
-      pools = h.pools ∙ sym (ap (λ b. cond b (pools_behind i before) (pools_behind i before)) e);
-    }
-    by_test false e = record {
-      end = h.end ∙ sym (ap (λ b. cond b (end_from (end_behind i before) (waiting i before) (Block 1 0)) (end_behind i before)) e);
-      waiting = h.waiting ∙ sym (ap (λ b. cond b (waiting i before) (waiting i before)) e);
-      placed = h.placed ∙ sym (ap (λ b. cond (b && false) (all_pooled i before) (pooled i before)) e);
-      pools = h.pools ∙ sym (ap (λ b. cond b (pools_behind i before) (pools_behind i before)) e);
-    }
-
--- items keep what they have, where the one at a place may have more
-each_kept : {X : Type 0} (P Q : ℕ → Option X → Type 0) (xs : List X) (k : ℕ) → k < length xs → ((i : ℕ) → (k ≡ i → ⊥) → P i None → Q i None)
-    → ((i : ℕ) (x : X) → P i (Some x) → Q i (Some x))
-    → ((i : ℕ) → P i (slice_get xs i)) → (i : ℕ) → Q i (slice_get xs i)
-each_kept P Q [] k h none some all i = absurd (omega arith)
-each_kept P Q (x ∷ xs) k h none some all zero = some zero x (all zero)
-each_kept P Q (x ∷ []) zero h none some all (suc i) = none (suc i) (λ e. omega arith) (all (suc i))
-each_kept P Q (x ∷ y ∷ ys) zero h none some all (suc i) =
-    each_kept (λ j. P (suc j)) (λ j. Q (suc j)) (y ∷ ys) zero (omega arith) (λ j z. none (suc j) (λ e. omega arith)) (λ j. some (suc j)) (λ j. all (suc j)) i
-each_kept P Q (x ∷ xs) (suc k) h none some all (suc i) =
-    each_kept (λ j. P (suc j)) (λ j. Q (suc j)) xs k (omega arith) (λ j z. none (suc j) (λ e. z (omega arith))) (λ j. some (suc j)) (λ j. all (suc j)) i
-
-unplaced_stands : (i : ℕ) (before : List Piece) (o : Option Standing) → IsStanding i before o → IsStanding i (piece None (Block 1 0) ∷ before) o
-unplaced_stands i before None h = (refl, h)
-unplaced_stands i before (Some a) h = record { end = h.end; waiting = h.waiting; placed = h.placed; pools = h.pools }
-
-nothing_more : (area : Option ℕ) (before : List Piece) (areas : List Standing) → IsThere area areas → IsBehind before areas
-    → IsBehind (piece area (Block 1 0) ∷ before) areas
-nothing_more None before areas there h = record { each = λ i. unplaced_stands i before (slice_get areas i) (h.each i) }
-nothing_more (Some k) before areas there h = record {
-  each =
-      each_kept (λ i. IsStanding i before) (λ i. IsStanding i (piece (Some k) (Block 1 0) ∷ before)) areas k there (λ i e n. (ne_eqb k i e, n))
-      (λ i a s. stands_still k i before a s) h.each;
-}
-
--- a statement with a fault takes up nothing
-takes_nothing : (area : Option ℕ) (k : LineKind) (before : List Piece) (areas : List Standing) (t : Taken) → IsThere area areas → IsBehind before areas
-    → t.size ≡ 0 → t.literal ≡ None → t.fault ≡ Some k → IsTakenUp area (Err k) before areas t
-takes_nothing None k before areas t there h size literal fault = record {
-  size = size;
-  literal = literal;
-  fault = rw fault refl;
-  behind = nothing_more None before areas there h;
-}
-takes_nothing (Some n) k before areas t there h size literal fault = record {
-  size = size;
-  literal = literal;
-  fault = rw fault refl;
-  behind = nothing_more (Some n) before areas there h;
-}
-
-pub takes_unknown : (area : Option ℕ) (k : LineKind) (areas : List Standing) (t : Taken) → IsThere area areas → t.size ≡ 0 → t.literal ≡ None
-    → t.fault ≡ Some k → TakesOne area (Err k) areas areas t
-takes_unknown area k areas t there size literal fault = record {
-  kept = refl;
-  placed = λ before e h c. subst (λ r. IsTakenUp area (fitted area before r) before areas t) (sym (fault_is k e c))
-      (takes_nothing area k before areas t there h size literal fault);
-}
+-- ---- a statement that doesn't fit
 
 fitted_not : (area : Option ℕ) (before : List Piece) (e : Extent) → 2 ^ 24 < offset_of area before e + size_behind area before e
     → fitted area before (Ok e) ≡ Err TooMany
 fitted_not area before e h =
     ap (λ b. cond b (Err TooMany) (Ok e)) (lt-ltb area_bytes (offset_of area before e + size_behind area before e) h)
 
-pub takes_large : (area : Option ℕ) (x : Code) (old new : List Standing) (t : Taken) → IsThere area old → new ≡ old
+pub takes_large : (area : Option ℕ) (x : Code) (old same new : List Standing) (t : Taken) → same ≡ old
     → ((before : List Piece) → IsBehind before old → 2 ^ 24 < offset_of area before (extent_of_code x) + size_behind area before (extent_of_code x))
-    → t.size ≡ 0 → t.literal ≡ None → t.fault ≡ Some TooMany → TakesOne area (Ok x) old new t
-takes_large area x old new t there kept large size literal fault = record {
-  kept = ap (λ (l : List Standing). length l) kept;
+    → TakesOne area (Err TooMany) same new t → TakesOne area (Ok x) old new t
+takes_large area x old same new t kept large takes = record {
+  kept = takes.kept ∙ ap (λ (l : List Standing). length l) kept;
   placed = λ before e h c.
       let g = coded_is x e c in
       let over : 2 ^ 24 < offset_of area before g.0 + size_behind area before g.0 =
       large_all area g.0 before (subst (λ y. 2 ^ 24 < offset_of area before y + size_behind area before y) g.2 (large before h)) in
       let is : fitted area before e ≡ Err TooMany = ap (fitted area before) g.1 ∙ fitted_not area before g.0 over in
-      subst (λ r. IsTakenUp area r before new t) (sym is)
-      (subst (λ areas. IsTakenUp area (Err TooMany) before areas t) (sym kept)
-      (takes_nothing area TooMany before old t there h size literal fault));
+      subst (λ r. IsTakenUp area r before new t) (sym is) (takes.placed before (Err TooMany) (subst (IsBehind before) (sym kept) h) refl);
 }
 
 -- ---- a statement that is placed

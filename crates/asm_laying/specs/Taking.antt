@@ -1,6 +1,7 @@
--- What a statement takes up in its area, which is nothing where that isn't known or where it would end behind the last
--- offset that an area may have. This project's; statements before are listed with the nearest first.
-use Rattle.std.specs.Prelude.{◌≡◌, ℕ, List, [], ◌∷◌, length, Option, Some, None, Result, IfOk}
+-- What a statement takes up in its area. Where that isn't known it is nothing, and one that is too much, also one that would
+-- end behind the last offset that an area may have, takes up all that is left. This project's; statements before are listed
+-- with the nearest first.
+use Rattle.std.specs.Prelude.{◌≡◌, ℕ, List, [], ◌∷◌, length, Option, Some, None, Result, Err, IfOk}
 use Rattle.sdt_fault.specs.declared.NoMemory.{NoMemory}
 use Rattle.sdt_fault.specs.declared.kinds.LineKind.{LineKind}
 use Rattle.asm_model.specs.Extents.{Extent}
@@ -8,7 +9,7 @@ use Rattle.asm_model.specs.Laid.{taken, within}
 use Rattle.asm_model.specs.LayoutKinds.{fault_kinds}
 use Rattle.asm_model.specs.Offsets.{Piece, offset_of, size_behind}
 use Rattle.asm_offsets.specs.declared.extents.Extent.{Extent as Code}
-use Rattle.asm_offsets.specs.Running.{Standing, piece, IsBehind, entry_behind}
+use Rattle.asm_offsets.specs.Running.{Standing, piece, IsAdded, IsBehind, entry_behind}
 use Rattle.asm_laying.specs.declared.taking.Taken.{Taken}
 use Rattle.asm_laying.specs.Reading.{all_capped, coded}
 
@@ -25,6 +26,11 @@ pub record IsTakenUp (area : Option ℕ) (e : Result Extent LineKind) (before : 
   pub literal : t.literal ≡ entry_behind area before (taken e)
   pub fault : listed_kind t.fault ≡ fault_kinds e
   pub behind : IsBehind (piece area (taken e) ∷ before) ends
+
+-- a statement of the area with such a fault takes up so many bytes
+pub record Loses (area : Option ℕ) (k : LineKind) (old new : List Standing) (bytes : ℕ) : Type 0 where
+  pub kept : length new ≡ length old
+  pub adds : (before : List Piece) → IsBehind before old → IsAdded area (taken (Err k)) before new bytes
 
 -- a statement of the area is placed behind others, which code says to take up this
 pub record TakesOne (area : Option ℕ) (code : Result Code LineKind) (old new : List Standing) (t : Taken) : Type 0 where

@@ -32,8 +32,8 @@ pub struct LaidStatement<'a> {
     pub literal: Option<u32>,
     /// For DCB, of each operand whether it is a string by what is known at its line.
     pub strings: Listed<bool>,
-    /// The kind that is told of its faults that are found so far. A statement whose extent isn't known, or doesn't fit
-    /// into its area, takes up nothing.
+    /// The kind that is told of its faults that are found so far. A statement whose extent isn't known takes up nothing,
+    /// and one that is too much for its area all that is left of it.
     pub fault: Option<LineKind>,
 }
 

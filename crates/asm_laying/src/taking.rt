@@ -1,13 +1,13 @@
 //! What a statement takes up in its area and of the storage map, where that may not be known, and the kind that is told.
 
-ghost use Rattle.std.specs.Prelude.{◌≡◌, ◌++◌, None, Ok, Some};
+ghost use Rattle.std.specs.Prelude.{◌≡◌, ◌++◌, Err, Ok};
 ghost use Rattle.asm_model.specs.Kinds.{told_kind};
 ghost use Rattle.asm_model.specs.LayoutKinds.{fault_kinds};
-ghost use Rattle.asm_model.specs.Laid.{set_or};
+ghost use Rattle.asm_model.specs.Laid.{set_or, is_too_many as is_much};
 ghost use Rattle.asm_offsets.specs.Coded.{extent_of_code, IsExtent};
 ghost use Rattle.asm_offsets.specs.Running.{IsThere};
 ghost use Rattle.asm_laying.specs.Laying.{OkExtent};
-ghost use Rattle.asm_laying.specs.Taking.{listed_kind, TakesUp};
+ghost use Rattle.asm_laying.specs.Taking.{listed_kind, Loses, TakesOne, TakesUp};
 
 use asm_expr::kinds::earlier;
 use asm_offsets::{Ends, Extent, TooLarge};
@@ -21,18 +21,40 @@ pub struct Taken {
     pub size: u32,
     /// The number of its literal's entry in the pools of its area.
     pub literal: Option<u32>,
-    /// Why it takes up nothing, where what it says isn't known or doesn't fit.
+    /// Why it isn't placed, where what it says isn't known or doesn't fit.
     pub fault: Option<LineKind>,
 }
 
-/// A statement with such a fault takes up nothing.
-fn nothing(kind: LineKind) -> Taken
-    ensures size { result.size ≡ 0 }
-    ensures literal { result.literal ≡ None }
-    ensures fault { result.fault ≡ Some kind }
+/// Whether more is said than the limit.
+fn is_too_many(kind: LineKind) -> bool
+    ensures { result ≡ is_much kind }
 {
+    match kind {
+        LineKind::TooMany => true,
+        _ => false,
+    }
+}
+
+/// What a statement with such a fault takes up, in bytes: all that is left of its area where it is too much, and else
+/// nothing.
+fn lost(ends: &mut Ends, area: Option<u32>, kind: LineKind) -> u32
+    requires there { IsThere area ends.old }
+    ensures { Loses area kind ends.old ends.new result }
+{
+    if is_too_many(kind) {
+        return ends.fill(area);
+    }
+    0
+}
+
+/// A statement of the area with such a fault.
+fn refuse(ends: &mut Ends, area: Option<u32>, kind: LineKind) -> Taken
+    requires there { IsThere area ends.old }
+    ensures { TakesOne area (Err kind) ends.old ends.new result }
+{
+    let size = lost(ends, area, kind);
     Taken {
-        size: 0,
+        size,
         literal: None,
         fault: Some(kind),
     }
@@ -46,7 +68,7 @@ fn place(ends: &mut Ends, area: Option<u32>, extent: Extent) -> Result<Taken, No
 {
     let placed = ends.place(area, extent)?;
     match placed {
-        Err(TooLarge) => Ok(nothing(LineKind::TooMany)),
+        Err(TooLarge) => Ok(refuse(ends, area, LineKind::TooMany)),
         Ok(placed) => Ok(Taken {
             size: placed.size,
             literal: placed.literal,
@@ -66,7 +88,7 @@ pub fn take_up(
     ensures { TakesUp area extent ends.old ends.new result }
 {
     match extent {
-        Err(kind) => Ok(nothing(kind)),
+        Err(kind) => Ok(refuse(ends, area, kind)),
         Ok(extent) => place(ends, area, extent),
     }
 }

@@ -9,11 +9,11 @@ use Rattle.asm_laying.proofs.taking.place.Goals as goal
 
 pub returns-in-Err : goal.returns-in-Err
 returns-in-Err c =
-    takes_large c.args.area c.args.extent c.args.ends.now c.place.new.self c.nothing.result c.requires.there
+    takes_large c.args.area c.args.extent c.args.ends.now c.place.new.self c.refuse.new.ends c.refuse.result
     (subst (λ (r : Result PlacedExtent TooLarge). Keeps c.args.ends.now c.place.new.self (Ok r)) c.in-Err.is c.in_ok-placed.ensures.keeps)
     (λ before h. subst (λ (r : Result PlacedExtent TooLarge). Places c.args.area (extent_of_code c.args.extent) before c.place.new.self (Ok r)) c.in-Err.is
     (c.in_ok-placed.ensures.places before h))
-    c.nothing.ensures.size c.nothing.ensures.literal c.nothing.ensures.fault
+    c.refuse.ensures
 
 pub returns-in-Ok : goal.returns-in-Ok
 returns-in-Ok c =

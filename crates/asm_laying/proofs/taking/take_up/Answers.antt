@@ -4,14 +4,11 @@ use Rattle.sdt_fault.specs.declared.kinds.LineKind.{LineKind}
 use Rattle.asm_offsets.specs.declared.extents.Extent.{Extent}
 use Rattle.asm_laying.specs.Laying.{OkExtent}
 use Rattle.asm_laying.specs.Taking.{TakesOne, TakesUp}
-use Rattle.asm_laying.proofs.TakingLemmas.{takes_unknown}
 use Rattle.asm_laying.proofs.taking.take_up.Goals as goal
 
 pub returns-in-Err : goal.returns-in-Err
 returns-in-Err c =
-    subst (λ (e : Result Extent LineKind). TakesOne c.args.area e c.args.ends.now c.args.ends.now c.nothing.result) (sym c.in-Err.is)
-    (takes_unknown c.args.area c.in-Err.kind c.args.ends.now c.nothing.result c.requires.there c.nothing.ensures.size
-    c.nothing.ensures.literal c.nothing.ensures.fault)
+    subst (λ (e : Result Extent LineKind). TakesOne c.args.area e c.args.ends.now c.refuse.new.ends c.refuse.result) (sym c.in-Err.is) c.refuse.ensures
 
 pub place-requires-clause-extent : goal.place-requires-clause-extent
 place-requires-clause-extent c = subst (λ (e : Result Extent LineKind). OkExtent e) c.in-Ok.is c.requires.extent
