@@ -1,6 +1,6 @@
 pub mod AreaLemmas
 pub mod FinishLemmas
-pub mod FrontLemmas
+pub mod JudgingLemmas
 pub mod LateLemmas
 pub mod OutlineLemmas
 pub mod SeenLemmas

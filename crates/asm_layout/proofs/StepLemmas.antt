@@ -20,16 +20,15 @@ use Rattle.asm_model.specs.FaultSets.{first_told}
 use Rattle.asm_model.specs.Kinds.{told_kind, kind_if}
 use Rattle.asm_model.specs.Labels.{Defined, Unnamed, Label, Equal, MapField, RegisterName, defined_by}
 use Rattle.asm_model.specs.Laid.{LaidLine, laid_behind, statements_of}
-use Rattle.asm_model.specs.LayoutKinds.{exponent, exponent_kinds, area_kinds, no_area_kinds, contents_kinds, contents_behind, name_kinds, settled_kinds, state_kinds, in_thumb_area, is_named_otherwise, names_behind, first_equal, told_at}
+use Rattle.asm_model.specs.LayoutKinds.{exponent, exponent_kinds, area_kinds, no_area_kinds, contents_kinds, contents_behind, name_kinds, settled_kinds, state_kinds, in_thumb_area, is_named_otherwise, names_behind, first_equal, layout_kinds}
 use Rattle.asm_model.specs.OwnKinds.{own_kinds}
 use Rattle.std.specs.Global.{Vec}
-use Rattle.sdt_fault.specs.declared.answer.Fault.{Fault}
 use Rattle.asm_checks.specs.declared.starts.AreaStart.{AreaStart}
 use Rattle.asm_checks.specs.Starts.{AreStarts, IsLineOf}
 use Rattle.asm_checks.specs.declared.checks.Checks.{Checks}
 use Rattle.asm_checks.specs.Checked.{IsChecked}
 use Rattle.asm_laying.specs.declared.laying.Laying.{Laying}
-use Rattle.asm_laying.specs.Laying.{IsLaying, IsLaid, IsPlaced, told_of}
+use Rattle.asm_laying.specs.Laying.{IsLaying, told_of}
 use Rattle.asm_laying.specs.declared.laying.LaidStatement.{LaidStatement}
 use Rattle.asm_registers.specs.declared.registers.Registers.{Registers}
 use Rattle.asm_registers.specs.Kept.{AreRegisters}
@@ -37,10 +36,10 @@ use Rattle.asm_model.specs.Forms.{same}
 use Rattle.source_model.specs.Registers.{register_kinds}
 use Rattle.asm_layout.specs.declared.walking.CheckedLine.{CheckedLine}
 use Rattle.asm_layout.specs.declared.walking.Walk.{Walk}
-use Rattle.asm_layout.specs.Layout.{AreStatements, IsTold}
+use Rattle.asm_layout.specs.Layout.{AreStatements}
 use Rattle.asm_layout.specs.Outline.{circle_of}
-use Rattle.asm_layout.specs.Walking.{IsMark, HasMark, IsCounted, one_more, or_false, IsWalking, IsCheckedLine, Keeps, told_by}
-use Rattle.asm_layout.proofs.ToldLemmas.{none_first, none_parts, told_parts}
+use Rattle.asm_layout.specs.Walking.{IsMark, HasMark, IsCounted, one_more, or_false, told_unless, told_by, AreTold, AreClear, IsWalking, IsCheckedLine, Keeps}
+use Rattle.asm_layout.proofs.ToldLemmas.{none_first, none_second, none_parts, told_parts, told_once}
 
 -- ---- how many lines there are
 
@@ -129,61 +128,62 @@ count_is settled marks n m (Label name) before h k = h ∙ omega arith
 count_is settled marks n m (MapField name) before h k = h ∙ omega arith
 count_is settled marks n m (RegisterName name r) before h k = h ∙ omega arith
 
--- ---- what is told of a checked line
+-- ---- lines so far
 
-pub checked_told : (d : List LaidName) (names settled : List (List ℕ)) (all : List Statement) (l : LaidLine) (before : List LaidLine) (old new : Walk)
-    (j : CheckedLine)
-    → IsCheckedLine d names settled all l before old new j → told_by names settled all l before ≡ first_told (told_of l) j.found
-checked_told d names settled all l before old new j h = told_parts names settled all l before ∙ ap (first_told (told_of l)) (sym h.told)
+pub are_statements : (names settled : List (List ℕ)) (all : List Statement) (before : List LaidLine) (xs : List LaidStatement)
+    → AreTold names settled all before xs → AreStatements before xs
+are_statements names settled all [] xs h = h
+are_statements names settled all (l ∷ before) xs h = (h.0, h.1, h.2, h.3.statement, are_statements names settled all before h.0 h.4)
 
-pub err_told : (d : List LaidName) (l : LaidLine) (before : List LaidLine) (state : Laying) (r : Result LaidStatement LineKind) (k : LineKind) → r ≡ Err k
-    → IsPlaced d l before state r
-    → told_of l ≡ Some k
-err_told d l before state r k e h = subst (λ (x : Result LaidStatement LineKind). IsPlaced d l before state x) e h
-
-pub ok_laid : (d : List LaidName) (l : LaidLine) (before : List LaidLine) (state : Laying) (r : Result LaidStatement LineKind) (p : LaidStatement)
-    → r ≡ Ok p → IsPlaced d l before state r
-    → IsLaid d l before state p
-ok_laid d l before state r p e h = subst (λ (x : Result LaidStatement LineKind). IsPlaced d l before state x) e h
-
-pub tells : (s : Statement) (o : Option LineKind) (k : LineKind) (f : Fault) → o ≡ Some k → IsTold (Some (s, k)) f → IsTold (told_at s o) f
-tells s o k f e h = subst (λ (x : Option LineKind). IsTold (told_at s x) f) (sym e) h
+-- where nothing is told of lines, nothing is told of those in front and of the last
+pub clear_front : (xs : List LaidStatement) (x : LaidStatement) → AreClear (xs ++ x ∷ []) → AreClear xs × (x.fault ≡ None)
+clear_front [] x h = (tt, h.0)
+clear_front (y ∷ ys) x h = let p = clear_front ys x h.1 in ((h.0, p.0), p.1)
 
 -- ---- a line is kept
 
-pub keep_line : (d : List LaidName) (names settled : List (List ℕ)) (all : List Statement) (s : Statement) (before : List LaidLine) (old mid new : Walk)
-    (j : CheckedLine) (p : LaidStatement)
-    → IsWalking d names settled all before old → IsCheckedLine d names settled all (laid_behind d s before) before old mid j → j.found ≡ None
-    → IsLaid d (laid_behind d s before) before mid.laying p → Keeps p j.laid.number j.thumb_area mid new
-    → IsWalking d names settled all (laid_behind d s before ∷ before) new
-keep_line d names settled all s before old mid new j p w h none laid k =
+-- where nothing is told of a line, it can be read, and the checks tell nothing
+unchecked : (names settled : List (List ℕ)) (all : List Statement) (d : List LaidName) (s : Statement) (before : List LaidLine)
+    → told_by names settled all (laid_behind d s before) before ≡ None
+    → told_kind (checked_kinds settled all (laid_behind d s before) before) ≡ None
+unchecked names settled all d s before e =
     let l = laid_behind d s before in
-    let parts : None ≡ first_told (told_kind (checked_kinds settled all l before)) (told_kind (register_kinds names l before)) = sym none ∙ h.told in
-    let unchecked : told_kind (checked_kinds settled all l before) ≡ None =
-    none_first (told_kind (checked_kinds settled all l before)) (told_kind (register_kinds names l before)) parts in
-    let at = laid.statement.line in
-    let line : IsLineOf all p.line.statement.now.what p.line.place.area j.thumb_area j.laid.number l before =
-    subst (λ (w : What). IsLineOf all w p.line.place.area j.thumb_area j.laid.number l before) (ap (λ (t : Statement). t.what) (sym at.statement))
-    (record {
-      said = refl;
-      stands = sym at.place.area;
-      counted = refl;
-      state = h.within ∙ ap (λ (o : Option ℕ). in_thumb_area o all) (sym at.place.area);
-      aligned = aligned s.what l before settled all j.laid.number refl (numbers s.what l j.laid.number h.tells.number).exponent_is unchecked;
-    }) in
-    let untold : told_by names settled all l before ≡ None = checked_told d names settled all l before old mid j h ∙ rw (laid.told, none) refl in
+    let kinds = layout_kinds settled all l before ++ register_kinds names l before in
+    let read = unread_none s.unread (told_kind kinds) (sym (told_once s.unread kinds) ∙ e) in
+    let parts = sym read ∙ told_parts names settled all d s before in
+    none_first (told_kind (checked_kinds settled all l before)) (told_kind (register_kinds names l before))
+    (sym (none_second (told_of l) (first_told (told_kind (checked_kinds settled all l before)) (told_kind (register_kinds names l before))) parts))
+  where
+    unread_none : (u o : Option LineKind) → told_unless u o ≡ None → o ≡ None
+    unread_none None o e = e
+    unread_none (Some k) o e = absurd (cc)
+
+pub keep_line : (d : List LaidName) (names settled : List (List ℕ)) (all : List Statement) (s : Statement) (before : List LaidLine) (old mid new : Walk)
+    (j : CheckedLine)
+    → IsWalking d names settled all before old → IsCheckedLine d names settled all (laid_behind d s before) before old mid j
+    → Keeps j mid new → IsWalking d names settled all (laid_behind d s before ∷ before) new
+keep_line d names settled all s before old mid new j w h k =
+    let l = laid_behind d s before in
+    let at = h.line.statement.line in
+    let lines : new.lines.items ≡ old.lines.items ++ j.laid ∷ [] = k.lines ∙ ap (λ (v : Vec LaidStatement). v.items ++ j.laid ∷ []) h.kept in
     record {
-      lays = subst (λ (x : Laying). IsLaying d (l ∷ before) x) (sym k.laying) laid.laying;
-      checked = subst (λ (x : Checks). IsChecked (l ∷ before) x) (sym k.checks) (h.checked none);
-      named = subst (λ (x : Registers). AreRegisters names (l ∷ before) x) (sym k.registers) (h.named none);
-      begun = k.starts all l before (subst (λ (x : List AreaStart). AreStarts all before x) (sym h.begun) w.begun) line;
-      kept = (
-        old.lines.items,
-        p,
-        k.lines ∙ ap (λ (v : Vec LaidStatement). v.items ++ p ∷ []) h.kept,
-        laid.statement,
-        w.kept,
-      );
+      lays = subst (λ (x : Laying). IsLaying d (l ∷ before) x) (sym k.laying) h.lays;
+      checked = subst (λ (x : Checks). IsChecked (l ∷ before) x) (sym k.checks) h.checked;
+      named = subst (λ (x : Registers). AreRegisters names (l ∷ before) x) (sym k.registers) h.named;
+      begun = λ clear.
+          let both = clear_front old.lines.items j.laid (subst AreClear lines clear) in
+          let none : told_by names settled all l before ≡ None = sym h.line.told ∙ both.1 in
+          let line : IsLineOf all j.laid.line.statement.now.what j.laid.line.place.area j.thumb_area j.number l before =
+          subst (λ (w : What). IsLineOf all w j.laid.line.place.area j.thumb_area j.number l before) (ap (λ (t : Statement). t.what) (sym at.statement))
+          (record {
+            said = refl;
+            stands = sym at.place.area;
+            counted = refl;
+            state = h.within ∙ ap (λ (o : Option ℕ). in_thumb_area o all) (sym at.place.area);
+            aligned = aligned s.what l before settled all j.number refl (numbers s.what l j.number h.number).exponent_is
+                (unchecked names settled all d s before none);
+          }) in
+          k.starts all l before (subst (λ (x : List AreaStart). AreStarts all before x) (sym h.begun) (w.begun both.0)) line;
+      kept = (old.lines.items, j.laid, lines, h.line, w.kept);
       counted = k.equals ∙ h.counted;
-      none = rw w.none (ap (told_at s) untold);
     }

@@ -1,6 +1,6 @@
 -- The kind that is told of a line, by the parts that are found one after the other.
-use Rattle.std.proofs.Common.{◌≡◌, ℕ, Bool, true, false, List, ◌∷◌, ◌++◌, Option, Some, None, refl, sym, ap, ◌∙◌, arith}
-use Rattle.std.specs.Prelude.{nat_lt, ◌==◌, ◌+◌, if◌then◌else◌}
+use Rattle.std.proofs.Common.{◌≡◌, ℕ, Bool, true, false, List, [], ◌∷◌, ◌++◌, Option, Some, None, refl, sym, ap, ◌∙◌, arith, append-nil}
+use Rattle.std.specs.Prelude.{nat_lt, ◌==◌, ◌+◌, if◌then◌else◌, Result, Ok, Err}
 use Rattle.sdt_fault.specs.declared.kinds.LineKind.{LineKind}
 use Rattle.sdt_fault.specs.declared.kinds.LineKind.TheVariants.{Syntax, UnknownWord, FloatingPoint, BadOperand, Constant, Forward, DuplicateName, WrongType, OutOfRange, Nesting, Assert, NoArea, DivideByZero, TooDeep, TooMany}
 use Rattle.asm_checks.specs.Checked.{checked_kinds}
@@ -11,11 +11,15 @@ use Rattle.asm_model.specs.Kinds.{rank, earlier, told_kind, kind_if}
 use Rattle.asm_model.proofs.FaultLemmas.{first_assoc, told_by_parts}
 use Rattle.asm_model.proofs.KindLemmas.{takes, stays}
 use Rattle.asm_model.specs.Labels.{defined_by}
-use Rattle.asm_model.specs.Laid.{LaidLine, statements_of}
-use Rattle.asm_model.specs.LayoutKinds.{fault_kinds, map_kinds, no_area_kinds, contents_kinds, contents_behind, area_kinds, name_kinds, settled_kinds, first_equal, state_kinds, area_bytes}
+use Rattle.asm_model.specs.Laid.{LaidLine, area_bytes, statements_of, laid_behind}
+use Rattle.asm_model.specs.declared.names.LaidName.{LaidName}
+use Rattle.asm_model.specs.Extents.{Extent}
+use Rattle.asm_model.proofs.LaidLemmas.{line_fits}
+use Rattle.asm_model.specs.LayoutKinds.{fault_kinds, map_kinds, no_area_kinds, contents_kinds, contents_behind, area_kinds, name_kinds, settled_kinds, first_equal, state_kinds, layout_kinds}
 use Rattle.asm_model.specs.OwnKinds.{own_kinds}
 use Rattle.source_model.specs.Registers.{register_kinds}
-use Rattle.asm_layout.specs.Walking.{told_by}
+use Rattle.source_model.specs.SourceFaults.{unless_unread}
+use Rattle.asm_layout.specs.Walking.{told_unless}
 
 -- ---- the order of two kinds doesn't count
 
@@ -98,15 +102,57 @@ joined_kinds es ms hs bs cs ds fs gs ts ns rs =
     (ap (λ o. first_told (first_told o (told_kind ns)) (told_kind rs))
     (moved (first_told (told_kind es) (told_kind ms)) (told_kind hs) (told_kind bs) (told_kind cs) (told_kind ds) (told_kind fs) (told_kind gs) (told_kind ts)))
 
-pub told_parts : (names settled : List (List ℕ)) (all : List Statement) (l : LaidLine) (before : List LaidLine)
-    → told_by names settled all l before ≡ first_told (told_of l) (first_told (told_kind (checked_kinds settled all l before))
-    (told_kind (register_kinds names l before)))
-told_parts names settled all l before =
-    joined_kinds (fault_kinds l.extent) (map_kinds l.seen l.statement.what) (no_area_kinds l.area (defined_by l.statement) l.statement.what)
-    (contents_kinds (contents_behind (l.statement ∷ statements_of before)) l.thumb l.statement.what) (area_kinds l.seen l.statement.what before)
-    (name_kinds l.statement (statements_of before)) (settled_kinds settled (first_equal (defined_by l.statement) (statements_of before)))
-    (state_kinds l.area l.thumb l.statement.what all)
-    (kind_if (nat_lt area_bytes (l.offset + l.size)) TooMany) (own_kinds l.statement) (register_kinds names l before)
+-- ---- a line behind the last offset has its extent's kind
+
+last_of_all : (k : LineKind) → earlier k TooMany ≡ k
+last_of_all Syntax = refl
+last_of_all UnknownWord = refl
+last_of_all FloatingPoint = refl
+last_of_all BadOperand = refl
+last_of_all Constant = refl
+last_of_all Forward = refl
+last_of_all DuplicateName = refl
+last_of_all WrongType = refl
+last_of_all OutOfRange = refl
+last_of_all Nesting = refl
+last_of_all Assert = refl
+last_of_all NoArea = refl
+last_of_all DivideByZero = refl
+last_of_all TooDeep = refl
+last_of_all TooMany = refl
+
+last_joined : (k : LineKind) (o : Option LineKind) (b : Bool) → first_told (first_told (Some k) o) (told_kind (kind_if b TooMany)) ≡ first_told (Some k) o
+last_joined k None true = ap Some (last_of_all k)
+last_joined k None false = refl
+last_joined k (Some j) true = ap Some (last_of_all (earlier k j))
+last_joined k (Some j) false = refl
+
+last_vanishes : (r : Result Extent LineKind) (ms : List LineKind) (b : Bool) → ((e : Extent) → r ≡ Ok e → b ≡ false)
+    → told_kind (fault_kinds r ++ ms ++ kind_if b TooMany) ≡ told_kind (fault_kinds r ++ ms)
+last_vanishes (Ok e) ms b fits = rw (fits e refl) (ap told_kind (append-nil ms))
+last_vanishes (Err k) ms b fits =
+    told_by_parts (k ∷ ms) (kind_if b TooMany) ∙ ap (λ o. first_told o (told_kind (kind_if b TooMany))) (told_by_parts (k ∷ []) ms)
+    ∙ last_joined k (told_kind ms) b ∙ sym (told_by_parts (k ∷ []) ms)
+
+-- ---- a line's kinds
+
+pub told_parts : (names settled : List (List ℕ)) (all : List Statement) (d : List LaidName) (s : Statement) (before : List LaidLine)
+    → told_kind (layout_kinds settled all (laid_behind d s before) before ++ register_kinds names (laid_behind d s before) before)
+    ≡ first_told (told_of (laid_behind d s before)) (first_told (told_kind (checked_kinds settled all (laid_behind d s before) before))
+    (told_kind (register_kinds names (laid_behind d s before) before)))
+told_parts names settled all d s before =
+    let l = laid_behind d s before in
+    joined_kinds (fault_kinds l.extent) (map_kinds l.seen s.what) (no_area_kinds l.area (defined_by s) s.what)
+    (contents_kinds (contents_behind (s ∷ statements_of before)) l.thumb s.what) (area_kinds l.seen s.what before)
+    (name_kinds s (statements_of before)) (settled_kinds settled (first_equal (defined_by s) (statements_of before)))
+    (state_kinds l.area l.thumb s.what all)
+    (kind_if (nat_lt area_bytes (l.offset + l.size)) TooMany) (own_kinds s) (register_kinds names l before)
+    ∙ ap (λ o. first_told o (first_told (told_kind (checked_kinds settled all l before)) (told_kind (register_kinds names l before))))
+    (last_vanishes l.extent (map_kinds l.seen s.what) (nat_lt area_bytes (l.offset + l.size)) (line_fits d s before))
+
+pub told_once : (u : Option LineKind) (ks : List LineKind) → told_kind (unless_unread u ks) ≡ told_unless u (told_kind ks)
+told_once None ks = refl
+told_once (Some k) ks = refl
 
 -- where nothing is told of two, nothing is told of each
 pub none_first : (a b : Option LineKind) → None ≡ first_told a b → a ≡ None

@@ -1,9 +1,7 @@
 -- The lines of a source, one behind the other.
-use Rattle.std.proofs.Common.{◌≡◌, inl, inr, ◌<◌, ℕ, zero, suc, ◌+◌, Bool, List, [], ◌∷◌, ◌++◌, length, Option, Some, None, Result, Ok, refl, sym, ap, ◌∙◌, subst, arith, append_assoc, length-append}
+use Rattle.std.proofs.Common.{◌≡◌, ◌<◌, ℕ, zero, suc, ◌+◌, Bool, List, [], ◌∷◌, ◌++◌, length, Option, Some, None, refl, sym, ap, ◌∙◌, subst, arith, append_assoc, append-nil, length-append}
 use Rattle.std.specs.List.{slice_get}
 use Rattle.std.specs.Option.{is_some}
-use Rattle.sdt_fault.specs.declared.answer.Fault.{Fault}
-use Rattle.sdt_fault.specs.declared.kinds.LineKind.{LineKind}
 use Rattle.asm_laying.specs.Carried.{most_statements}
 use Rattle.asm_laying.specs.Laying.{IsLaying, MayLay}
 use Rattle.asm_model.specs.declared.statements.Statement.{Statement}
@@ -21,12 +19,10 @@ use Rattle.asm_model.specs.declared.statements.What.TheVariants as what
 use Rattle.asm_names.specs.Source.{IsReadDefined, AreRead}
 use Rattle.asm_expr.specs.Places.{names_of, AreFirst}
 use Rattle.source_model.specs.Registers.{register_names}
-use Rattle.source_model.specs.SourceFaults.{first_laid}
 use Rattle.asm_layout.specs.declared.outline.Outline.{Outline}
 use Rattle.asm_layout.specs.declared.walking.Walk.{Walk}
-use Rattle.asm_layout.specs.Layout.{IsTold}
 use Rattle.asm_layout.specs.Outline.{circle_of, circles_in, repeats_in, IsOutline}
-use Rattle.asm_layout.specs.Walking.{HasMark, IsOutlined, IsWalking, IsAlong, StepsOn}
+use Rattle.asm_layout.specs.Walking.{HasMark, IsOutlined, IsWalking, IsAlong, IsWalked, StepsOn}
 use Rattle.asm_layout.proofs.SeenLemmas.{declared_before, seen_declared, names_kept, are_first}
 
 -- ---- lists
@@ -167,11 +163,10 @@ is_outlined statements ys x zs rest o w outlined e h =
 
 -- ---- a statement more
 
-pub goes_along : (statements ys : List Statement) (x : Statement) (zs rest : List Statement) (o : Outline) (old new : Walk) (r : Result (Unit {0}) Fault)
-    (u : Unit {0})
+pub goes_along : (statements ys : List Statement) (x : Statement) (zs rest : List Statement) (o : Outline) (old new : Walk)
     → IsOutline (reversed statements []) o → rest ≡ x ∷ zs → IsAlong statements ys rest old
-    → StepsOn o x old new (Ok u) → IsAlong statements (ys ++ x ∷ []) zs new
-goes_along statements ys x zs rest o old new r u outlined e h steps =
+    → StepsOn o x old new → IsAlong statements (ys ++ x ∷ []) zs new
+goes_along statements ys x zs rest o old new outlined e h steps =
     let s = reversed statements [] in
     let d = declared_names s in
     let before = laid_of d (reversed ys []) in
@@ -184,13 +179,14 @@ goes_along statements ys x zs rest o old new r u outlined e h steps =
           (subst (λ (c : List LaidName). IsWalking c (register_names s) (settled (equals_in s)) s (laid_behind c x before ∷ before) new) outlined.names walks);
     }
 
--- ---- a faulty line
+-- ---- behind the last
 
-pub first_stays : (names settled : List (List ℕ)) (all : List Statement) (d : List LaidName) (rest ss : List Statement) (t : Statement × LineKind)
-    → first_laid names settled all (laid_of d ss) ≡ Some t → first_laid names settled all (laid_of d (reversed rest ss)) ≡ Some t
-first_stays names settled all d [] ss t e = e
-first_stays names settled all d (r ∷ rest) ss t e = first_stays names settled all d rest (r ∷ ss) t (rw e refl)
+pub nothing : (xs : List Statement) → length xs < 1 → xs ≡ []
+nothing [] less = refl
+nothing (x ∷ xs) less = absurd (omega arith)
 
-pub told_moves : (o p : Option (Statement × LineKind)) (f : Fault) → ((t : Statement × LineKind) → o ≡ Some t → p ≡ Some t) → IsTold o f → IsTold p f
-told_moves o p f moves (inl e) = inl e
-told_moves o p f moves (inr h) = inr (h.0, h.1, moves (h.0, h.1) h.2, h.3)
+pub walked_end : (statements ys : List Statement) (w : Walk) → IsAlong statements ys [] w → IsWalked (reversed statements []) w
+walked_end statements ys w h =
+    let s = reversed statements [] in
+    subst (λ (l : List Statement). IsWalking (declared_names s) (register_names s) (settled (equals_in s)) s (laid_of (declared_names s) (reversed l [])) w)
+    (sym (h.whole ∙ append-nil ys)) h.walks

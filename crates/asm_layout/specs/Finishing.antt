@@ -1,7 +1,6 @@
--- A source whose lines have no fault of their own. This project's.
-use Rattle.std.specs.Prelude.{◌≡◌, ℕ, List, Option, Some, None, Result, Ok}
+-- A source whose lines are laid, and its outcome. This project's.
+use Rattle.std.specs.Prelude.{◌≡◌, ℕ, List, Option, Some, None, Result}
 use Rattle.std.specs.Global.{Vec}
-use Rattle.sdt_fault.specs.declared.answer.Fault.{Fault}
 use Rattle.asm_model.specs.declared.names.LaidName.{LaidName}
 use Rattle.asm_model.specs.declared.statements.Statement.{Statement}
 use Rattle.asm_model.specs.Meaning.{named_in}
@@ -15,6 +14,7 @@ use Rattle.asm_model.specs.Said.{AllSaid}
 use Rattle.asm_layout.specs.declared.outline.Outline.{Outline}
 use Rattle.asm_layout.specs.declared.walking.Walk.{Walk}
 use Rattle.asm_layout.specs.declared.laid.Layout.{Layout}
+use Rattle.asm_layout.specs.declared.laid.LineFault.{LineFault}
 use Rattle.asm_laying.specs.Laying.{AreKnownNames}
 use Rattle.asm_layout.specs.Layout.{AreStatements, IsOutcome}
 use Rattle.asm_layout.specs.Outline.{IsOutline}
@@ -47,11 +47,11 @@ AreAllNames (Some known) declared = names_of known.items ≡ names_of declared
 pub record IsWhole (statements : List Statement) (o : Outline) (w : Walk) : Type 0 where
   pub said : AllSaid statements
   pub outlined : IsOutline statements o
-  pub walked : IsWalked statements (Ok w)
+  pub walked : IsWalked statements w
 
 pub record MayFinish (o : Outline) (w : Walk) : Type 0 where
   pub statements : List Statement
   pub whole : IsWhole statements o w
 
-abbrev pub Finishes : Outline → Walk → Result Layout Fault → Type 0
+abbrev pub Finishes : Outline → Walk → Result Layout (Vec LineFault) → Type 0
 Finishes o w r = (statements : List Statement) → IsWhole statements o w → IsOutcome statements r

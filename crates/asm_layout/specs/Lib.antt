@@ -1,7 +1,7 @@
 -- What the clauses of the crate cite.
 pub mod Areas
 pub mod Finishing
-pub mod Front
+pub mod Judging
 pub mod Late
 pub mod Layout
 pub mod Outline

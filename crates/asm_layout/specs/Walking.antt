@@ -1,29 +1,26 @@
--- The lines of a source so far, laid and checked. This project's. Lines are listed with the nearest first.
-use Rattle.std.specs.Prelude.{◌≡◌, ℕ, ◌+◌, List, [], ◌∷◌, ◌++◌, length, slice_get, Bool, false, Option, Some, None, Result, Ok, Err}
+-- The lines of a source so far, laid and checked, each with the kind that is told of it so far. This project's. Lines are listed with the nearest first.
+use Rattle.std.specs.Prelude.{◌≡◌, ℕ, ◌+◌, List, [], ◌∷◌, ◌++◌, length, slice_get, Bool, false, Option, Some, None}
 use Rattle.std.specs.Option.{is_some}
-use Rattle.sdt_fault.specs.declared.answer.Fault.{Fault}
 use Rattle.sdt_fault.specs.declared.kinds.LineKind.{LineKind}
 use Rattle.asm_model.specs.declared.statements.Statement.{Statement}
-use Rattle.asm_model.specs.FaultSets.{first_told}
 use Rattle.asm_model.specs.Kinds.{told_kind}
 use Rattle.asm_laying.specs.declared.laying.LaidStatement.{LaidStatement}
 use Rattle.asm_checks.specs.States.{AreStates}
 use Rattle.asm_checks.specs.Starts.{AreStarts, IsLineOf}
-use Rattle.asm_checks.specs.Checked.{checked_kinds, IsChecked}
-use Rattle.asm_laying.specs.Laying.{IsLaying, Tells}
+use Rattle.asm_checks.specs.Checked.{IsChecked}
+use Rattle.asm_laying.specs.Laying.{IsLaying, IsStatement}
+use Rattle.asm_laying.specs.Reading.{said_number}
 use Rattle.asm_registers.specs.Kept.{AreRegisters}
 use Rattle.asm_model.specs.declared.names.LaidName.{LaidName}
 use Rattle.asm_model.specs.Labels.{Defined, Equal, defined_by, declared_names}
 use Rattle.asm_model.specs.Laid.{LaidLine, statements_of, names_behind, laid, laid_behind, laid_of, reversed}
 use Rattle.asm_model.specs.Meaning.{named_in}
-use Rattle.asm_model.specs.LayoutKinds.{layout_kinds, equals_in, settled, in_thumb_area, told_at, is_repeated, names_in, names_behind as source_names}
+use Rattle.asm_model.specs.LayoutKinds.{layout_kinds, equals_in, settled, in_thumb_area, is_repeated, names_in, names_behind as source_names}
 use Rattle.source_model.specs.Registers.{register_names, register_kinds}
-use Rattle.source_model.specs.SourceFaults.{first_laid}
+use Rattle.source_model.specs.SourceFaults.{unless_unread}
 use Rattle.asm_layout.specs.declared.outline.Outline.{Outline}
 use Rattle.asm_layout.specs.declared.walking.CheckedLine.{CheckedLine}
 use Rattle.asm_layout.specs.declared.walking.Walk.{Walk}
-use Rattle.asm_layout.specs.Front.{front_lines, front_laid}
-use Rattle.asm_layout.specs.Layout.{AreStatements, IsTold}
 use Rattle.asm_layout.specs.Outline.{circle_of, circles_in}
 
 -- ---- names for expressions
@@ -61,18 +58,46 @@ pub record IsOutlined (d : List LaidName) (settled : List (List ℕ)) (marks rep
   pub names : (q : List ℕ) → is_some (named_in q (names_behind d s before).list) ≡ is_some (named_in q d)
   pub repeated : slice_get repeats (length before) ≡ Some (is_repeated (source_names (statements_of before)) (names_in s))
 
+-- ---- what is told of a line so far
+
+-- the kind that is told of a line's kinds: of one that can't be read that kind alone
+abbrev pub told_unless : Option LineKind → Option LineKind → Option LineKind
+told_unless None found = found
+told_unless (Some k) found = Some k
+
+-- by the lines before it, where a source has these names for registers, these settled names and these statements
+abbrev pub told_by : List (List ℕ) → List (List ℕ) → List Statement → LaidLine → List LaidLine → Option LineKind
+told_by names settled all l before =
+    told_kind (unless_unread l.statement.unread (layout_kinds settled all l before ++ register_kinds names l before))
+
+-- a line with the kind that is told of it so far
+pub record IsToldLine (names settled : List (List ℕ)) (all : List Statement) (l : LaidLine) (before : List LaidLine) (x : LaidStatement)
+    : Type 0 where
+  pub statement : IsStatement x l before
+  pub told : x.fault ≡ told_by names settled all l before
+
+abbrev pub AreTold : List (List ℕ) → List (List ℕ) → List Statement → List LaidLine → List LaidStatement → Type 0
+AreTold names settled all [] xs = xs ≡ []
+AreTold names settled all (l ∷ before) xs =
+    (front : List LaidStatement) × (x : LaidStatement) × (xs ≡ front ++ x ∷ []) × IsToldLine names settled all l before x
+    × AreTold names settled all before front
+
+-- nothing is told so far
+abbrev pub AreClear : List LaidStatement → Type 0
+AreClear [] = Unit {0}
+AreClear (x ∷ xs) = (x.fault ≡ None) × AreClear xs
+
 -- ---- lines so far
 
--- lines without faults, where a source has these names for registers, these settled names and these statements
+-- where a source has these names for registers, these settled names and these statements
 pub record IsWalking (d : List LaidName) (names settled : List (List ℕ)) (all : List Statement) (before : List LaidLine) (w : Walk) : Type
     0 where
   pub lays : IsLaying d before w.laying
   pub checked : IsChecked before w.checks
   pub named : AreRegisters names before w.registers
-  pub begun : AreStarts all before w.starts
-  pub kept : AreStatements before w.lines.items
+  pub begun : AreClear w.lines.items → AreStarts all before w.starts
+  pub kept : AreTold names settled all before w.lines.items
   pub counted : w.equals ≡ length (circles_in settled (statements_of before))
-  pub none : first_laid names settled all before ≡ None
 
 -- before the first line of a source
 abbrev pub Begins : List Statement → Walk → Type 0
@@ -84,10 +109,11 @@ Begins statements w =
 -- what is known of a line before it is kept
 pub record IsCheckedLine (d : List LaidName) (names settled : List (List ℕ)) (all : List Statement) (l : LaidLine) (before : List LaidLine)
     (old new : Walk) (j : CheckedLine) : Type 0 where
-  pub tells : Tells d l before new.laying j.laid
-  pub told : j.found ≡ first_told (told_kind (checked_kinds settled all l before)) (told_kind (register_kinds names l before))
-  pub checked : j.found ≡ None → IsChecked (l ∷ before) new.checks
-  pub named : j.found ≡ None → AreRegisters names (l ∷ before) new.registers
+  pub line : IsToldLine names settled all l before j.laid
+  pub number : j.number ≡ said_number l.seen l.statement.what
+  pub lays : IsLaying d (l ∷ before) new.laying
+  pub checked : IsChecked (l ∷ before) new.checks
+  pub named : AreRegisters names (l ∷ before) new.registers
   pub within : j.thumb_area ≡ in_thumb_area l.area all
   pub begun : new.starts ≡ old.starts
   pub kept : new.lines ≡ old.lines
@@ -100,53 +126,29 @@ ChecksLine o s old new j =
     → IsWalking o.names names settled all before old → IsOutlined o.names settled o.circular.items o.repeated.items s before
     → IsCheckedLine o.names names settled all (laid_behind o.names s before) before old new j
 
--- a line without a fault is kept
-pub record Keeps (x : LaidStatement) (number : Result ℕ LineKind) (thumb_area : Bool) (old new : Walk) : Type 0 where
+-- a line is kept
+pub record Keeps (j : CheckedLine) (old new : Walk) : Type 0 where
   pub laying : new.laying ≡ old.laying
   pub checks : new.checks ≡ old.checks
   pub registers : new.registers ≡ old.registers
-  pub lines : new.lines.items ≡ old.lines.items ++ x ∷ []
+  pub lines : new.lines.items ≡ old.lines.items ++ j.laid ∷ []
   pub equals : new.equals ≡ old.equals
   pub starts : (all : List Statement) (l : LaidLine) (before : List LaidLine) → AreStarts all before old.starts
-      → IsLineOf all x.line.statement.now.what x.line.place.area thumb_area number l before → AreStarts all (l ∷ before) new.starts
+      → IsLineOf all j.laid.line.statement.now.what j.laid.line.place.area j.thumb_area j.number l before → AreStarts all (l ∷ before) new.starts
 
--- the kind that is told of a line
-abbrev pub told_by : List (List ℕ) → List (List ℕ) → List Statement → LaidLine → List LaidLine → Option LineKind
-told_by names settled all l before = told_kind (layout_kinds settled all l before ++ register_kinds names l before)
-
-abbrev pub Steps : List LaidName → List (List ℕ) → List (List ℕ) → List Statement → LaidLine → List LaidLine → Walk
-    → Result (Unit {0}) Fault → Type 0
-Steps d names settled all l before new (Ok u) = IsWalking d names settled all (l ∷ before) new
-Steps d names settled all l before new (Err f) = IsTold (told_at l.statement (told_by names settled all l before)) f
-
--- a checked statement is kept, or its fault is told
-abbrev pub KeepsOrTells : Statement → CheckedLine → Walk → Walk → Result (Unit {0}) Fault → Type 0
-KeepsOrTells s j old new r =
-    (d : List LaidName) (names settled : List (List ℕ)) (all : List Statement) (first : Walk) (before : List LaidLine)
-    → IsWalking d names settled all before first → IsCheckedLine d names settled all (laid_behind d s before) before first old j
-    → Steps d names settled all (laid_behind d s before) before new r
-
--- a statement is checked behind lines, and kept or told
-abbrev pub StepsOn : Outline → Statement → Walk → Walk → Result (Unit {0}) Fault → Type 0
-StepsOn o s old new r =
+-- a statement is checked behind lines, and kept
+abbrev pub StepsOn : Outline → Statement → Walk → Walk → Type 0
+StepsOn o s old new =
     (names settled : List (List ℕ)) (all : List Statement) (before : List LaidLine) → AreStates all o.states
     → IsWalking o.names names settled all before old → IsOutlined o.names settled o.circular.items o.repeated.items s before
-    → Steps o.names names settled all (laid_behind o.names s before) before new r
+    → IsWalking o.names names settled all (laid_behind o.names s before ∷ before) new
 
 -- ---- all lines
 
--- the lines of a source, or its first with a fault that is told at it
-abbrev pub IsWalked : List Statement → Result Walk Fault → Type 0
-IsWalked statements (Ok w) =
+-- the lines of a source
+abbrev pub IsWalked : List Statement → Walk → Type 0
+IsWalked statements w =
     IsWalking (declared_names statements) (register_names statements) (settled (equals_in statements)) statements (laid statements) w
-IsWalked statements (Err f) =
-    IsTold (first_laid (register_names statements) (settled (equals_in statements)) statements (laid statements)) f
-
--- the first lines of a source, or the first of them with a fault that is told at it
-abbrev pub IsFrontWalked : List Statement → ℕ → Result Walk Fault → Type 0
-IsFrontWalked statements n (Ok w) = IsWalking (declared_names statements) (register_names statements) (settled (equals_in statements))
-    statements (front_lines statements n) w
-IsFrontWalked statements n (Err f) = IsTold (front_laid statements n) f
 
 -- lines of a source, of which these are walked and those left
 pub record IsAlong (statements yielded left : List Statement) (w : Walk) : Type 0 where

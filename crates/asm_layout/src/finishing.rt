@@ -1,12 +1,12 @@
-//! The layout of a source whose lines have no fault of their own.
+//! The layout of a source whose lines are laid, or its faulty lines.
 
 ghost use Rattle.std.specs.Prelude.{◌≡◌, IfOk};
 ghost use Rattle.asm_layout.specs.Areas.{AreAreasOf};
 ghost use Rattle.asm_layout.specs.Finishing.{AreAllNames, AreNames, AreNamesOf, Finishes, MayFinish};
 
 use crate::areas::areas_of;
-use crate::laid::{LaidArea, Layout};
-use crate::late::cleared;
+use crate::judging::faulty_lines;
+use crate::laid::{LaidArea, Layout, LineFault};
 use crate::outline::Outline;
 use crate::placed_lines::lines_of;
 use crate::walking::Walk;
@@ -16,7 +16,6 @@ use asm_model::LaidName;
 use asm_names::{KnownNames, final_names};
 use asm_offsets::{LaidPools, extents_are_placeable};
 use layout_laws::laws::known_names_are_final;
-use sdt_fault::answer::Fault;
 use sdt_fault::{List as Listed, NoMemory};
 use std::alloc::Global;
 
@@ -94,10 +93,14 @@ fn declared_alone(outline: Outline) -> KnownNames
     names
 }
 
-/// The layout, or the refusal of the first line with a fault that needs the whole layout.
-pub fn finished<'a>(alloc: Global, outline: Outline, walk: Walk<'a>) -> Result<Layout<'a>, Fault>
+/// The layout, or the faulty lines.
+pub fn finished<'a>(
+    alloc: Global,
+    outline: Outline,
+    walk: Walk<'a>,
+) -> Result<Result<Layout<'a>, Vec<LineFault<'a>>>, NoMemory>
     requires { MayFinish outline walk }
-    ensures { Finishes outline walk.entry result }
+    ensures { IfOk result (λ o. Finishes outline walk.entry o) }
 {
     extents_are_placeable();
     let Walk {
@@ -115,24 +118,32 @@ pub fn finished<'a>(alloc: Global, outline: Outline, walk: Walk<'a>) -> Result<L
         Ok(pools) => pools,
         Err(e) => {
             drop((starts, lines, names, declared));
-            return Err(Fault::from(e));
+            return Err(e);
         }
     };
-    if let Err(fault) = cleared(alloc, lines.as_slice(), pools.as_slice()) {
+    let faults = match faulty_lines(alloc, lines.as_slice(), pools.as_slice()) {
+        Ok(faults) => faults,
+        Err(e) => {
+            drop((starts, lines, names, declared, pools));
+            return Err(e);
+        }
+    };
+    if !faults.is_empty() {
         drop((starts, lines, names, declared, pools));
-        return Err(fault);
+        return Ok(Err(faults));
     }
+    drop(faults);
     let starts = starts.into_vec();
     let laid = lines.as_slice();
     match names_and_areas(alloc, laid, declared, names, starts, pools) {
-        Ok((names, areas)) => Ok(Layout {
+        Ok((names, areas)) => Ok(Ok(Layout {
             areas: Listed::from_vec(areas),
             statements: Listed::from_vec(lines),
             names,
-        }),
+        })),
         Err(e) => {
             drop(lines);
-            Err(Fault::from(e))
+            Err(e)
         }
     }
 }

@@ -7,21 +7,18 @@ ghost use Rattle.asm_model.specs.Said.{AllSaid, IsSaid};
 ghost use Rattle.asm_laying.specs.Carried.{most_statements};
 ghost use Rattle.asm_laying.specs.Laying as laying;
 ghost use Rattle.asm_model.specs.FaultSets as sets;
-ghost use Rattle.asm_layout.specs.Layout.{IsTold};
 ghost use Rattle.asm_layout.specs.Outline.{IsOutline};
 ghost use Rattle.asm_layout.specs.Walking as walking;
 
+use crate::judging::unless_unread;
 use crate::outline::Outline;
-use crate::telling::told_of;
 use asm_checks::{Checks, Starts};
-use asm_expr::kinds::earlier;
 use asm_expr::told::first_told;
 use asm_laying::laying::{LaidOutcome, LaidStatement, Laying};
 use asm_model::Statement;
 use asm_names::defining::{Defines, defined_by};
 use asm_registers::Registers;
 use sdt_fault::NoMemory;
-use sdt_fault::answer::Fault;
 use sdt_fault::kinds::LineKind;
 use std::alloc::Global;
 
@@ -33,20 +30,20 @@ pub struct Walk<'a> {
     pub checks: Checks,
     pub registers: Registers,
     pub starts: Starts,
-    /// The lines, in the order of the source.
+    /// The lines, in the order of the source, each with the kind that is told of it so far.
     pub lines: Vec<LaidStatement<'a>>,
     /// How many statements with names for expressions there are so far.
     equals: usize,
 }
 
-/// What is known of a line before it is kept.
+/// A line before it is kept, with the kind that is told of it so far.
 #[derive(Drop)]
 struct CheckedLine<'a> {
-    laid: LaidOutcome<'a>,
+    laid: LaidStatement<'a>,
+    /// The number that checks ask for.
+    number: Result<u32, LineKind>,
     /// Whether its area is one of Thumb code.
     thumb_area: bool,
-    /// The fault that is told, of those that need no values.
-    found: Option<LineKind>,
 }
 
 /// Whether a statement is the first that defines a name for an expression which depends on itself.
@@ -83,24 +80,9 @@ fn mark_of(marks: &[bool], number: usize) -> bool
     }
 }
 
-/// The first statements, `count` of them or all.
-fn front_of(statements: &[Statement], count: usize) -> &[Statement]
-    ensures { result.now ≡ take count statements.now }
-{
-    if count < statements.len() {
-        return &statements[..count];
-    }
-    statements
-}
-
 impl<'a> Walk<'a> {
-    /// Before the first line, with room for so many names and lines.
-    fn new(
-        alloc: Global,
-        statements: &[Statement],
-        names: usize,
-        lines: usize,
-    ) -> Result<Walk<'a>, NoMemory>
+    /// Before the first line, with room for the lines and so many names.
+    fn new(alloc: Global, statements: &[Statement], names: usize) -> Result<Walk<'a>, NoMemory>
         ensures { IfOk result (λ w. walking.Begins (reversed statements.now []) w) }
     {
         let laying = Laying::with_room(alloc, names)?;
@@ -111,7 +93,7 @@ impl<'a> Walk<'a> {
                 return Err(e);
             }
         };
-        let lines = match Vec::with_capacity(alloc, lines) {
+        let lines = match Vec::with_capacity(alloc, statements.len()) {
             Ok(lines) => lines,
             Err(e) => {
                 drop((laying, registers));
@@ -129,7 +111,7 @@ impl<'a> Walk<'a> {
         })
     }
 
-    /// What is told of a line more.
+    /// Lays and checks a line more.
     fn check_line(
         &mut self,
         outline: &Outline,
@@ -140,38 +122,42 @@ impl<'a> Walk<'a> {
         ensures { IfOk result
             (λ j. walking.ChecksLine outline.now statement.now self.old self.new j) }
     {
-        let laid = self.laying.lay(self.alloc, &outline.names, statement)?;
+        let LaidOutcome { number, laid } = self.laying.lay(self.alloc, &outline.names, statement)?;
+        let place = laid.line.place;
         let circular = take_mark(&mut self.equals, outline.circular.as_slice(), statement);
         let repeated = mark_of(outline.repeated.as_slice(), self.lines.len());
-        let thumb_area = outline.states.is_thumb(laid.area);
+        let thumb_area = outline.states.is_thumb(place.area);
         let checked = self.checks.check(
             statement,
-            laid.area,
-            laid.thumb,
+            place.area,
+            place.thumb,
             thumb_area,
-            laid.number,
+            number,
             circular,
             repeated,
         )?;
         let named = self
             .registers
-            .check(statement, laid.thumb, laid.number, &outline.names)?;
+            .check(statement, place.thumb, number, &outline.names)?;
+        let found = first_told(laid.fault, first_told(checked, named));
+        let mut laid = laid;
+        laid.fault = unless_unread(statement.unread, found);
         Ok(CheckedLine {
             laid,
+            number,
             thumb_area,
-            found: first_told(checked, named),
         })
     }
 
-    /// Keeps a line without a fault.
-    fn keep(
-        &mut self,
-        laid: LaidStatement<'a>,
-        number: Result<u32, LineKind>,
-        thumb_area: bool,
-    ) -> Result<(), NoMemory>
-        ensures { OnOk result (walking.Keeps laid.entry number thumb_area self.old self.new) }
+    /// Keeps a line.
+    fn keep(&mut self, checked: CheckedLine<'a>) -> Result<(), NoMemory>
+        ensures { OnOk result (walking.Keeps checked.entry self.old self.new) }
     {
+        let CheckedLine {
+            laid,
+            number,
+            thumb_area,
+        } = checked;
         let line = laid.line;
         self.lines.push(laid)?;
         self.starts
@@ -179,93 +165,41 @@ impl<'a> Walk<'a> {
         Ok(())
     }
 
-    /// Keeps a line, or tells its fault.
-    fn keep_or_tell(
-        &mut self,
-        alloc: Global,
-        statement: &'a Statement,
-        checked: CheckedLine<'a>,
-    ) -> Result<(), Fault>
-        ensures { walking.KeepsOrTells statement.now checked.entry self.old self.new result }
-    {
-        let CheckedLine {
-            laid,
-            thumb_area,
-            found,
-        } = checked;
-        let LaidOutcome { number, placed, .. } = laid;
-        match (placed, found) {
-            (Err(kind), None) => Err(told_of(alloc, statement, kind)),
-            (Err(kind), Some(other)) => Err(told_of(alloc, statement, earlier(kind, other))),
-            (Ok(laid), Some(kind)) => {
-                drop(laid);
-                Err(told_of(alloc, statement, kind))
-            }
-            (Ok(laid), None) => {
-                self.keep(laid, number, thumb_area)?;
-                Ok(())
-            }
-        }
-    }
-
-    /// Lays a line more; or tells its fault, behind which nothing more can be laid.
-    fn step(
-        &mut self,
-        alloc: Global,
-        outline: &Outline,
-        statement: &'a Statement,
-    ) -> Result<(), Fault>
+    /// A line more.
+    fn step(&mut self, outline: &Outline, statement: &'a Statement) -> Result<(), NoMemory>
         requires may { laying.MayLay outline.now.names self.old.laying }
         requires said { IsSaid statement.now }
-        ensures { walking.StepsOn outline.now statement.now self.old self.new result }
+        ensures { OnOk result (walking.StepsOn outline.now statement.now self.old self.new) }
     {
         let checked = self.check_line(outline, statement)?;
-        self.keep_or_tell(alloc, statement, checked)
+        self.keep(checked)?;
+        Ok(())
     }
 }
 
-/// Lays the first lines of a source, `count` of them or all, up to the first with a fault that is told at it.
-pub fn walked_front<'a>(
-    alloc: Global,
-    outline: &Outline,
-    statements: &'a [Statement],
-    count: usize,
-) -> Result<Walk<'a>, Fault>
-    requires outline { IsOutline (reversed statements.now []) outline.now }
-    requires few { length statements.now < most_statements + 1 }
-    requires said { AllSaid statements.now }
-    ensures { walking.IsFrontWalked (reversed statements.now []) count result }
-{
-    let front = front_of(statements, count);
-    let mut walk = Walk::new(alloc, statements, outline.names.len(), front.len())?;
-    let mut left = front;
-    'statements: loop {
-        match left {
-            [] => return Ok(walk),
-            [statement, rest @ ..] => {
-                match walk.step(alloc, outline, statement) {
-                    Ok(()) => left = rest,
-                    Err(fault) => {
-                        drop(walk);
-                        return Err(fault);
-                    }
-                }
-            }
-        }
-    }
-}
-
-/// Lays the lines of a source, up to the first with a fault that is told at it.
+/// Lays the lines of a source one behind the other, each with the kind that is told of it so far.
 pub fn walked<'a>(
     alloc: Global,
     outline: &Outline,
     statements: &'a [Statement],
-) -> Result<Walk<'a>, Fault>
+) -> Result<Walk<'a>, NoMemory>
     requires outline { IsOutline (reversed statements.now []) outline.now }
     requires few { length statements.now < most_statements + 1 }
     requires said { AllSaid statements.now }
-    ensures { walking.IsWalked (reversed statements.now []) result }
+    ensures { IfOk result (λ w. walking.IsWalked (reversed statements.now []) w) }
 {
-    let count = statements.len();
-    walked_front(alloc, outline, statements, count)
+    let mut walk = Walk::new(alloc, statements, outline.names.len())?;
+    let mut left = statements;
+    'statements: loop {
+        match left {
+            [] => return Ok(walk),
+            [statement, rest @ ..] => {
+                if let Err(e) = walk.step(outline, statement) {
+                    drop(walk);
+                    return Err(e);
+                }
+                left = rest;
+            }
+        }
+    }
 }

@@ -1,6 +1,6 @@
 //! The names for registers of a source, line by line.
 
-ghost use Rattle.std.specs.Prelude.{◌≡◌, ◌∷◌, [], ℕ, List, None, IfOk};
+ghost use Rattle.std.specs.Prelude.{◌≡◌, ◌∷◌, [], ℕ, List, IfOk, OnOk};
 ghost use Rattle.asm_model.specs.Kinds.{told_kind};
 ghost use Rattle.asm_model.specs.Laid.{LaidLine, reversed};
 ghost use Rattle.source_model.specs.Registers as registers;
@@ -43,8 +43,8 @@ impl Registers {
     }
 
     /// The fault of the next line's registers that is told. `thumb` is the line's state, and `number` the number that RN is
-    /// given, where it is given one by an expression; of other statements it isn't looked at. Behind a line with a fault, or
-    /// an `Err`, nothing more can be checked.
+    /// given, where it is given one by an expression; of other statements it isn't looked at. Behind an `Err` nothing more
+    /// can be checked.
     pub fn check(
         &mut self,
         statement: &Statement,
@@ -56,10 +56,9 @@ impl Registers {
             (λ told. (names : List (List ℕ)) (l : LaidLine) (before : List LaidLine)
             → AreRegisters names before self.old → IsLine statement.now thumb number declared.now l
             → told ≡ told_kind (registers.register_kinds names l before)) }
-        ensures behind { IfOk result
-            (λ told. (names : List (List ℕ)) (l : LaidLine) (before : List LaidLine)
+        ensures behind { OnOk result ((names : List (List ℕ)) (l : LaidLine) (before : List LaidLine)
             → AreRegisters names before self.old → IsLine statement.now thumb number declared.now l
-            → told ≡ None → AreRegisters names (l ∷ before) self.new) }
+            → AreRegisters names (l ∷ before) self.new) }
     {
         let named = self.named(statement, declared);
         let operand = operand_kind(thumb, &self.known, &statement.what);

@@ -13,8 +13,8 @@ finished-requires c = record {
   };
 }
 
-pub returns-in-Ok : goal.returns-in-Ok
-returns-in-Ok c = c.finished.ensures (reversed c.args.statements.now []) (record {
+pub returns-in_ok-outcome-in-Ok : goal.returns-in_ok-outcome-in-Ok
+returns-in_ok-outcome-in-Ok c = c.in_ok-outcome-in-Ok.ensures (reversed c.args.statements.now []) (record {
   said = said_reversed c.args.statements.now [] c.requires.said tt;
   outlined = c.requires.outline;
   walked = c.in-Ok.ensures;

@@ -6,8 +6,7 @@ returns c = λ d settled all. record {
   lays = c.in_ok-laying.ensures d;
   checked = c.new-2.ensures;
   named = c.in-Ok.ensures;
-  begun = c.new-3.ensures all;
+  begun = λ clear. c.new-3.ensures all;
   kept = c.in-Ok-with_capacity.ensures.items;
   counted = refl;
-  none = refl;
 }

@@ -11,6 +11,6 @@ returns-clause-told c = λ names l before k i.
     k i (c.in_ok-given.ensures.told l.seen i.given) c.named-named.ensures c.operand_kind-operand.ensures
 
 pub returns-clause-behind : goal.returns-clause-behind
-returns-clause-behind c = λ names l before k i none.
+returns-clause-behind c = λ names l before k i.
     line_left names c.args.statement.now c.args.thumb c.args.number c.args.declared.now l before c.args.self.now _
     k i refl (c.in_ok-given.ensures.noted l.seen i.given)

@@ -1,9 +1,0 @@
-use Rattle.std.proofs.Common.{◌++◌, drop, length}
-use Rattle.asm_layout.specs.Walking.{IsOn}
-use Rattle.asm_layout.proofs.walking.walked_front.Given as goal
-
-abbrev pub invariant-statements : goal.invariant-statements
-invariant-statements l = IsOn l.statements (l.left ++ drop l.count l.statements) l.walk
-
-abbrev pub decreases-statements : goal.decreases-statements
-decreases-statements l = length l.left
