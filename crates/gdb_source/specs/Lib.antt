@@ -1,0 +1,2 @@
+-- What the clauses of the crate cite.
+pub mod Sources
