@@ -2,13 +2,11 @@
 use Rattle.std.proofs.Common.{◌≡◌, ℕ, ◌+◌, ◌≤◌, List, [], ◌∷◌, ◌++◌, length, Bool, false, refl, ◌∙◌, ap, subst, arith, Some, None, nat_lt}
 use Rattle.std.specs.Prelude.{Ok}
 use Rattle.std.specs.Str.Lines.{lines}
-use Rattle.std.proofs.lemmas.Bool.{le-ltb}
 use Rattle.asm_locals.specs.Naming.{named_behind, in_names}
 use Rattle.asm_model.specs.declared.lines.Flat.{Flat}
 use Rattle.asm_model.specs.declared.statements.Statement.{Statement}
 use Rattle.asm_model.specs.Laid.{reversed}
-use Rattle.asm_model.specs.Limits.{source_lines, line_bytes}
-use Rattle.asm_model.specs.Lines.{numbered, first_beyond}
+use Rattle.asm_model.specs.Lines.{numbered}
 use Rattle.asm_model.specs.Says.{Said}
 use Rattle.asm_reading.specs.declared.flat_lines.Reading.{Reading}
 use Rattle.asm_reading.specs.Laws.{OneLine}
@@ -22,25 +20,13 @@ use Rattle.big_lines.proofs.TextLemmas.{AreClean, lines_spelled}
 
 -- ---- expansion
 
-none_beyond : (n : ℕ) (ts : List (List ℕ)) → ArePlain ts → n + length ts ≤ source_lines + 1 → first_beyond n ts ≡ None
-none_beyond n [] h few = refl
-none_beyond n (t ∷ []) h few =
-    let a : nat_lt source_lines n ≡ false = le-ltb source_lines n (omega arith) in
-    let b : nat_lt line_bytes (length t) ≡ false = le-ltb line_bytes (length t) h.short in
-    rw (a, b) refl
-none_beyond n (t ∷ u ∷ ts) h few =
-    let a : nat_lt source_lines n ≡ false = le-ltb source_lines n (omega arith) in
-    let b : nat_lt line_bytes (length t) ≡ false = le-ltb line_bytes (length t) h.0.short in
-    rw (a, b) (none_beyond (n + 1) (u ∷ ts) h.1 (omega arith))
-
 -- plain lines that are not too many, as a text
 pub lines_expand : PlainSourcesExpand → (sources : Sources) (name : List ℕ) (ls : List (List ℕ)) → AreClean ls → ArePlain ls
     → length ls ≤ 200000 → Expands sources visit_limit name (spelled ls) (Flats (flats_of (numbered name 1 ls)))
 lines_expand law sources name ls clean plain few =
     let read : lines (spelled ls) ≡ ls = lines_spelled ls clean in
-    let fits = none_beyond 1 ls plain (omega arith) in
     let Made : List (List ℕ) → Type 0 = λ ts. Expands sources visit_limit name (spelled ls) (Flats (flats_of (numbered name 1 ts))) in
-    subst Made read (law sources visit_limit name (spelled ls) (rw read fits) (rw read plain) (rw read (omega arith)))
+    subst Made read (law sources visit_limit name (spelled ls) (rw read (omega arith)) (rw read plain) (rw read (omega arith)))
 
 -- ---- what they say
 
