@@ -21,8 +21,8 @@ use Rattle.asm_model.specs.Kinds.{kind_if}
 use Rattle.asm_model.specs.Before.{area_behind, thumb_behind}
 use Rattle.asm_model.specs.Forms.{same}
 use Rattle.asm_model.specs.Labels.{declared_names}
-use Rattle.asm_model.specs.Laid.{LaidLine, laid, laid_of, laid_behind, pieces_of, statements_of, taken, aligned_end}
-use Rattle.asm_model.specs.LayoutKinds.{area_bytes, is_thumb_area, is_entry, names_behind, is_named_otherwise, settled, equals_in, layout_kinds, contents_behind, contents_kinds}
+use Rattle.asm_model.specs.Laid.{LaidLine, laid, laid_of, laid_behind, pieces_of, statements_of, taken, aligned_end, area_bytes}
+use Rattle.asm_model.specs.LayoutKinds.{is_thumb_area, is_entry, names_behind, is_named_otherwise, settled, equals_in, layout_kinds, contents_behind, contents_kinds}
 use Rattle.asm_model.specs.Offsets.{Piece, raised, end_behind, waiting, area_size, size_behind}
 use Rattle.asm_model.proofs.OffsetLemmas.{end_rises}
 use Rattle.asm_model.proofs.WordLemmas.{same_true}

@@ -13,8 +13,8 @@ use Rattle.asm_model.specs.Before.{area_behind, thumb_behind}
 use Rattle.asm_model.specs.Extents.{Extent, Block}
 use Rattle.asm_model.specs.Forms.{same}
 use Rattle.asm_model.specs.Labels.{field_defines}
-use Rattle.asm_model.specs.Laid.{laid, statements_of, pieces_of, taken, laid_behind, laid_of, names_behind as seen_by}
-use Rattle.asm_model.specs.LayoutKinds.{contents_kinds, contents_behind, name_kinds, settled_kinds, first_equal, area_bytes, layout_kinds, is_repeated, is_named_otherwise, names_behind, names_in, settled}
+use Rattle.asm_model.specs.Laid.{laid, statements_of, pieces_of, taken, laid_behind, laid_of, names_behind as seen_by, area_bytes}
+use Rattle.asm_model.specs.LayoutKinds.{contents_kinds, contents_behind, name_kinds, settled_kinds, first_equal, layout_kinds, is_repeated, is_named_otherwise, names_behind, names_in, settled}
 use Rattle.asm_model.specs.Offsets.{Piece, raised, end_behind, waiting}
 use Rattle.asm_model.specs.declared.directives.AreaAttributes.{AreaAttributes}
 use Rattle.asm_model.specs.declared.names.Names.{Names}
