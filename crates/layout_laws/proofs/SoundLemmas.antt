@@ -11,8 +11,8 @@ use Rattle.asm_model.specs.Forms.{same}
 use Rattle.asm_model.specs.Kinds.{told_kind, kind_if}
 use Rattle.asm_model.proofs.WordLemmas.{same_refl, same_true}
 use Rattle.asm_model.specs.Labels.{Defined, Equal, defined_by, imported_in}
-use Rattle.asm_model.specs.Laid.{LaidLine, statements_of, laid_behind, laid_of}
-use Rattle.asm_model.specs.LayoutKinds.{fault_kinds, map_kinds, no_area_kinds, contents_kinds, contents_behind, area_kinds, own_name, listed, names_in, names_behind, is_entry, is_repeated, name_kinds, first_equal, equals_in, are_settled, settled_by, settled_kinds, state_kinds, layout_kinds, told_at, first_fault, area_bytes}
+use Rattle.asm_model.specs.Laid.{LaidLine, statements_of, area_bytes, laid_behind, laid_of}
+use Rattle.asm_model.specs.LayoutKinds.{fault_kinds, map_kinds, no_area_kinds, contents_kinds, contents_behind, area_kinds, own_name, listed, names_in, names_behind, is_entry, is_repeated, name_kinds, first_equal, equals_in, are_settled, settled_by, settled_kinds, state_kinds, layout_kinds, told_at, first_fault}
 use Rattle.asm_model.specs.OwnKinds.{own_kinds}
 use Rattle.asm_model.specs.Sound.{HaveNoPlaces, IsPlain, ArePlain}
 use Rattle.layout_laws.proofs.EqualLemmas.{equal_of, all_equals, EachEqual, equal_both, equal_joined}
