@@ -22,7 +22,7 @@ use Rattle.layout_laws.proofs.SoundLemmas.{both_empty, kind_none}
 use Rattle.source_model.specs.Objects.{in_order, entry_by, entry_of, IsObject}
 use Rattle.source_laws.proofs.FaultlessLemmas.{layout_sound}
 use Rattle.source_laws.proofs.LineLemmas.{stands_in}
-use Rattle.source_laws.proofs.ThingLemmas.{seen_extent}
+use Rattle.source_laws.proofs.ThingLemmas.{seen_extent, known_extent}
 use Rattle.object_laws.specs.Laws.{AreFaultless}
 use Rattle.object_laws.proofs.AreaLemmas.{area_facts}
 use Rattle.object_laws.proofs.EachLemmas.{line_below}
@@ -126,8 +126,9 @@ pub entry_aligned : (ss : List Statement) → AreFaultless ss → (after before 
     → l.area ≡ Some area → is_entry l.statement.what ≡ true → left_in l.thumb l.offset ≡ 0
 entry_aligned ss h after before l area e own says =
     let seen = seen_extent ss after before l e in
-    let extent : l.extent ≡ Ok (entry_extent l.thumb) =
-    seen.0 ∙ ap (extent_of l.seen) (entry_only l.statement.what says) ∙ ap (λ b. Ok (entry_extent b)) seen.1 in
+    let said : extent_of l.seen l.statement.what ≡ Ok (entry_extent l.thumb) =
+    ap (extent_of l.seen) (entry_only l.statement.what says) ∙ ap (λ b. Ok (entry_extent b)) seen.1 in
+    let extent : Ok (taken l.extent) ≡ Ok (entry_extent l.thumb) = sym (known_extent ss (layout_sound ss h.layout) after before l e) ∙ said in
     subst (λ z. left_in l.thumb z ≡ 0)
     (sym ((stands_in ss (layout_sound ss h.layout) area after before l e own).0 ∙ ap (λ z. start_in area (pieces_of before) (taken z)) extent))
     (state_aligned l.thumb area (pieces_of before))

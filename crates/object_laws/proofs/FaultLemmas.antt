@@ -1,29 +1,27 @@
 -- What a line of a source without faults keeps, in the pass of layout and in that of values.
-use Rattle.std.proofs.Common.{◌≡◌, ℕ, ◌+◌, List, [], ◌∷◌, ◌++◌, append-nil, refl, ◌∙◌, subst, None, nat_lt}
+use Rattle.std.proofs.Common.{◌≡◌, ℕ, ◌+◌, List, [], ◌∷◌, ◌++◌, refl, ◌∙◌, subst, nat_lt}
 use Rattle.std.specs.Prelude.{Result, Ok, Err}
 use Rattle.sdt_fault.specs.declared.kinds.LineKind.{LineKind}
 use Rattle.sdt_fault.specs.declared.kinds.LineKind.TheVariants.{TooMany}
 use Rattle.asm_model.specs.declared.statements.Statement.{Statement}
 use Rattle.asm_model.specs.declared.values.Value.{Value}
-use Rattle.asm_model.specs.Kinds.{told_kind, kind_if}
+use Rattle.asm_model.specs.Kinds.{kind_if}
 use Rattle.asm_model.specs.Labels.{defined_by}
-use Rattle.asm_model.specs.Laid.{LaidLine, statements_of, taken, pieces_of, reversed, laid, final_names}
-use Rattle.asm_model.specs.LayoutKinds.{fault_kinds, map_kinds, no_area_kinds, contents_kinds, contents_behind, area_kinds, name_kinds, settled_kinds, first_equal, state_kinds, area_bytes, layout_kinds, told_at, first_fault, entry_kinds, literal_kinds, first_late, settled, equals_in}
+use Rattle.asm_model.specs.Laid.{LaidLine, statements_of, taken, pieces_of, reversed, laid, area_bytes}
+use Rattle.asm_model.specs.LayoutKinds.{fault_kinds, map_kinds, no_area_kinds, contents_kinds, contents_behind, area_kinds, name_kinds, settled_kinds, first_equal, state_kinds, layout_kinds, whole_kinds, settled, equals_in}
 use Rattle.asm_model.specs.Marks.{datum_names}
 use Rattle.asm_model.specs.Offsets.{area_size}
 use Rattle.asm_model.specs.OwnKinds.{own_kinds}
 use Rattle.asm_model.specs.Symbols.{literal_value}
-use Rattle.layout_laws.proofs.SoundLemmas.{both_empty, or_none, told_none}
+use Rattle.layout_laws.proofs.SoundLemmas.{both_empty}
 use Rattle.source_model.specs.Contexts.{sees}
 use Rattle.source_model.specs.Objects.{source_of, in_order, literal_stored}
-use Rattle.source_model.specs.Registers.{register_names}
-use Rattle.source_model.specs.SourceFaults.{first_laid, layout_faults, context_of, word_of, first_valued, value_faults}
+use Rattle.source_model.specs.SourceFaults.{layout_faults, kinds_of_values, value_faults}
 use Rattle.source_model.specs.Units.{Emitted, Stored, stored, units}
-use Rattle.source_model.specs.ValueKinds.{value_kinds, statement_kinds, literal_kinds as value_literal_kinds}
+use Rattle.source_model.specs.ValueKinds.{statement_kinds, literal_kinds as value_literal_kinds}
 use Rattle.source_laws.specs.Laws.{word_among, context_behind}
 use Rattle.source_laws.proofs.AgreeLemmas.{literal_stored_there}
-use Rattle.source_laws.proofs.FaultlessLemmas.{layout_sound}
-use Rattle.source_laws.proofs.LineLemmas.{line_fine}
+use Rattle.source_laws.proofs.FaultLemmas.{line_faultless, line_valued as line_kinds_of_values}
 use Rattle.source_laws.proofs.PoolLemmas.{Loads}
 
 -- ---- lines in their order
@@ -32,17 +30,11 @@ pub reversed_order : (xs ys : List LaidLine) → reversed xs ys ≡ in_order xs 
 reversed_order [] ys = refl
 reversed_order (x ∷ xs) ys = reversed_order xs (x ∷ ys)
 
-pub reversed_split : (after before : List LaidLine) (l : LaidLine) (tail : List LaidLine)
-    → reversed (after ++ l ∷ before) tail ≡ reversed before (l ∷ reversed after tail)
-reversed_split [] before l tail = refl
-reversed_split (x ∷ after) before l tail = reversed_split after before l (x ∷ tail)
-
 -- ---- the pass of layout
 
-pub layout_here : (ss : List Statement) → layout_faults ss ≡ None → (after before : List LaidLine) (l : LaidLine) → laid ss ≡ after ++ l ∷ before
+pub layout_here : (ss : List Statement) → layout_faults ss ≡ [] → (after before : List LaidLine) (l : LaidLine) → laid ss ≡ after ++ l ∷ before
     → layout_kinds (settled (equals_in ss)) ss l before ≡ []
-layout_here ss none after before l e =
-    let S = settled (equals_in ss) in line_fine S ss after before l (subst (λ z. first_fault S ss z ≡ None) e (layout_sound ss none))
+layout_here ss none after before l e = (line_faultless ss none after before l e).1
 
 -- the last kinds of a line: an ENTRY in another state than its area's, and an area that grows too large
 pub last_kinds : (S : List (List ℕ)) (all : List Statement) (l : LaidLine) (before : List LaidLine) → layout_kinds S all l before ≡ []
@@ -56,63 +48,27 @@ last_kinds S all l before h =
     let o = both_empty (a ++ b ++ c) (own_kinds l.statement) h in
     let p = both_empty (a ++ b) c o.0 in ((both_empty a b p.0).1, p.1)
 
-abbrev pub late_kinds : List LaidLine → List LaidLine → LaidLine → List LaidLine → List LineKind
-late_kinds all before l rest =
-    entry_kinds l.area l all ++ literal_kinds l.area (taken l.extent) (pieces_of (l ∷ before)) (pieces_of rest)
-
-pub late_behind : (all front before tail : List LaidLine) → first_late all front (reversed before tail) ≡ None → first_late all (before ++ front) tail ≡ None
-late_behind all front [] tail h = h
-late_behind all front (b ∷ bs) tail h =
-    (or_none (told_at b.statement (told_kind (late_kinds all (bs ++ front) b tail))) (first_late all (b ∷ (bs ++ front)) tail)
-    (late_behind all front bs (b ∷ tail) h)).1
-
-pub late_here : (ss : List Statement) → layout_faults ss ≡ None → (after before : List LaidLine) (l : LaidLine) → laid ss ≡ after ++ l ∷ before
-    → late_kinds (laid ss) before l (in_order after []) ≡ []
+pub late_here : (ss : List Statement) → layout_faults ss ≡ [] → (after before : List LaidLine) (l : LaidLine) → laid ss ≡ after ++ l ∷ before
+    → whole_kinds (laid ss) l before (in_order after []) ≡ []
 late_here ss none after before l e =
-    let all = laid ss in
-    let late = (or_none (first_laid (register_names ss) (settled (equals_in ss)) ss all) (first_late all [] (reversed all [])) none).1 in
-    let split = subst (λ z. first_late all [] z ≡ None) (reversed_split after before l []) (subst (λ z. first_late all [] (reversed z []) ≡ None) e late) in
-    let here = subst (λ z. first_late all z (l ∷ reversed after []) ≡ None) (append-nil before) (late_behind all [] before (l ∷ reversed after []) split) in
-    subst (λ z. late_kinds all before l z ≡ []) (reversed_order after [])
-    (told_none l.statement (late_kinds all before l (reversed after []))
-    (or_none (told_at l.statement (told_kind (late_kinds all before l (reversed after [])))) (first_late all (l ∷ before) (reversed after [])) here).0)
+    subst (λ z. whole_kinds (laid ss) l before z ≡ []) (reversed_order after []) (line_faultless ss none after before l e).3
 
 -- ---- the pass of values
 
 abbrev pub sizes_of : List Statement → ℕ → ℕ
 sizes_of ss area = area_size area (pieces_of (laid ss))
 
-abbrev pub valued_kinds : List LaidLine → List Statement → List LaidLine → LaidLine → List LaidLine → List LineKind
-valued_kinds all ss before l rest =
-    value_kinds (context_of (final_names all) l before) (datum_names ss) (λ area. area_size area (pieces_of all)) l.seen (taken l.extent)
-    (word_of l.area (taken l.extent) (pieces_of (l ∷ before)) (pieces_of rest)) l.statement.what
-
-pub valued_behind : (all : List LaidLine) (ss : List Statement) (front before tail : List LaidLine) → first_valued all ss front (reversed before tail) ≡ None
-    → first_valued all ss (before ++ front) tail ≡ None
-valued_behind all ss front [] tail h = h
-valued_behind all ss front (b ∷ bs) tail h =
-    (or_none (told_at b.statement (told_kind (valued_kinds all ss (bs ++ front) b tail))) (first_valued all ss (b ∷ (bs ++ front)) tail)
-    (valued_behind all ss front bs (b ∷ tail) h)).1
-
-pub valued_here : (ss : List Statement) → value_faults ss ≡ None → (after before : List LaidLine) (l : LaidLine) → laid ss ≡ after ++ l ∷ before
-    → valued_kinds (laid ss) ss before l (in_order after []) ≡ []
+pub valued_here : (ss : List Statement) → value_faults ss ≡ [] → (after before : List LaidLine) (l : LaidLine) → laid ss ≡ after ++ l ∷ before
+    → kinds_of_values (laid ss) ss l before (in_order after []) ≡ []
 valued_here ss none after before l e =
-    let all = laid ss in
-    let split =
-    subst (λ z. first_valued all ss [] z ≡ None) (reversed_split after before l []) (subst (λ z. first_valued all ss [] (reversed z []) ≡ None) e none) in
-    let here =
-    subst (λ z. first_valued all ss z (l ∷ reversed after []) ≡ None) (append-nil before) (valued_behind all ss [] before (l ∷ reversed after []) split) in
-    subst (λ z. valued_kinds all ss before l z ≡ []) (reversed_order after [])
-    (told_none l.statement (valued_kinds all ss before l (reversed after []))
-    (or_none (told_at l.statement (told_kind (valued_kinds all ss before l (reversed after [])))) (first_valued all ss (l ∷ before) (reversed after []))
-    here).0)
+    subst (λ z. kinds_of_values (laid ss) ss l before z ≡ []) (reversed_order after []) (line_kinds_of_values ss none after before l e)
 
 pub known_result : {A : Type 0} → (r : Result A LineKind) → fault_kinds r ≡ [] → (x : A) × (r ≡ Ok x)
 known_result (Ok x) h = (x, refl)
 known_result (Err k) h = absurd (cc)
 
 -- the units of a line are known, and its statement has no kinds of its own
-pub line_valued : (ss : List Statement) → value_faults ss ≡ None → (after before : List LaidLine) (l : LaidLine) → laid ss ≡ after ++ l ∷ before
+pub line_valued : (ss : List Statement) → value_faults ss ≡ [] → (after before : List LaidLine) (l : LaidLine) → laid ss ≡ after ++ l ∷ before
     → ((us : List Emitted) × (units (context_behind ss l before) (datum_names ss) l.seen (word_among after l before) l.statement.what ≡ Ok us))
     × (statement_kinds (context_behind ss l before) (sizes_of ss) l.statement.what ≡ [])
 line_valued ss none after before l e =
@@ -123,7 +79,7 @@ line_valued ss none after before l e =
     let q = both_empty a b p.0 in (known_result (units c (datum_names ss) l.seen (word_among after l before) l.statement.what) q.0, p.1)
 
 -- the word of each literal that a line loads is known
-pub literal_known : (ss : List Statement) → value_faults ss ≡ None → (area : ℕ) (v : Value) → Loads area (laid ss) v
+pub literal_known : (ss : List Statement) → value_faults ss ≡ [] → (area : ℕ) (v : Value) → Loads area (laid ss) v
     → (x : Stored) × (literal_stored (source_of ss) area v ≡ Ok x)
 literal_known ss none area v h =
     let l = h.loader in

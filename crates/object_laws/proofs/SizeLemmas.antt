@@ -1,13 +1,13 @@
 -- An area of a source without faults is at most 2^24 bytes long, and whole words.
-use Rattle.std.proofs.Common.{◌≡◌, ℕ, suc, ◌+◌, ◌*◌, ◌-◌, ◌%◌, ◌^◌, ◌≤◌, List, [], ◌∷◌, ◌++◌, append_assoc, length, Bool, true, false, cond, nat_lt, refl, sym, ◌∙◌, ap, subst, arith, Option, Some, None, ◌⊎◌, inl, inr}
+use Rattle.std.proofs.Common.{◌≡◌, ℕ, suc, ◌+◌, ◌*◌, ◌-◌, ◌%◌, ◌^◌, ◌≤◌, List, [], ◌∷◌, ◌++◌, append_assoc, length, Bool, true, false, cond, nat_lt, refl, sym, ◌∙◌, ap, subst, arith, Option, Some, ◌⊎◌, inl, inr}
 use Rattle.std.specs.List.{AllByRecursion, list_any}
 use Rattle.std.proofs.lemmas.Bool.{or_parts, ltb-false}
 use Rattle.sdt_fault.specs.declared.kinds.LineKind.TheVariants.{TooMany}
 use Rattle.asm_model.specs.declared.statements.Statement.{Statement}
 use Rattle.asm_model.specs.declared.values.Value.{Value}
 use Rattle.asm_model.specs.Extents.{Extent, Loading, Pool}
-use Rattle.asm_model.specs.Laid.{LaidLine, taken, pieces_of, laid}
-use Rattle.asm_model.specs.LayoutKinds.{settled, equals_in, layout_kinds, entry_kinds, literal_kinds, area_bytes}
+use Rattle.asm_model.specs.Laid.{LaidLine, taken, pieces_of, laid, area_bytes}
+use Rattle.asm_model.specs.LayoutKinds.{settled, equals_in, layout_kinds, entry_kinds, literal_kinds}
 use Rattle.asm_model.specs.Offsets.{Piece, is_of, same_literal, waiting_behind, waiting, end_from, end_behind, start_in, area_size, place_among, word_behind, literal_word}
 use Rattle.asm_model.proofs.OffsetLemmas.{same_itself, raised_four}
 use Rattle.layout_laws.proofs.SoundLemmas.{both_empty, kind_none}
@@ -31,7 +31,7 @@ pub either_small : (b : Bool) (x y n : ℕ) → (b ≡ true → cond b x y ≤ n
 either_small true x y n f h = f refl
 either_small false x y n f h = h
 
-pub ends_small : (ss : List Statement) → layout_faults ss ≡ None → (area : ℕ) (after before : List LaidLine) → laid ss ≡ after ++ before
+pub ends_small : (ss : List Statement) → layout_faults ss ≡ [] → (area : ℕ) (after before : List LaidLine) → laid ss ≡ after ++ before
     → end_behind area (pieces_of before) ≤ 2 ^ 24
 ends_small ss none area after [] e = omega arith
 ends_small ss none area after (l ∷ ls) e =
@@ -100,7 +100,7 @@ pub no_pool_end : (a m : ℕ) → a ≤ m → a + (1 + 0 % 1 - a % 1) % 1 + 4 * 
 no_pool_end a m h = omega arith
 
 -- the word of a literal that waits behind all lines
-literal_small : (ss : List Statement) → layout_faults ss ≡ None → (area : ℕ) (v : Value) → Awaits area (laid ss) v
+literal_small : (ss : List Statement) → layout_faults ss ≡ [] → (area : ℕ) (v : Value) → Awaits area (laid ss) v
     → word_behind area (pieces_of (laid ss)) v + 4 ≤ 2 ^ 24
 literal_small ss none area v x =
     let l = x.loads in
@@ -110,7 +110,7 @@ literal_small ss none area v x =
     (late_here ss none l.after l.before l.loader l.parts) in
     subst (λ z. z + 4 ≤ 2 ^ 24) (x.word []) (word_small area l.loader.area (taken l.loader.extent) l.size v front rest l.own l.extent kinds.1)
 
-pub pool_small : (ss : List Statement) → layout_faults ss ≡ None → (area : ℕ)
+pub pool_small : (ss : List Statement) → layout_faults ss ≡ [] → (area : ℕ)
     → end_from (end_behind area (pieces_of (laid ss))) (waiting area (pieces_of (laid ss))) Pool ≤ 2 ^ 24
 pool_small ss none area = by_last (last_waits (Awaits area (laid ss)) itself area all (waiting_loaded area (laid ss)))
   where
@@ -132,7 +132,7 @@ pool_small ss none area = by_last (last_waits (Awaits area (laid ss)) itself are
 pub padded_small : (n : ℕ) → n ≤ 2 ^ 24 → n + (4 + 0 % 4 - n % 4) % 4 ≤ 2 ^ 24
 padded_small n h = omega arith
 
-pub area_small : (ss : List Statement) → layout_faults ss ≡ None → (area : ℕ) → area_size area (pieces_of (laid ss)) ≤ 2 ^ 24
+pub area_small : (ss : List Statement) → layout_faults ss ≡ [] → (area : ℕ) → area_size area (pieces_of (laid ss)) ≤ 2 ^ 24
 area_small ss none area =
     let all = pieces_of (laid ss) in
     padded_small (end_from (end_behind area all) (waiting area all) Pool) (pool_small ss none area)

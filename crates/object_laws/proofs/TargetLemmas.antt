@@ -26,7 +26,7 @@ use Rattle.asm_model.specs.Forms.{same}
 use Rattle.asm_model.specs.Meaning.{stands_at, in_area}
 use Rattle.asm_model.proofs.WordLemmas.{same_refl, same_true}
 use Rattle.asm_model.specs.Before.{with_name, areas_behind}
-use Rattle.asm_model.specs.Extents.{Extent, value_there}
+use Rattle.asm_model.specs.Extents.{Extent, value_there, Loading}
 use Rattle.asm_model.specs.Laid.{LaidLine, taken, statements_of, pieces_of, laid, final_names}
 use Rattle.asm_model.specs.Marks.{datum_names}
 use Rattle.asm_model.specs.Offsets.{literal_word}
@@ -296,8 +296,8 @@ things_known ss count few area p x = elim (unit_or_word ss area p x) [ inl u ↦
         let l = x.loader in
         let c = context_behind ss l x.before in
         let v = literal_value (sees c) w.value in
-        let pseudo = loads_are_pseudo l.seen l.statement.what x.size w.value (sym (seen_extent ss x.after x.before l x.parts).0
-        ∙ taken_loads l.extent x.size w.value x.extent) in
+        let pseudo = loads_are_pseudo l.seen l.statement.what x.size w.value
+        ((seen_extent ss x.after x.before l x.parts).0 (Loading x.size w.value) (taken_loads l.extent x.size w.value x.extent)) in
         let fewer : Fewer (word_symbols (sees c) v) listed = λ q h.
         there x.after x.before l x.parts q
         (literal_fewer names l.line (taken l.extent) l.statement.what pseudo q (subst (λ e. IsListed (literal_symbols names l.line e) q) (sym x.extent) h)) in
@@ -309,12 +309,12 @@ pub things_below : (ss : List Statement) (count : ℕ) → length (areas_behind 
     → StandsIn (source_of ss) area p → UnitBelow count p.1
 things_below ss count few area p x = (things_known ss count few area p x).0
 
-pub symbols_are_listed : (ss : List Statement) → layout_faults ss ≡ None → (area : ℕ) (p : Piece) → StandsIn (source_of ss) area p
+pub symbols_are_listed : (ss : List Statement) → layout_faults ss ≡ [] → (area : ℕ) (p : Piece) → StandsIn (source_of ss) area p
     → UnitListed (symbols_of (final_names (laid ss)) (laid ss)) p.1
 symbols_are_listed ss none area p x = (things_known ss (length (areas_behind (statements_of (laid ss)))) (omega arith) area p x).1
 
 -- that of the word of each literal that a line loads too
-pub literal_listed : (ss : List Statement) → layout_faults ss ≡ None → (area : ℕ) (v : Value) → Loads area (laid ss) v
+pub literal_listed : (ss : List Statement) → layout_faults ss ≡ [] → (area : ℕ) (v : Value) → Loads area (laid ss) v
     → (x : Stored) → literal_stored (source_of ss) area v ≡ Ok x → TargetListed (symbols_of (final_names (laid ss)) (laid ss)) x.target
 literal_listed ss none area v h x e =
     symbols_are_listed ss none area

@@ -1,5 +1,5 @@
 -- The object of statements without faults is a valid object.
-use Rattle.std.proofs.Common.{◌≡◌, ◌^◌, ◌<◌, List, length, None}
+use Rattle.std.proofs.Common.{◌≡◌, ◌^◌, ◌<◌, List, length, []}
 use Rattle.aof_object.specs.declared.records.Object.{Object}
 use Rattle.aof_object.specs.Validity.{IsValid}
 use Rattle.asm_model.specs.declared.statements.Statement.{Statement}
@@ -25,7 +25,7 @@ object_is_valid ss o h areas symbols x =
       entry = entries_are_valid ss o h x;
     }
 
-pub objects_are_valid : (ss : List Statement) (o : Object) → AllSaid ss → AllHaveTexts ss → AllFit ss → layout_faults ss ≡ None → value_faults ss ≡ None
+pub objects_are_valid : (ss : List Statement) (o : Object) → AllSaid ss → AllHaveTexts ss → AllFit ss → layout_faults ss ≡ [] → value_faults ss ≡ []
     → AreOfState ss → length o.areas < 2 ^ 24 → length o.symbols < 2 ^ 24 → IsObject ss o → IsValid o
 objects_are_valid ss o said texts fit layout values states =
     object_is_valid ss o (record { said = said; texts = texts; fit = fit; layout = layout; values = values; states = states })

@@ -1,6 +1,6 @@
 -- The object of statements without faults is a valid object, part by part. Statements and lines are listed with the last
 -- first. This project's.
-use Rattle.std.specs.Prelude.{◌≡◌, ℕ, ◌^◌, ◌<◌, List, length, true, Option, Some, None}
+use Rattle.std.specs.Prelude.{◌≡◌, ℕ, ◌^◌, ◌<◌, List, length, true, Option, Some, None, []}
 use Rattle.std.specs.List.{list_any}
 use Rattle.aof_object.specs.declared.records.Object.{Object}
 use Rattle.aof_object.specs.Validity.{IsValid}
@@ -39,8 +39,8 @@ pub record AreFaultless (statements : List Statement) : Type 0 where
   pub said : AllSaid statements
   pub texts : AllHaveTexts statements
   pub fit : AllFit statements
-  pub layout : layout_faults statements ≡ None
-  pub values : value_faults statements ≡ None
+  pub layout : layout_faults statements ≡ []
+  pub values : value_faults statements ≡ []
   pub states : AreOfState statements
 
 -- ---- objects
@@ -48,5 +48,5 @@ pub record AreFaultless (statements : List Statement) : Type 0 where
 abbrev pub ObjectsAreValid : Type 0
 ObjectsAreValid =
     (statements : List Statement) (o : Object) → AllSaid statements → AllHaveTexts statements → AllFit statements
-    → layout_faults statements ≡ None → value_faults statements ≡ None → AreOfState statements
+    → layout_faults statements ≡ [] → value_faults statements ≡ [] → AreOfState statements
     → length o.areas < 2 ^ 24 → length o.symbols < 2 ^ 24 → IsObject statements o → IsValid o

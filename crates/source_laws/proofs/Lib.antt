@@ -1,5 +1,6 @@
 pub mod AgreeLemmas
 pub mod ApartLemmas
+pub mod FaultLemmas
 pub mod FaultlessLemmas
 pub mod LineLemmas
 pub mod ListLemmas

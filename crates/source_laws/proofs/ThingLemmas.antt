@@ -4,12 +4,13 @@ use Rattle.std.specs.Prelude.{Result, Ok, Err}
 use Rattle.sdt_fault.specs.declared.kinds.LineKind.{LineKind}
 use Rattle.asm_model.specs.declared.statements.Statement.{Statement}
 use Rattle.asm_model.specs.declared.values.Value.{Value}
-use Rattle.asm_model.specs.Extents.{extent_of}
+use Rattle.asm_model.specs.Extents.{Extent, extent_of}
 use Rattle.asm_model.specs.Laid.{LaidLine, taken, pieces_of, laid}
 use Rattle.asm_model.specs.LayoutKinds.{equals_in, settled, first_fault}
 use Rattle.asm_model.specs.Marks.{datum_names}
 use Rattle.asm_model.specs.Offsets.{waiting, start_in, size_of}
 use Rattle.asm_model.specs.Sound.{IsSound}
+use Rattle.asm_model.proofs.LaidLemmas.{extent_said}
 use Rattle.source_model.specs.Objects.{units_bytes, or_none}
 use Rattle.source_model.specs.Units.{Emitted, units}
 use Rattle.source_laws.specs.Laws.{word_among, context_behind}
@@ -19,20 +20,22 @@ use Rattle.asm_model.specs.Labels.{declared_names}
 
 -- ---- what a line puts
 
--- what a line takes up is by what it sees
+-- what a line takes up, where that is known, is by what it sees
 pub seen_extent : (ss : List Statement) (after before : List LaidLine) (l : LaidLine) → laid ss ≡ after ++ l ∷ before
-    → (l.extent ≡ extent_of l.seen l.statement.what) × (l.seen.thumb ≡ l.thumb) × (l.line.thumb ≡ l.seen.thumb)
+    → ((x : Extent) → l.extent ≡ Ok x → extent_of l.seen l.statement.what ≡ Ok x) × (l.seen.thumb ≡ l.thumb) × (l.line.thumb ≡ l.seen.thumb)
 seen_extent ss after before l e =
     let p = is_laid (declared_names ss) ss after before l e in
-    subst (λ (z : LaidLine). (z.extent ≡ extent_of z.seen z.statement.what) × (z.seen.thumb ≡ z.thumb) × (z.line.thumb ≡ z.seen.thumb))
-    (sym p.1) (refl, refl, refl)
+    subst
+    (λ (z : LaidLine).
+    ((x : Extent) → z.extent ≡ Ok x → extent_of z.seen z.statement.what ≡ Ok x) × (z.seen.thumb ≡ z.thumb) × (z.line.thumb ≡ z.seen.thumb)) (sym p.1)
+    (extent_said (declared_names ss) p.0 before, refl, refl)
 
 pub known_extent : (ss : List Statement) → IsSound ss → (after before : List LaidLine) (l : LaidLine) → laid ss ≡ after ++ l ∷ before
     → extent_of l.seen l.statement.what ≡ Ok (taken l.extent)
 known_extent ss sound after before l e =
     let S = settled (equals_in ss) in
     let x = line_known S ss l before (line_fine S ss after before l (subst (λ z. first_fault S ss z ≡ None) e sound)) in
-    sym (seen_extent ss after before l e).0 ∙ x.1 ∙ ap Ok (sym (ap taken x.1))
+    (seen_extent ss after before l e).0 x.0 x.1 ∙ ap Ok (sym (ap taken x.1))
 
 -- the units of a line, where the word of its literal is at an offset, if it has one
 abbrev pub units_with : List Statement → LaidLine → List LaidLine → Option ℕ → List Emitted

@@ -12,7 +12,7 @@ use Rattle.asm_model.specs.Extents.{Extent, Loading}
 use Rattle.asm_model.specs.Laid.{LaidLine, taken, pieces_of, names_behind, laid}
 use Rattle.asm_model.specs.OffsetLaws.{joined, IsLiteral}
 use Rattle.asm_model.specs.Offsets.{Piece as LaidPiece, is_of, same_literal, waiting, word_behind, is_pool, is_pool_of, literal_word}
-use Rattle.asm_model.proofs.LaidLemmas.{loadings_are_literals}
+use Rattle.asm_model.proofs.LaidLemmas.{extent_said, loadings_are_literals}
 use Rattle.asm_model.proofs.OffsetLemmas.{loaded_waits}
 use Rattle.source_model.specs.Objects.{in_order}
 use Rattle.source_laws.proofs.LineLemmas.{piece_of, pieces_joined, is_laid}
@@ -52,7 +52,7 @@ pub loads_literal : (ss : List Statement) (after before : List LaidLine) (l : La
 loads_literal ss after before l n v e h =
     let p = is_laid (declared_names ss) ss after before l e in
     loadings_are_literals (names_behind (declared_names ss) p.0 before) p.0.what n v
-    (ap (λ (z : LaidLine). z.extent) (sym p.1) ∙ taken_loads l.extent n v h)
+    (extent_said (declared_names ss) p.0 before (Loading n v) (ap (λ (z : LaidLine). z.extent) (sym p.1) ∙ taken_loads l.extent n v h))
 
 -- the literal of a line waits behind it
 pub waits_behind : (ss : List Statement) (area : ℕ) (after before : List LaidLine) (l : LaidLine) (n : ℕ) (v : Value) → laid ss ≡ after ++ l ∷ before

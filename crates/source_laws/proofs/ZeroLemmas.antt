@@ -1,10 +1,9 @@
 -- The contents of an area are those of each line that names it; among zeros no statement puts anything there.
 use Rattle.std.proofs.Common.{◌≡◌, ℕ, suc, ◌+◌, ◌<◌, ◌≤◌, List, [], ◌∷◌, ◌++◌, length, length-append, Bool, true, false, not, cond, refl, sym, ◌∙◌, ap, subst, arith, Option, Some, None, ◌⊎◌, inl, inr, ◌||◌, ◌&&◌, nat_lt}
-use Rattle.std.specs.Prelude.{Result, Ok, Err}
+use Rattle.std.specs.Prelude.{Ok}
 use Rattle.std.specs.List.{list_any}
-use Rattle.std.proofs.lemmas.Bool.{cond-true, cond-false, eq-eqb, or_parts, or_left, or_right}
+use Rattle.std.proofs.lemmas.Bool.{cond-true, cond-false, or_parts, or_left, or_right}
 use Rattle.std.proofs.lemmas.List.Folds.{list_any-append}
-use Rattle.sdt_fault.specs.declared.kinds.LineKind.{LineKind}
 use Rattle.sdt_fault.specs.declared.kinds.LineKind.TheVariants.{BadOperand, TooMany}
 use Rattle.asm_model.specs.declared.directives.AreaAttributes.{AreaAttributes}
 use Rattle.asm_model.specs.declared.directives.Contents.{Contents}
@@ -20,13 +19,13 @@ use Rattle.asm_model.specs.Kinds.{told_kind, kind_if}
 use Rattle.asm_model.proofs.WordLemmas.{same_refl, same_true}
 use Rattle.asm_model.specs.Before.{area_named, with_name, areas_behind, place_of, area_from, area_behind}
 use Rattle.asm_model.specs.Labels.{defined_by, declared_names}
-use Rattle.asm_model.specs.Laid.{LaidLine, statements_of, laid_of, laid}
-use Rattle.asm_model.specs.LayoutKinds.{fault_kinds, map_kinds, no_area_kinds, is_zero_statement, contents_kinds, contents_from, contents_behind, exponent, exponent_kinds, same_contents, same_mark, same_exponent, same_attributes, again_with, is_named_otherwise, area_kinds, name_kinds, equals_in, settled, settled_kinds, first_equal, state_kinds, layout_kinds, told_at, first_fault, area_bytes}
+use Rattle.asm_model.specs.Laid.{LaidLine, statements_of, laid_of, laid, area_bytes}
+use Rattle.asm_model.specs.LayoutKinds.{fault_kinds, map_kinds, no_area_kinds, is_zero_statement, contents_kinds, contents_from, contents_behind, exponent, exponent_kinds, same_contents, same_mark, same_exponent, same_attributes, named_with as area_with, first_named, differ, is_named_otherwise, area_kinds, name_kinds, equals_in, settled, settled_kinds, first_equal, state_kinds, layout_kinds, told_at, first_fault}
 use Rattle.asm_model.specs.Marks.{datum_names}
 use Rattle.asm_model.specs.Offsets.{is_of}
 use Rattle.asm_model.specs.OwnKinds.{own_kinds}
 use Rattle.asm_model.proofs.OffsetLemmas.{is_here}
-use Rattle.layout_laws.proofs.SoundLemmas.{both_empty, or_none, told_none, kind_none}
+use Rattle.layout_laws.proofs.SoundLemmas.{any_parts, both_empty, or_none, told_none, kind_none}
 use Rattle.source_model.specs.Contexts.{Context}
 use Rattle.source_model.specs.Objects.{Piece, units_from, or_none as units_or_none, source_of, IsAmong, StandsIn, contents_in, contents_of}
 use Rattle.source_model.specs.SourceFaults.{layout_faults}
@@ -139,11 +138,13 @@ none_beyond (l ∷ before) h k j =
 
 -- ---- the contents of an area
 
--- the contents of its first line, which lines that don't name it otherwise have too
-pub record Agreed (first : Option Contents) (otherwise : Names → AreaAttributes → Bool) : Type 0 where
+-- the contents of its first line, which are those of the first line that names it
+pub record Agreed (first : Option Contents) (named : Option (Names × AreaAttributes)) : Type 0 where
   pub kind : Contents
   pub is : first ≡ Some kind
-  pub alike : (s : Names) (a : AreaAttributes) → otherwise s a ≡ false → a.contents ≡ kind
+  pub giver : Names × AreaAttributes
+  pub given : named ≡ Some giver
+  pub holds : giver.1.contents ≡ kind
 
 pub contents_true : (a b : Contents) → same_contents a b ≡ true → a ≡ b
 contents_true contents.Code contents.Code h = refl
@@ -151,34 +152,9 @@ contents_true contents.Data contents.Data h = refl
 contents_true contents.Zeroes contents.Zeroes h = refl
 contents_true a b h = absurd (cc)
 
-pub contents_same : (a : Contents) → same_contents a a ≡ true
-contents_same contents.Code = refl
-contents_same contents.Data = refl
-contents_same contents.Zeroes = refl
-
-pub mark_same : (b : Bool) → same_mark b b ≡ true
-mark_same true = refl
-mark_same false = refl
-
-pub exponent_same : (r : Result ℕ LineKind) → same_exponent r r ≡ true
-exponent_same (Ok n) = eq-eqb n n refl
-exponent_same (Err k) = refl
-
 pub first_of_all : (a b c d e f g : Bool) → (a && b && c && d && e && f && g) ≡ true → a ≡ true
 first_of_all true b c d e f g h = refl
 first_of_all false b c d e f g h = absurd (cc)
-
-pub attributes_same : (s : Names) (a : AreaAttributes) → same_attributes s a s a ≡ true
-attributes_same s a =
-    rw (
-      contents_same a.contents,
-      mark_same a.read_only,
-      mark_same a.interwork,
-      mark_same a.halfword,
-      mark_same a.pic,
-      mark_same a.reentrant,
-      exponent_same (exponent s a.alignments),
-    ) refl
 
 pub attributes_true : (s : Names) (a : AreaAttributes) (t : Names) (b : AreaAttributes) → same_attributes s a t b ≡ true → a.contents ≡ b.contents
 attributes_true s a t b h =
@@ -187,59 +163,90 @@ attributes_true s a t b h =
     (same_mark a.halfword b.halfword) (same_mark a.pic b.pic) (same_mark a.reentrant b.reentrant)
     (same_exponent (exponent s a.alignments) (exponent t b.alignments)) h)
 
-pub rest_false : (c x r : Bool) → cond c (x || r) r ≡ false → r ≡ false
-rest_false true true r h = absurd (cc)
-rest_false true false r h = h
-rest_false false x r h = h
+-- a line that doesn't name its area otherwise gives it the same contents
+pub alike : (name : List ℕ) (s : Names) (a : AreaAttributes) (o : Option (Names × AreaAttributes)) (giver : Names × AreaAttributes)
+    → differ s a o ≡ false → or_else o (area_with name s (what.Directive (line.Area name a))) ≡ Some giver → a.contents ≡ giver.1.contents
+alike name s a None giver h e =
+    let z : Some (s, a) ≡ Some giver = sym (cond-true (same name name) (Some (s, a)) None (same_refl name)) ∙ e in
+    let y : (s, a) ≡ giver = cc in ap (λ x. x.1.contents) y
+alike name s a (Some (t, b)) giver h e =
+    let y : (t, b) ≡ giver = cc in attributes_true s a t b (not_false (same_attributes s a t b) h) ∙ ap (λ x. x.1.contents) y
 
-pub first_false : (c x r : Bool) → c ≡ true → cond c (not x || r) r ≡ false → x ≡ true
-first_false true true r e h = refl
-first_false true false r e h = absurd (cc)
-first_false false x r e h = absurd (cc)
+-- ---- areas that no line names
+
+not_grown : (n m : List ℕ) (t : Bool) (xs : List (List ℕ)) → list_any (same n) (cond t xs (xs ++ m ∷ [])) ≡ false → list_any (same n) xs ≡ false
+not_grown n m true xs h = h
+not_grown n m false xs h = (any_parts (same n) xs (m ∷ []) h).0
+
+not_with : (n : List ℕ) (s : Names) (w : What) (xs : List (List ℕ)) → list_any (same n) (with_name (area_named w) xs) ≡ false
+    → (list_any (same n) xs ≡ false) × (area_with n s w ≡ None)
+not_with n s (what.Directive (line.Area name b)) xs h = (not_grown n name (list_any (same name) xs) xs h, by_test (same n name) refl)
+  where
+    giver : Names × AreaAttributes
+    giver = (s, b)
+
+    by_test : (c : Bool) → same n name ≡ c → cond c (Some giver) None ≡ None
+    by_test false e = refl
+    by_test true e =
+        let y = subst (λ m. list_any (same n) (with_name (Some m) xs) ≡ true) (same_true n name e) (named_with n xs) in absurd (cc)
+not_with n s w xs h = (h, refl)
+
+pub named_nowhere : (n : List ℕ) (lines : List LaidLine) → list_any (same n) (names_of lines) ≡ false → first_named n lines ≡ None
+named_nowhere n [] h = refl
+named_nowhere n (l ∷ before) h =
+    let p = not_with n l.seen l.statement.what (names_of before) h in
+    ap (λ o. or_else o (area_with n l.seen l.statement.what)) (named_nowhere n before p.0) ∙ p.1
+
+-- ---- lines agree
 
 -- a line that names no area says nothing new
 abbrev pub Known : List LaidLine → List (List ℕ) → Type 0
-Known before xs = (n : List ℕ) → list_any (same n) xs ≡ true → Agreed (contents_of (place_of n xs) before) (λ s a. is_named_otherwise n s a before)
+Known before xs = (n : List ℕ) → list_any (same n) xs ≡ true → Agreed (contents_of (place_of n xs) before) (first_named n before)
 
 abbrev pub grown : Bool → List ℕ → List (List ℕ) → List (List ℕ)
 grown known n xs = cond known xs (xs ++ n ∷ [])
 
 -- an area that was named before
 pub old_area : (l : LaidLine) (before : List LaidLine) (k : ℕ) (name n : List ℕ) (b : AreaAttributes) (x : Option Contents)
-    → Agreed (contents_of k before) (λ s a. is_named_otherwise n s a before)
-    → Agreed (or_else (contents_of k before) x) (λ s a. again_with n s a l.seen (what.Directive (line.Area name b)) (is_named_otherwise n s a before))
+    → Agreed (contents_of k before) (first_named n before)
+    → Agreed (or_else (contents_of k before) x) (or_else (first_named n before) (area_with n l.seen (what.Directive (line.Area name b))))
 old_area l before k name n b x p = record {
   kind = p.kind;
   is = ap (λ o. or_else o x) p.is;
-  alike = λ s a h. p.alike s a (rest_false (same n name) (not (same_attributes s a l.seen b)) (is_named_otherwise n s a before) h);
+  giver = p.giver;
+  given = ap (λ o. or_else o (area_with n l.seen (what.Directive (line.Area name b)))) p.given;
+  holds = p.holds;
 }
 
 -- an area that is new
 pub new_area : (l : LaidLine) (before : List LaidLine) (k : ℕ) (name n : List ℕ) (b : AreaAttributes) → same n name ≡ true → contents_of k before ≡ None
-    → l.area ≡ Some k
+    → first_named n before ≡ None → l.area ≡ Some k
     → Agreed (or_else (contents_of k before) (contents_in k l (what.Directive (line.Area name b))))
-    (λ s a. again_with n s a l.seen (what.Directive (line.Area name b)) (is_named_otherwise n s a before))
-new_area l before k name n b e none own = record {
+    (or_else (first_named n before) (area_with n l.seen (what.Directive (line.Area name b))))
+new_area l before k name n b e none unnamed own = record {
   kind = b.contents;
   is = ap (λ o. or_else o (contents_in k l (what.Directive (line.Area name b)))) none
       ∙ cond-true (is_of k l.area) (Some b.contents) None (is_here k l.area own);
-  alike = λ s a h.
-      attributes_true s a l.seen b (first_false (same n name) (same_attributes s a l.seen b) (is_named_otherwise n s a before) e h);
+  giver = (l.seen, b);
+  given = ap (λ o. or_else o (area_with n l.seen (what.Directive (line.Area name b)))) unnamed
+      ∙ cond-true (same n name) (Some (l.seen, b)) None e;
+  holds = refl;
 }
 
 pub area_agreed : (l : LaidLine) (before : List LaidLine) (xs : List (List ℕ)) (name : List ℕ) (b : AreaAttributes) (t : Bool)
     → list_any (same name) xs ≡ t → l.area ≡ Some (place_of name (grown t name xs)) → Known before xs
-    → ((k : ℕ) → length xs ≤ k → contents_of k before ≡ None) → (n : List ℕ) → list_any (same n) (grown t name xs) ≡ true
+    → ((k : ℕ) → length xs ≤ k → contents_of k before ≡ None) → ((m : List ℕ) → list_any (same m) xs ≡ false → first_named m before ≡ None)
+    → (n : List ℕ) → list_any (same n) (grown t name xs) ≡ true
     → Agreed (or_else (contents_of (place_of n (grown t name xs)) before) (contents_in (place_of n (grown t name xs)) l (what.Directive (line.Area name b))))
-    (λ s a. again_with n s a l.seen (what.Directive (line.Area name b)) (is_named_otherwise n s a before))
-area_agreed l before xs name b true e own known beyond n h =
+    (or_else (first_named n before) (area_with n l.seen (what.Directive (line.Area name b))))
+area_agreed l before xs name b true e own known beyond unnamed n h =
     old_area l before (place_of n xs) name n b (contents_in (place_of n xs) l (what.Directive (line.Area name b))) (known n h)
-area_agreed l before xs name b false e own known beyond n h = by_test (list_any (same n) xs) refl
+area_agreed l before xs name b false e own known beyond unnamed n h = by_test (list_any (same n) xs) refl
   where
     Goal : ℕ → Type 0
     Goal k =
         Agreed (or_else (contents_of k before) (contents_in k l (what.Directive (line.Area name b))))
-        (λ s a. again_with n s a l.seen (what.Directive (line.Area name b)) (is_named_otherwise n s a before))
+        (or_else (first_named n before) (area_with n l.seen (what.Directive (line.Area name b))))
 
     by_test : (u : Bool) → list_any (same n) xs ≡ u → Goal (place_of n (xs ++ name ∷ []))
     by_test true x =
@@ -249,7 +256,7 @@ area_agreed l before xs name b false e own known beyond n h = by_test (list_any 
         let y : same n name ≡ true = alone (any_right n xs (name ∷ []) x h) in
         let z : n ≡ name = same_true n name y in
         let w : place_of n (xs ++ name ∷ []) ≡ length xs = ap (λ m. place_of n (xs ++ m ∷ [])) (sym z) ∙ place_new n xs x in
-        subst Goal (sym w) (new_area l before (length xs) name n b y (beyond (length xs) (omega arith)) (own ∙ ap Some (place_new name xs e)))
+        subst Goal (sym w) (new_area l before (length xs) name n b y (beyond (length xs) (omega arith)) (unnamed n x) (own ∙ ap Some (place_new name xs e)))
       where
         alone : list_any (same n) (name ∷ []) ≡ true → same n name ≡ true
         alone k = by_first (same n name) k
@@ -260,18 +267,21 @@ area_agreed l before xs name b false e own known beyond n h = by_test (list_any 
 
 pub line_agreed : (l : LaidLine) (before : List LaidLine) (xs : List (List ℕ)) (o : Option ℕ) (w : What)
     → l.area ≡ area_from (area_named w) (with_name (area_named w) xs) o → Known before xs → ((k : ℕ) → length xs ≤ k → contents_of k before ≡ None)
+    → ((m : List ℕ) → list_any (same m) xs ≡ false → first_named m before ≡ None)
     → (n : List ℕ) → list_any (same n) (with_name (area_named w) xs) ≡ true
     → Agreed (or_else (contents_of (place_of n (with_name (area_named w) xs)) before) (contents_in (place_of n (with_name (area_named w) xs)) l w))
-    (λ s a. again_with n s a l.seen w (is_named_otherwise n s a before))
-line_agreed l before xs o (what.Directive (line.Area name b)) e known beyond n h =
-    area_agreed l before xs name b (list_any (same name) xs) refl e known beyond n h
-line_agreed l before xs o w e known beyond n h =
-    let p = known n h in record { kind = p.kind; is = ap (λ z. or_else z None) p.is; alike = p.alike }
+    (or_else (first_named n before) (area_with n l.seen w))
+line_agreed l before xs o (what.Directive (line.Area name b)) e known beyond unnamed n h =
+    area_agreed l before xs name b (list_any (same name) xs) refl e known beyond unnamed n h
+line_agreed l before xs o w e known beyond unnamed n h =
+    let p = known n h in
+    record { kind = p.kind; is = ap (λ z. or_else z None) p.is; giver = p.giver; given = ap (λ z. or_else z None) p.given; holds = p.holds }
 
 pub agreed : (lines : List LaidLine) → AreNumbered lines → Known lines (names_of lines)
 agreed [] h n e = absurd (cc)
 agreed (l ∷ before) h n e =
-    line_agreed l before (names_of before) (area_behind (statements_of before)) l.statement.what h.0 (agreed before h.1) (none_beyond before h.1) n e
+    line_agreed l before (names_of before) (area_behind (statements_of before)) l.statement.what h.0 (agreed before h.1) (none_beyond before h.1)
+    (λ m. named_nowhere m before) n e
 
 -- ---- the contents behind lines
 
@@ -298,22 +308,17 @@ line_kinds S all l before h =
 abbrev pub Behind : ℕ → Option Contents → Option Contents → Type 0
 Behind k first nearest = (c : Contents) × (first ≡ Some c) × (nearest ≡ Some c)
 
-pub otherwise_false : (n : List ℕ) (s : Names) (a : AreaAttributes) (rest : Bool) → rest ≡ false
-    → again_with n s a s (what.Directive (line.Area n a)) rest ≡ false
-otherwise_false n s a rest h =
-    cond-true (same n n) (not (same_attributes s a s a) || rest) rest (same_refl n) ∙ ap (λ b. not b || rest) (attributes_same s a) ∙ h
-
 pub behind_line : (l : LaidLine) (before : List LaidLine) (xs : List (List ℕ)) (o : Option ℕ) (k : ℕ) (w : What) (c : Option Contents)
     → ((n : List ℕ) → list_any (same n) (with_name (area_named w) xs) ≡ true
     → Agreed (or_else (contents_of (place_of n (with_name (area_named w) xs)) before) (contents_in (place_of n (with_name (area_named w) xs)) l w))
-    (λ s a. again_with n s a l.seen w (is_named_otherwise n s a before)))
+    (or_else (first_named n before) (area_with n l.seen w)))
     → area_kinds l.seen w before ≡ [] → (o ≡ Some k → Behind k (contents_of k before) c) → area_from (area_named w) (with_name (area_named w) xs) o ≡ Some k
     → Behind k (or_else (contents_of k before) (contents_in k l w)) (contents_from w c)
 behind_line l before xs o k (what.Directive (line.Area name b)) c known fine earlier e =
     let p = known name (named_with name xs) in
     let q = both_empty (exponent_kinds (exponent l.seen b.alignments)) (kind_if (is_named_otherwise name l.seen b before) BadOperand) fine in
     let r = kind_none (is_named_otherwise name l.seen b before) BadOperand q.1 in
-    let x = p.alike l.seen b (otherwise_false name l.seen b (is_named_otherwise name l.seen b before) r) in
+    let x = alike name l.seen b (first_named name before) p.giver r p.given ∙ p.holds in
     let y : place_of name (with_name (Some name) xs) ≡ k = cc in (
       p.kind,
       subst (λ j. or_else (contents_of j before) (contents_in j l (what.Directive (line.Area name b))) ≡ Some p.kind) y p.is,
@@ -350,7 +355,7 @@ no_pseudo (what.Directive l) h p = p
 -- ---- the law
 
 -- a statement may stand in its area
-pub contents_there : (ss : List Statement) → layout_faults ss ≡ None → (area : ℕ) (c : Contents) → contents_of area (laid ss) ≡ Some c
+pub contents_there : (ss : List Statement) → layout_faults ss ≡ [] → (area : ℕ) (c : Contents) → contents_of area (laid ss) ≡ Some c
     → (after before : List LaidLine) (l : LaidLine) → laid ss ≡ after ++ l ∷ before → l.area ≡ Some area
     → contents_kinds (Some c) l.thumb l.statement.what ≡ []
 contents_there ss none area c holds after before l parts own =
@@ -365,13 +370,13 @@ contents_there ss none area c holds after before l parts own =
     let q = (line_kinds S ss l before (told_none l.statement (layout_kinds S ss l before) p.1)).0 in
     subst (λ o. contents_kinds o l.thumb l.statement.what ≡ []) (behind.2 ∙ ap Some is) q
 
-zero_there : (ss : List Statement) → layout_faults ss ≡ None → (area : ℕ) → contents_of area (laid ss) ≡ Some contents.Zeroes
+zero_there : (ss : List Statement) → layout_faults ss ≡ [] → (area : ℕ) → contents_of area (laid ss) ≡ Some contents.Zeroes
     → (after before : List LaidLine) (l : LaidLine) → laid ss ≡ after ++ l ∷ before → l.area ≡ Some area → is_zero_statement l.statement.what ≡ true
 zero_there ss none area zeroes after before l parts own =
     not_false (is_zero_statement l.statement.what)
     (kind_none (not (is_zero_statement l.statement.what)) BadOperand (contents_there ss none area contents.Zeroes zeroes after before l parts own))
 
-pub zero_areas_hold_nothing : (ss : List Statement) → layout_faults ss ≡ None
+pub zero_areas_hold_nothing : (ss : List Statement) → layout_faults ss ≡ []
     → (area : ℕ) (p : Piece) → contents_of area (laid ss) ≡ Some contents.Zeroes → StandsIn (source_of ss) area p → ⊥
 zero_areas_hold_nothing ss none area p zeroes h = by_kind (unit_or_word ss area p h)
   where

@@ -1,7 +1,7 @@
 -- What stands in an area stands apart: what a statement puts there is no longer than what it takes up, the statements of
 -- an area follow each other, and the words of a pool lie where its LTORG stands or at the area's end. A source makes one
 -- object at most. Lines are listed with the last first. This project's.
-use Rattle.std.specs.Prelude.{◌≡◌, ◌⊎◌, ℕ, ◌+◌, ◌≤◌, List, [], ◌∷◌, ◌++◌, length, Bool, true, false, Option, None}
+use Rattle.std.specs.Prelude.{◌≡◌, ◌⊎◌, ℕ, ◌+◌, ◌≤◌, List, [], ◌∷◌, ◌++◌, length, Bool, true, false, Option}
 use Rattle.aof_object.specs.declared.records.Object.{Object}
 use Rattle.asm_model.specs.declared.directives.DirectiveLine.{DirectiveLine}
 use Rattle.asm_model.specs.declared.statements.Statement.{Statement}
@@ -74,7 +74,7 @@ SourcesKeepStates = (statements : List Statement) → KeepStates statements → 
 
 abbrev pub SourcesStandApart : Type 0
 SourcesStandApart =
-    (statements : List Statement) → layout_faults statements ≡ None → AreOfState statements
+    (statements : List Statement) → layout_faults statements ≡ [] → AreOfState statements
     → (area : ℕ) (p q : Piece) → StandsIn (source_of statements) area p → StandsIn (source_of statements) area q
     → (p ≡ q) ⊎ StandApart p q
 
