@@ -1,5 +1,5 @@
 -- Faults that need the whole layout, by what is kept of areas.
-use Rattle.std.proofs.Common.{◌≡◌, ℕ, true, false, List, [], ◌∷◌, ◌++◌, Option, Some, None, refl, sym, ap, ◌∙◌}
+use Rattle.std.proofs.Common.{◌≡◌, ℕ, true, false, List, [], ◌∷◌, Option, Some, None, refl, sym, ap, ◌∙◌}
 use Rattle.std.specs.Prelude.{◌&&◌}
 use Rattle.std.specs.List.{slice_get}
 use Rattle.sdt_fault.specs.declared.kinds.LineKind.{LineKind}
@@ -9,7 +9,7 @@ use Rattle.asm_model.specs.FaultSets.{first_told}
 use Rattle.asm_model.specs.Kinds.{told_kind, kind_if}
 use Rattle.asm_model.specs.Extents.{Extent, Block, Padding, Loading, Pool}
 use Rattle.asm_model.specs.Laid.{LaidLine, taken, pieces_of, reversed}
-use Rattle.asm_model.specs.LayoutKinds.{entry_kinds, literal_kinds, is_entry}
+use Rattle.asm_model.specs.LayoutKinds.{entry_kinds, literal_kinds, whole_kinds, is_entry}
 use Rattle.asm_model.specs.OffsetLaws.{joined}
 use Rattle.asm_model.specs.Offsets.{Piece, is_of, area_size, literal_word, start_in}
 use Rattle.asm_offsets.specs.declared.extents.LaidPools.{LaidPools}
@@ -97,7 +97,7 @@ pub late_is : LiteralsArePlaced → (all before rest : List LaidLine) (l : LaidL
     (a b : Option LineKind)
     → a ≡ told_kind (kind_if (is_wrong_entry w area x.offset pools) BadOperand) → b ≡ told_kind (kind_if (is_far pools area x.literal) TooMany)
     → AreWhole all pools → IsPosition all before rest l w x → x.area ≡ Some area
-    → first_told a b ≡ told_kind (entry_kinds l.area l all ++ literal_kinds l.area (taken l.extent) (pieces_of (l ∷ before)) (pieces_of rest))
+    → first_told a b ≡ told_kind (whole_kinds all l before rest)
 late_is law all before rest l w x pools area a b e f h i at =
     rw (entry_is all before rest l w x pools area h i at, literal_is law all before rest l w x pools area h i at)
     (told_of_two a b (kind_if (is_wrong_entry w area x.offset pools) BadOperand) (kind_if (is_far pools area x.literal) TooMany) e f)

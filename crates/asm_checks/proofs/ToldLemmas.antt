@@ -1,5 +1,5 @@
 -- What is told of a line's faults, part by part.
-use Rattle.std.proofs.Common.{◌≡◌, List, ◌++◌, Option, Some, None, refl, sym, ap, ◌∙◌}
+use Rattle.std.proofs.Common.{◌≡◌, List, ◌++◌, Option, refl, sym, ap, ◌∙◌}
 use Rattle.sdt_fault.specs.declared.kinds.LineKind.{LineKind}
 use Rattle.asm_model.specs.FaultSets.{first_told}
 use Rattle.asm_model.specs.Kinds.{told_kind}
@@ -22,16 +22,3 @@ told_of_seven here attributes defined ks ls ms ns os ps qs e f g =
       told_by_parts (ks ++ ls) ms,
       told_by_parts ks ls,
     ) refl))
-
--- where nothing is told, nothing is told of a part
-pub none_first : (a b : Option LineKind) → first_told a b ≡ None → a ≡ None
-none_first None b e = refl
-none_first (Some k) None e = absurd (cc)
-none_first (Some k) (Some j) e = absurd (cc)
-
-pub none_of_attributes : (here attributes defined : Option LineKind) → first_told here (first_told attributes defined) ≡ None → attributes ≡ None
-none_of_attributes here None defined e = refl
-none_of_attributes None (Some k) None e = absurd (cc)
-none_of_attributes None (Some k) (Some j) e = absurd (cc)
-none_of_attributes (Some i) (Some k) None e = absurd (cc)
-none_of_attributes (Some i) (Some k) (Some j) e = absurd (cc)

@@ -3,8 +3,8 @@
 use Rattle.std.specs.Prelude.{◌≡◌, ℕ, ◌+◌, ◌&&◌, not, nat_lt, List, ◌∷◌, slice_get, Bool, false, Option, Some, None}
 use Rattle.std.specs.Option.{option_map}
 use Rattle.asm_model.specs.declared.statements.What.{What}
-use Rattle.asm_model.specs.Laid.{LaidLine, taken, pieces_of, reversed}
-use Rattle.asm_model.specs.LayoutKinds.{is_entry, area_bytes}
+use Rattle.asm_model.specs.Laid.{LaidLine, taken, pieces_of, reversed, area_bytes}
+use Rattle.asm_model.specs.LayoutKinds.{is_entry}
 use Rattle.asm_offsets.specs.declared.extents.LaidPools.{LaidPools}
 use Rattle.asm_offsets.specs.Finished.{AreLaid}
 use Rattle.asm_offsets.specs.Laws.{AllExtents}

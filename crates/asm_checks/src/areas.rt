@@ -1,6 +1,6 @@
 //! Areas that are named again.
 
-ghost use Rattle.std.specs.Prelude.{◌≡◌, ◌++◌, ◌∷◌, List, None, Ok, IfOk, OnOk};
+ghost use Rattle.std.specs.Prelude.{◌≡◌, ◌++◌, ◌∷◌, List, IfOk, OnOk};
 ghost use Rattle.sdt_fault.specs.declared.kinds.LineKind.TheVariants.{BadOperand};
 ghost use Rattle.asm_model.specs.declared.names.Names.{Names};
 ghost use Rattle.asm_model.specs.Kinds as kinds;
@@ -26,8 +26,8 @@ pub struct AreaMarks {
     pub halfword: bool,
     pub pic: bool,
     pub reentrant: bool,
-    /// The exponent of its alignment.
-    pub exponent: u32,
+    /// The exponent of its alignment, where it is known.
+    pub exponent: Result<u32, LineKind>,
 }
 
 fn same_contents(a: Contents, b: Contents) -> bool
@@ -50,13 +50,13 @@ fn same_mark(a: bool, b: bool) -> bool
     !b
 }
 
-/// Whether exponents agree; one that isn't known is told by itself.
-fn same_exponent(exponent: Result<u32, LineKind>, known: u32) -> bool
-    ensures { result ≡ layout.same_exponent exponent (Ok known) }
+/// Whether exponents agree; one that isn't known is told by itself, and agrees with any.
+fn same_exponent(a: Result<u32, LineKind>, b: Result<u32, LineKind>) -> bool
+    ensures { result ≡ layout.same_exponent a b }
 {
-    match exponent {
-        Ok(exponent) => exponent == known,
-        Err(_) => true,
+    match (a, b) {
+        (Ok(a), Ok(b)) => a == b,
+        (_, _) => true,
     }
 }
 
@@ -83,7 +83,7 @@ fn exponent_kind(exponent: Result<u32, LineKind>) -> Option<LineKind>
     }
 }
 
-fn marks_of(attributes: &AreaAttributes, exponent: u32) -> AreaMarks
+fn marks_of(attributes: &AreaAttributes, exponent: Result<u32, LineKind>) -> AreaMarks
     ensures { result ≡ areas_of.marks_of attributes.now exponent }
 {
     AreaMarks {
@@ -104,7 +104,7 @@ fn marks_in(areas: &NameMap<AreaMarks>, name: &SharedText) -> Option<AreaMarks>
     areas.find(name)
 }
 
-/// Notes the attributes of an area that has none yet, where its exponent is known.
+/// Notes the attributes of an area that has none yet.
 fn note(
     alloc: Global,
     areas: &mut NameMap<AreaMarks>,
@@ -114,10 +114,9 @@ fn note(
 ) -> Result<(), NoMemory>
     ensures { OnOk result (IsNoted name.now attributes.now exponent areas.old areas.new) }
 {
-    match (exponent, marks_in(areas, name)) {
-        (Err(_), _) => Ok(()),
-        (Ok(_), Some(_)) => Ok(()),
-        (Ok(exponent), None) => {
+    match marks_in(areas, name) {
+        Some(_) => Ok(()),
+        None => {
             areas.add(alloc, name, marks_of(attributes, exponent))?;
             Ok(())
         }
@@ -160,7 +159,7 @@ fn named_kind(
     ))
 }
 
-/// The fault of a line by the attributes that it gives an area. Behind a line without one its area is known.
+/// The fault of a line by the attributes that it gives an area. From now on its area is known.
 pub fn area_kind(
     alloc: Global,
     areas: &mut NameMap<AreaMarks>,
@@ -170,9 +169,9 @@ pub fn area_kind(
     ensures told { IfOk result (λ told. (s : Names) (before : List LaidLine)
         → AreAreasOf before areas.old → IsExponent s what.now exponent → told
         ≡ told_kind (layout.area_kinds s what.now before)) }
-    ensures noted { IfOk result (λ told. (l : LaidLine) (before : List LaidLine)
+    ensures noted { OnOk result ((l : LaidLine) (before : List LaidLine)
         → AreAreasOf before areas.old → l.statement.what ≡ what.now
-        → IsExponent l.seen what.now exponent → told ≡ None → AreAreasOf (l ∷ before) areas.new) }
+        → IsExponent l.seen what.now exponent → AreAreasOf (l ∷ before) areas.new) }
 {
     match what {
         What::Directive(DirectiveLine::Area { name, attributes }) => {

@@ -1,12 +1,11 @@
 //! The checks of a source's lines, one behind the other.
 
-ghost use Rattle.std.specs.Prelude.{◌≡◌, ◌&&◌, ◌||◌, ◌∷◌, [], ℕ, List, None, IfOk};
+ghost use Rattle.std.specs.Prelude.{◌≡◌, ◌&&◌, ◌||◌, [], ℕ, List, IfOk, OnOk};
 ghost use Rattle.sdt_fault.specs.declared.kinds.LineKind.TheVariants.{DuplicateName};
 ghost use Rattle.asm_model.specs.declared.exprs.Expr.{Expr};
 ghost use Rattle.asm_model.specs.declared.statements.Statement.{Statement};
 ghost use Rattle.asm_model.specs.Kinds as kinds;
 ghost use Rattle.asm_model.specs.Kinds.{told_kind};
-ghost use Rattle.asm_model.specs.Laid.{LaidLine};
 ghost use Rattle.asm_model.specs.LayoutKinds as layout;
 ghost use Rattle.asm_checks.specs.Checked.{IsChecked, IsCircular, IsLine, Keeps, Tells};
 
@@ -79,7 +78,7 @@ impl Checks {
     /// The fault of the next line that is told, of those that need no values but the exponent of an area. Where a
     /// statement is no AREA its `exponent` isn't looked at; `circular` tells whether it is the first that defines a name
     /// which depends on itself, and `repeated` whether it defines a name that is defined before it, or one name twice; whether its area is one
-    /// of Thumb code counts for ENTRY. Behind a line with a fault, or an `Err`, nothing more can be checked.
+    /// of Thumb code counts for ENTRY. Behind an `Err` nothing more can be checked.
     pub fn check(
         &mut self,
         statement: &Statement,
@@ -93,9 +92,9 @@ impl Checks {
         ensures told { IfOk result
             (λ told. Tells (IsLine statement.now area thumb thumb_area exponent circular repeated) self.old
             told) }
-        ensures behind { IfOk result
-            (λ told. Keeps (IsLine statement.now area thumb thumb_area exponent circular repeated) self.old
-            self.new told) }
+        ensures behind { OnOk result
+            (Keeps (IsLine statement.now area thumb thumb_area exponent circular repeated) self.old
+            self.new) }
     {
         self.contents = contents_from(&statement.what, self.contents);
         let here = first_told(

@@ -1,8 +1,8 @@
 //! Faults that need the whole layout: an ENTRY in the wrong place, and literals whose words end too far.
 
-ghost use Rattle.std.specs.Prelude.{◌≡◌, ◌∷◌, ◌++◌, List};
+ghost use Rattle.std.specs.Prelude.{◌≡◌, List};
 ghost use Rattle.asm_model.specs.Kinds.{told_kind};
-ghost use Rattle.asm_model.specs.Laid.{pieces_of, reversed, taken, LaidLine};
+ghost use Rattle.asm_model.specs.Laid.{LaidLine};
 ghost use Rattle.asm_model.specs.LayoutKinds as layout;
 ghost use Rattle.asm_checks.specs.Late as late;
 
@@ -89,12 +89,11 @@ fn ends_far(word: Option<u32>) -> bool
     }
 }
 
-/// The fault of a line that needs the whole layout, where the areas of the source were laid out so.
+/// The fault of a line by the whole layout, where the areas of the source were laid out so.
 pub fn late_kind(what: &What, position: Position, pools: &[LaidPools]) -> Option<LineKind>
     ensures { (all before rest : List LaidLine) (l : LaidLine) → late.AreWhole all pools.now
         → late.IsPosition all before rest l what.now position → result
-        ≡ told_kind (layout.entry_kinds l.area l all ++ layout.literal_kinds l.area
-        (taken l.extent) (pieces_of (l ∷ before)) (pieces_of rest)) }
+        ≡ told_kind (layout.whole_kinds all l before rest) }
 {
     literals_are_placed();
     match position.area {

@@ -1,11 +1,10 @@
-use Rattle.std.proofs.Common.{sym, ap, ◌∙◌, ◌||◌, Bool, Option}
+use Rattle.std.proofs.Common.{ap, ◌∙◌, ◌||◌, Bool, Option}
 use Rattle.sdt_fault.specs.declared.kinds.LineKind.{LineKind}
 use Rattle.asm_model.specs.declared.statements.Statement.{Statement}
 use Rattle.asm_model.specs.Labels.{defined_by}
 use Rattle.asm_model.specs.Laid.{statements_of}
 use Rattle.asm_model.specs.LayoutKinds.{contents_from, is_entry, first_equal}
 use Rattle.asm_model.specs.FaultSets.{first_told}
-use Rattle.asm_checks.proofs.ToldLemmas.{none_first, none_of_attributes}
 use Rattle.asm_checks.proofs.LineLemmas.{names_told, line_told}
 use Rattle.asm_checks.proofs.checks.Checks.check.Goals as goal
 
@@ -30,12 +29,8 @@ returns-clause-told c = λ settled all l before k i.
     c.own_kind-own.ensures
 
 pub returns-clause-behind : goal.returns-clause-behind
-returns-clause-behind c = λ settled all l before k i none. record {
+returns-clause-behind c = λ settled all l before k i. record {
   contents = rw i.said (c.contents_from-self.ensures ∙ ap (contents_from c.args.statement.now.what) k.contents);
-  areas = c.in_ok-attributes.ensures.noted l before k.areas (ap (λ (s : Statement). s.what) i.said) i.aligned
-      (none_of_attributes c.first_told-here.result c.in_ok-attributes.attributes c.first_told-defined.result
-      (sym (c.first_told-found.ensures ∙ ap (first_told c.first_told-here.result) c.first_told.ensures)
-      ∙ none_first c.first_told-found.result c.state_kind-state.result (sym c.first_told-2.ensures
-      ∙ none_first c.first_told-2.result c.own_kind-own.result (sym c.first_told-3.ensures ∙ none))));
+  areas = c.in_ok-attributes.ensures.noted l before k.areas (ap (λ (s : Statement). s.what) i.said) i.aligned;
   entry = rw i.said (c.is_second_entry-second.ensures.now ∙ ap (λ (b : Bool). is_entry c.args.statement.now.what || b) k.entry);
 }
