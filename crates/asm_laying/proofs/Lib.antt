@@ -5,3 +5,4 @@ pub mod NumberLemmas
 pub mod ReadLemmas
 pub mod SeeLemmas
 pub mod TakenLemmas
+pub mod TakingLemmas

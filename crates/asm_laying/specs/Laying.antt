@@ -1,21 +1,20 @@
 -- The state behind the lines of a source so far, and what a statement more gives. SDT 2.50 Reference Guide, chapter on the
 -- assembler. Lines are listed with the nearest first.
-use Rattle.std.specs.Prelude.{◌≡◌, ℕ, ◌+◌, ◌<◌, List, [], ◌∷◌, ◌++◌, length, nat_lt, Bool, true, Option, Some, None, Result, Ok, Err, IfOk}
+use Rattle.std.specs.Prelude.{◌≡◌, ℕ, ◌<◌, List, [], ◌∷◌, ◌++◌, length, Bool, true, Option, Some, None, Result, Ok, Err}
 use Rattle.std.specs.Global.{Vec}
 use Rattle.sdt_fault.specs.declared.NoMemory.{NoMemory}
 use Rattle.sdt_fault.specs.declared.kinds.LineKind.{LineKind}
-use Rattle.sdt_fault.specs.declared.kinds.LineKind.TheVariants.{TooMany}
 use Rattle.asm_model.specs.declared.names.LaidName.{LaidName}
 use Rattle.asm_model.specs.declared.statements.Statement.{Statement}
 use Rattle.asm_model.specs.declared.names.Names.{Names}
 use Rattle.asm_model.specs.AtLine.{seen_behind, added_names}
-use Rattle.asm_model.specs.Kinds.{told_kind, kind_if}
+use Rattle.asm_model.specs.Kinds.{told_kind}
 use Rattle.asm_model.specs.Before.{thumb_behind, areas_behind, area_behind, is_thumb_label}
 use Rattle.asm_model.specs.Extents.{extent_of}
 use Rattle.asm_model.specs.Labels.{Defined, Equal, defined_by, imported_in, imported_entries}
 use Rattle.asm_model.specs.Laid.{LaidLine, statements_of, lines_of, taken, pieces_of, map_behind, offset_behind, names_behind, laid_behind, tree_equated}
 use Rattle.asm_model.specs.Trees.{tree_of}
-use Rattle.asm_model.specs.LayoutKinds.{fault_kinds, map_kinds, area_bytes}
+use Rattle.asm_model.specs.LayoutKinds.{fault_kinds, map_kinds}
 use Rattle.asm_expr.specs.Places.{AreFirst}
 use Rattle.asm_names.specs.Defining.{own_entry}
 use Rattle.asm_names.specs.PlacedLines.{IsLine}
@@ -154,7 +153,7 @@ OkExtent (Err k) = Unit {0}
 
 -- ---- the answer
 
--- the kind that is told of a laid line, of those that this crate finds; a line behind the last offset has its extent's
+-- the kind that is told of a laid line, of those that this crate finds
 abbrev pub told_of : LaidLine → Option LineKind
 told_of l = told_kind (fault_kinds l.extent ++ map_kinds l.seen l.statement.what)
 
@@ -164,19 +163,11 @@ pub record IsStatement (x : LaidStatement) (l : LaidLine) (before : List LaidLin
   pub literal : x.literal ≡ entry_behind l.area (pieces_of before) (taken l.extent)
   pub strings : x.strings ≡ string_marks l.seen l.statement.what
 
--- a statement that is reached gets its place, by what it needs of values
+-- a laid line gives its statement with its place, the kind that is told of it, and the state behind it
 pub record IsLaid (declared : List LaidName) (l : LaidLine) (before : List LaidLine) (state : Laying) (x : LaidStatement) : Type 0 where
   pub statement : IsStatement x l before
   pub told : x.fault ≡ told_of l
   pub laying : IsLaying declared (l ∷ before) state
-
-abbrev pub Puts : Statement → StatementPlace → Result Code LineKind → Result ℕ LineKind → Option LaidName → Equated → List Bool → Laying → Laying
-    → Result LaidStatement NoMemory → Type 0
-Puts s p extent map own equal strings old new result =
-    (declared : List LaidName) (before : List LaidLine) → Reaches declared s before old p
-    → AreNeeded declared p (names_behind declared s before) s extent map equal
-    → strings ≡ string_marks (names_behind declared s before) s.what
-    → own ≡ unsized_entry (defined_by s) p → IfOk result (λ x. IsLaid declared (laid_behind declared s before) before new x)
 
 -- what laying a line gives
 pub record Tells (declared : List LaidName) (l : LaidLine) (before : List LaidLine) (state : Laying) (x : LaidOutcome) : Type 0 where
@@ -187,6 +178,12 @@ pub record Tells (declared : List LaidName) (l : LaidLine) (before : List LaidLi
 abbrev pub Lays : List LaidName → LaidLine → List LaidLine → Laying → Result LaidOutcome NoMemory → Type 0
 Lays declared l before state (Ok x) = Tells declared l before state x
 Lays declared l before state (Err m) = Unit {0}
+
+-- a statement that is reached is laid, by what it needs of values and the entry of its own name
+abbrev pub Puts : Statement → StatementPlace → StatementValues → Option LaidName → Laying → Laying → Result LaidOutcome NoMemory → Type 0
+Puts s p found own old new result =
+    (declared : List LaidName) (before : List LaidLine) → Reaches declared s before old p → IsFound declared p (names_behind declared s before) s found
+    → own ≡ unsized_entry (defined_by s) p → Lays declared (laid_behind declared s before) before new result
 
 -- what a statement more gives behind lines of a source that declares these names
 abbrev pub LaysNext : List LaidName → Statement → Laying → Laying → Result LaidOutcome NoMemory → Type 0

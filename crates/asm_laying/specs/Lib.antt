@@ -4,3 +4,4 @@ pub mod Declaring
 pub mod Laying
 pub mod Numbered
 pub mod Reading
+pub mod Taking

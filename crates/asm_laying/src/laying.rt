@@ -6,7 +6,6 @@ ghost use Rattle.asm_model.specs.Labels as labels;
 ghost use Rattle.asm_model.specs.Laid.{laid_behind, names_behind, LaidLine};
 ghost use Rattle.asm_model.specs.Said.{IsSaid};
 ghost use Rattle.asm_names.specs.Steps.{one_entry};
-ghost use Rattle.asm_offsets.specs.Coded.{extent_of_code, IsExtent};
 ghost use Rattle.asm_offsets.specs.Running.{IsThere};
 ghost use Rattle.asm_laying.specs.Laying as laying;
 ghost use Rattle.asm_laying.specs.Reading.{string_marks};
@@ -15,11 +14,12 @@ use crate::areas::Areas;
 use crate::carried::{CarriedState, START};
 use crate::declarations::is_thumb_label;
 use crate::finding::{Equated, StatementValues, find, unsized_entry};
+use crate::taking::{Taken, map_behind, take_up, told_with};
 use asm_model::{LaidName, Statement};
 use asm_names::defining::{Defines, defined_by};
 use asm_names::listing::imported_entry_of;
 use asm_names::{KnownNames, PlacedLine, StatementPlace};
-use asm_offsets::{Ends, Extent, TooLarge, extents_are_placeable};
+use asm_offsets::{Ends, extents_are_placeable};
 use sdt_fault::kinds::LineKind;
 use sdt_fault::{List as Listed, NoMemory};
 use std::alloc::Global;
@@ -166,91 +166,51 @@ impl Laying {
         })
     }
 
-    /// Places a statement, and adds its names, of which its own is taken out of `own`.
+    /// Places a statement by what it needs of values, and adds its names, of which its own is taken out of `own`.
     fn put<'a>(
         &mut self,
         alloc: Global,
         statement: &'a Statement,
         location: &StatementPlace,
-        extent: Extent,
-        map: u32,
         own: &mut Option<LaidName>,
-        equal: Equated,
-        strings: Listed<bool>,
-    ) -> Result<Result<LaidStatement<'a>, LineKind>, NoMemory>
+        found: StatementValues,
+    ) -> Result<LaidOutcome<'a>, NoMemory>
         requires there { IsThere location.now.area self.old.areas.ends }
-        requires extent { IsExtent (extent_of_code extent) }
-        ensures { laying.Puts statement.now location.now (Ok extent)
-            (Ok map) own.old equal strings self.old self.new result }
+        requires extent { laying.OkExtent found.extent }
+        ensures { laying.Puts statement.now location.now found own.old self.old self.new result }
     {
-        let placed = self.areas.ends.place(location.area, extent)?;
-        match placed {
-            Err(TooLarge) => Ok(Err(LineKind::TooMany)),
-            Ok(placed) => {
-                self.map = map;
-                let Equated { entry, known } = equal;
-                self.all_known = still_known(self.all_known, known);
-                set_size(statement, own, placed.size);
-                add_names(&mut self.names, alloc, statement, own, entry)?;
-                Ok(Ok(LaidStatement {
-                    line: PlacedLine {
-                        statement,
-                        place: *location,
-                        size: placed.size,
-                    },
-                    literal: placed.literal,
-                    strings,
-                }))
-            }
-        }
-    }
-
-    /// Places a statement that takes up so much.
-    fn settle_map<'a>(
-        &mut self,
-        alloc: Global,
-        statement: &'a Statement,
-        location: &StatementPlace,
-        extent: Extent,
-        map: Result<u32, LineKind>,
-        own: &mut Option<LaidName>,
-        equal: Equated,
-        strings: Listed<bool>,
-    ) -> Result<Result<LaidStatement<'a>, LineKind>, NoMemory>
-        requires there { IsThere location.now.area self.old.areas.ends }
-        requires extent { IsExtent (extent_of_code extent) }
-        ensures { laying.Puts statement.now location.now
-            (Ok extent) map own.old equal strings self.old self.new result }
-    {
-        match map {
-            Err(kind) => Ok(Err(kind)),
-            Ok(map) => self.put(alloc, statement, location, extent, map, own, equal, strings),
-        }
-    }
-
-    /// Places a statement by what it needs of values.
-    fn settle<'a>(
-        &mut self,
-        alloc: Global,
-        statement: &'a Statement,
-        location: &StatementPlace,
-        extent: Result<Extent, LineKind>,
-        map: Result<u32, LineKind>,
-        own: &mut Option<LaidName>,
-        equal: Equated,
-        strings: Listed<bool>,
-    ) -> Result<Result<LaidStatement<'a>, LineKind>, NoMemory>
-        requires there { IsThere location.now.area self.old.areas.ends }
-        requires extent { laying.OkExtent extent }
-        ensures { laying.Puts statement.now location.now extent map own.old equal strings
-            self.old self.new result }
-    {
-        match extent {
-            Err(kind) => Ok(Err(kind)),
-            Ok(extent) => self.settle_map(
-                alloc, statement, location, extent, map, own, equal, strings,
-            ),
-        }
+        let StatementValues {
+            extent,
+            map,
+            equal,
+            number,
+            strings,
+        } = found;
+        let Equated { entry, known } = equal;
+        let Taken {
+            size,
+            literal,
+            fault,
+        } = take_up(&mut self.areas.ends, location.area, extent)?;
+        self.map = map_behind(self.map, map);
+        self.all_known = still_known(self.all_known, known);
+        set_size(statement, own, size);
+        add_names(&mut self.names, alloc, statement, own, entry)?;
+        let line = PlacedLine {
+            statement,
+            place: *location,
+            size,
+        };
+        let fault = told_with(fault, map);
+        Ok(LaidOutcome {
+            number,
+            laid: LaidStatement {
+                line,
+                literal,
+                strings,
+                fault,
+            },
+        })
     }
 
     /// What the lines leave.
@@ -270,8 +230,8 @@ impl Laying {
         }
     }
 
-    /// Lays a statement behind the lines so far, in a source that declares these names. Where it has a fault, or memory
-    /// runs out, the state isn't to be used any more.
+    /// Lays a statement behind the lines so far, in a source that declares these names, also where it has a fault. Where
+    /// memory runs out, the state isn't to be used any more.
     pub fn lay<'a>(
         &mut self,
         alloc: Global,
@@ -293,21 +253,6 @@ impl Laying {
             &location,
             statement,
         )?;
-        let StatementValues {
-            extent,
-            map,
-            equal,
-            number,
-            strings,
-        } = found;
-        let placed = self.settle(
-            alloc, statement, &location, extent, map, &mut own, equal, strings,
-        )?;
-        Ok(LaidOutcome {
-            area: location.area,
-            thumb: location.thumb,
-            number,
-            placed,
-        })
+        self.put(alloc, statement, &location, &mut own, found)
     }
 }
