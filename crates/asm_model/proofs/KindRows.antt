@@ -150,7 +150,10 @@ pub larger_pool : told
     ∷ area 1 contents.Code false ∷ []) ≡ Some (2, TooMany)
 larger_pool = refl
 
--- what doesn't fit takes up nothing, so the next line does
+-- what doesn't fit fills its area, behind an ENTRY too
+pub larger_behind_entry : told (says 3 None (line.Space (number 0x1000001)) ∷ says 2 None line.Entry ∷ area 1 contents.Code false ∷ []) ≡ Some (3, TooMany)
+larger_behind_entry = refl
+
 pub behind_larger : told (words 3 (Some (codes "x")) ∷ says 2 (Some (codes "x")) (line.Space (number 0x1000001)) ∷ area 1 contents.Data false ∷ []) ≡ Some
     (2, TooMany)
 behind_larger = refl

@@ -1,7 +1,7 @@
 -- A source laid out: each statement with its place, and what an expression sees at its line. What is known at a line are
 -- names of the lines before it, and of the whole source only which names there are. SDT 2.50 Reference Guide, chapter on the
 -- assembler. Statements and laid lines are listed with the nearest first.
-use Rattle.std.specs.Prelude.{ℕ, zero, suc, ◌+◌, ◌%◌, ◌^◌, List, [], ◌∷◌, ◌++◌, length, map, nat_lt, Bool, if◌then◌else◌, Option, Some, None, Result, Ok, Err}
+use Rattle.std.specs.Prelude.{ℕ, zero, suc, ◌+◌, ◌%◌, ◌^◌, List, [], ◌∷◌, ◌++◌, length, map, nat_lt, Bool, true, false, if◌then◌else◌, Option, Some, None, Result, Ok, Err}
 use Rattle.sdt_fault.specs.declared.kinds.LineKind.{LineKind}
 use Rattle.sdt_fault.specs.declared.kinds.LineKind.TheVariants.{Syntax, TooMany}
 use Rattle.asm_model.specs.declared.exprs.Expr.{Expr}
@@ -18,7 +18,7 @@ use Rattle.asm_model.specs.Grammar.{Tree}
 use Rattle.asm_model.specs.Meaning.{meaning}
 use Rattle.asm_model.specs.Before.{thumb_behind, area_behind, is_thumb_label}
 use Rattle.asm_model.specs.Entries.{label_entry, imported_entry, register_entry, field_entry, equal_entry}
-use Rattle.asm_model.specs.Extents.{Extent, Block, number_there, extent_of, alignment}
+use Rattle.asm_model.specs.Extents.{Extent, Block, Padding, number_there, extent_of, alignment}
 use Rattle.asm_model.specs.Labels.{Defined, Unnamed, Label, Equal, MapField, RegisterName, defined_by, imported_in, declared_names}
 use Rattle.asm_model.specs.Offsets.{Piece, raised, waiting, end_behind, size_behind}
 use Rattle.asm_model.specs.Trees.{tree_of}
@@ -49,10 +49,14 @@ abbrev pub lines_of : List LaidLine → List SourceLine
 lines_of [] = []
 lines_of (l ∷ ls) = l.imported ++ l.line ∷ lines_of ls
 
--- a statement whose extent isn't known, or doesn't fit, takes up nothing
+abbrev pub is_too_many : LineKind → Bool
+is_too_many TooMany = true
+is_too_many _ = false
+
+-- what a statement takes up: one whose extent isn't known nothing, and one that is too much all that is left of its area
 abbrev pub taken : Result Extent LineKind → Extent
 taken (Ok e) = e
-taken (Err k) = Block 1 0
+taken (Err k) = if is_too_many k then Padding (area_bytes + 1) area_bytes else Block 1 0
 
 abbrev pub pieces_of : List LaidLine → List Piece
 pieces_of lines = map (λ l. record { area = l.area; extent = taken l.extent }) lines
