@@ -8,7 +8,7 @@ use Rattle.tool_words.specs.declared.command.Command.TheVariants as command
 use Rattle.tool_words.specs.declared.command.WordsFault.{WordsFault}
 use Rattle.tool_words.specs.declared.command.WordsFault.TheVariants as fault
 use Rattle.tool_words.specs.declared.items.Item.{Item}
-use Rattle.tool_words.specs.declared.items.Verb.{Verb}
+use Rattle.tool_words.specs.declared.table.Verb.{Verb}
 use Rattle.tool_words.specs.Commands.{IsGood, Reads, command_of, told, unless, verb_command, verb_words}
 use Rattle.tool_words.specs.Items.{items_of, verb_named, word_at}
 use Rattle.tool_words.specs.Rules.{mode_of, verb_fault}
@@ -61,10 +61,10 @@ read_as P c (Err place) h p = absurd h
 pub good_command : (words : List (List ℕ)) (c : Command) → command_of words ≡ Ok c → IsGood c
 good_command words c h = by_verb (verb_named (word_at words 0)) h
   where
-    by_place : (verb : Verb) (items : List Item) (place : Option ℕ) → verb_fault verb words items ≡ place → unless place (verb_command verb (mode_of verb items) words items) ≡ Ok c → IsGood c
-    by_place verb items None e k = subst IsGood (let same : verb_command verb (mode_of verb items) words items ≡ c = cc in same) (good_words verb words items e)
-    by_place verb items (Some place) e k = absurd (let bad : ◌≡◌ {A = Result Command ℕ} (Err (told place)) (Ok c) = k in cc)
+    by_place : (verb : Verb) (items : List Item) (place : Option ℕ) → items ≡ items_of verb words → verb_fault verb words items ≡ place → unless place (verb_command verb (mode_of items) words items) ≡ Ok c → IsGood c
+    by_place verb items None are e k = subst IsGood (let same : verb_command verb (mode_of items) words items ≡ c = cc in same) (good_words verb words items are e)
+    by_place verb items (Some place) are e k = absurd (let bad : ◌≡◌ {A = Result Command ℕ} (Err (told place)) (Ok c) = k in cc)
 
     by_verb : (verb : Option Verb) → verb_words verb words ≡ Ok c → IsGood c
     by_verb None k = absurd (let bad : ◌≡◌ {A = Result Command ℕ} (Err (told 0)) (Ok c) = k in cc)
-    by_verb (Some verb) k = by_place verb (items_of verb words) (verb_fault verb words (items_of verb words)) refl k
+    by_verb (Some verb) k = by_place verb (items_of verb words) (verb_fault verb words (items_of verb words)) refl refl k

@@ -2,7 +2,7 @@
 use Rattle.std.proofs.Common.{◌≡◌, ℕ, zero, suc, ◌+◌, ◌<◌, ◌≤◌, true, false, nat_lt, List, [], ◌∷◌, ◌++◌, length, refl, ap, sym, ◌∙◌, arith, cond, append_assoc}
 use Rattle.std.proofs.lemmas.List.{append-nil}
 use Rattle.std.proofs.lemmas.Bool.Decides.{nat_tests}
-use Rattle.tool_words.specs.declared.items.Verb.{Verb}
+use Rattle.tool_words.specs.declared.table.Verb.{Verb}
 use Rattle.tool_words.specs.declared.items.Item.{Item}
 use Rattle.tool_words.specs.Items.{item_at, items_from}
 

@@ -2,7 +2,7 @@
 use Rattle.std.proofs.Common.{◌≡◌, ℕ, zero, suc, ◌+◌, ◌-◌, ◌<◌, ◌≤◌, ◌⊎◌, inl, inr, min, nat_lt, nat_le, Bool, true, false, cond, List, [], ◌∷◌, ◌++◌, length, Option, Some, None, refl, sym, ap, subst, append_assoc, arith}
 use Rattle.std.proofs.lemmas.List.{append-nil}
 use Rattle.std.proofs.lemmas.Bool.Decides.{nat_tests}
-use Rattle.tool_words.specs.declared.items.Verb.{Verb}
+use Rattle.tool_words.specs.declared.table.Verb.{Verb}
 use Rattle.tool_words.specs.declared.items.Item.{Item}
 use Rattle.tool_words.specs.Items.{count_of, item_at, items_from}
 use Rattle.tool_words.specs.Rules.{or_else, lesser}
@@ -108,7 +108,7 @@ from_either P Q R f before (i ∷ is) q (inr t) = either (λ a. inl (inr a)) (λ
 pub record IsNext (verb : Verb) (words : List (List ℕ)) (from : ℕ) (i : Item) : Type 0 where
   pub from_on : from ≤ i.at
   pub within : i.at < length words
-  pub values : i.count ≡ min (count_of verb i.role) (length words - (i.at + 1))
+  pub values : i.count ≡ min (count_of i.role) (length words - (i.at + 1))
 
 abbrev pub Chain : Verb → List (List ℕ) → ℕ → List Item → Type 0
 Chain verb words from [] = Unit {0}

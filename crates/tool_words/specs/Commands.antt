@@ -3,13 +3,13 @@ use Rattle.std.specs.Prelude.{◌≡◌, ℕ, ◌+◌, ◌%◌, ◌^◌, ◌<◌
 use Rattle.std.specs.Prelude.{List, [], map, filter, find, length, slice_get, Option, Some, None, option_map, unwrap_or, Result, Ok, Err}
 use Rattle.std.specs.List.{AllByRecursion}
 use Rattle.std.specs.Option.{option_map_or}
-use Rattle.tool_words.specs.declared.items.Verb.{Verb}
-use Rattle.tool_words.specs.declared.items.Verb.TheVariants.{Assemble, Library, List as Listing, Run, Link, Build}
-use Rattle.tool_words.specs.declared.items.Verb.TheVariants.{InterruptKit, Burn, Report, MakeBig, Debug}
-use Rattle.tool_words.specs.declared.items.Flag.{Flag}
-use Rattle.tool_words.specs.declared.items.Flag.TheVariants.{Create, Table, Extract, Output, Bin, At, Memory}
-use Rattle.tool_words.specs.declared.items.Flag.TheVariants.{Rom, Steps, Reloc, Base, Ram, Acknowledge, Script}
-use Rattle.tool_words.specs.declared.items.Flag.TheVariants as flag
+use Rattle.tool_words.specs.declared.table.Verb.{Verb}
+use Rattle.tool_words.specs.declared.table.Verb.TheVariants.{Assemble, Library, List as Listing, Run, Link, Build}
+use Rattle.tool_words.specs.declared.table.Verb.TheVariants.{InterruptKit, Burn, Report, MakeBig, Debug}
+use Rattle.tool_words.specs.declared.table.Flag.{Flag}
+use Rattle.tool_words.specs.declared.table.Flag.TheVariants.{Create, Table, Extract, Output, Bin, At, Memory}
+use Rattle.tool_words.specs.declared.table.Flag.TheVariants.{Rom, Steps, Reloc, Base, Ram, Acknowledge, Script}
+use Rattle.tool_words.specs.declared.table.Flag.TheVariants as flag
 use Rattle.tool_words.specs.declared.items.Item.{Item}
 use Rattle.tool_words.specs.declared.command.Bank.{Bank}
 use Rattle.tool_words.specs.declared.command.Command.{Command}
@@ -140,7 +140,7 @@ verb_command Debug mode words items = command.Debug (record {
 
 -- by what its options choose
 abbrev pub chosen_command : Verb → List (List ℕ) → List Item → Command
-chosen_command verb words items = verb_command verb (mode_of verb items) words items
+chosen_command verb words items = verb_command verb (mode_of items) words items
 
 -- a place as it is told: counted from 1, and at most 2^32 - 1
 abbrev pub told : ℕ → ℕ

@@ -1,45 +1,44 @@
 -- What the place means that is told of words: rule by rule which word breaks it, and what may be missing. Places are
 -- counted from 0. This project's.
 use Rattle.std.specs.Prelude.{◌≡◌, ◌⊎◌, ℕ, ◌+◌, ◌<◌, ◌≤◌, true, false, List, ◌∷◌, ◌++◌, length, Option, Some, None, is_some, Ok, Err}
-use Rattle.tool_words.specs.declared.items.Verb.{Verb}
-use Rattle.tool_words.specs.declared.items.Flag.{Flag}
-use Rattle.tool_words.specs.declared.items.Flag.TheVariants.{Output, Map, At, Script}
+use Rattle.tool_words.specs.declared.table.Verb.{Verb}
+use Rattle.tool_words.specs.declared.table.Entry.{Entry}
+use Rattle.tool_words.specs.declared.table.Names.{Names}
 use Rattle.tool_words.specs.declared.items.Role.{Role}
 use Rattle.tool_words.specs.declared.items.Role.TheVariants.{Name, Known, Unknown}
 use Rattle.tool_words.specs.declared.items.Item.{Item}
-use Rattle.tool_words.specs.declared.rules.Choice.{Choice}
 use Rattle.tool_words.specs.declared.command.Command.{Command}
-use Rattle.tool_words.specs.Items.{word_at, verb_named, value_count, items_of}
-use Rattle.tool_words.specs.Rules.{has, is_bank, is_mode, mode_of, choice_of, is_plain, must_count, decimal_at, is_count}
-use Rattle.tool_words.specs.Rules.{bank_count, name_count, most_names, least_names, first_is_good, second_is_good, is_allowed, stands}
-use Rattle.tool_words.specs.Rules.{must_differ, needs_mode, needs_output, needs_map, needs_script, needs_address}
+use Rattle.tool_words.specs.Table.{options, names_for, is_bank, is_mode, value_count, least_names, most_names, must_differ}
+use Rattle.tool_words.specs.Items.{word_at, verb_named, items_of}
+use Rattle.tool_words.specs.Rules.{has, mode_of, may_stand, must_stand, bank_count, name_count, first_is_good, second_is_good}
+use Rattle.tool_words.specs.Rules.{is_plain, must_count, decimal_at, is_count, stands}
 use Rattle.tool_words.specs.Commands.{told, command_of}
 
 -- ---- words that break a rule
 
--- why an option breaks one, at its word or at a value: with what all items choose, and those before it
-pub data OptionBreaks (verb : Verb) (words : List (List ℕ)) (choice : Choice) (before : List Item) (at : ℕ) (f : Flag) : ℕ → Type 0 where
-  excluded : is_allowed verb choice f ≡ false → OptionBreaks verb words choice before at f at
-  twice : is_bank f ≡ false → has f before ≡ true → OptionBreaks verb words choice before at f at
-  second_mode : is_mode verb f ≡ true → is_some (mode_of verb before) ≡ true → OptionBreaks verb words choice before at f at
-  too_many_banks : is_bank f ≡ true → 16 ≤ bank_count before → OptionBreaks verb words choice before at f at
-  bad_value : 1 ≤ value_count verb f → at + 1 < length words → first_is_good f words at ≡ false
-      → OptionBreaks verb words choice before at f (at + 1)
-  bad_size : 2 ≤ value_count verb f → at + 2 < length words → second_is_good words at ≡ false
-      → OptionBreaks verb words choice before at f (at + 2)
+-- why an option breaks one, at its word or at a value: with all items, and those before it
+pub data OptionBreaks (words : List (List ℕ)) (all before : List Item) (at : ℕ) (e : Entry) : ℕ → Type 0 where
+  excluded : may_stand all e.2 ≡ false → OptionBreaks words all before at e at
+  twice : is_bank e.1 ≡ false → has e.0 before ≡ true → OptionBreaks words all before at e at
+  second_mode : is_mode e.2 ≡ true → is_some (mode_of before) ≡ true → OptionBreaks words all before at e at
+  too_many_banks : is_bank e.1 ≡ true → 16 ≤ bank_count before → OptionBreaks words all before at e at
+  bad_value : 1 ≤ value_count e.1 → at + 1 < length words → first_is_good e.1 words at ≡ false
+      → OptionBreaks words all before at e (at + 1)
+  bad_size : 2 ≤ value_count e.1 → at + 2 < length words → second_is_good words at ≡ false
+      → OptionBreaks words all before at e (at + 2)
 
 -- why a name does
-pub data NameBreaks (verb : Verb) (words : List (List ℕ)) (mode : Option Flag) (before : List Item) (at : ℕ) : Type 0 where
-  zero_byte : is_plain (word_at words at) ≡ false → NameBreaks verb words mode before at
-  no_count : must_count verb before ≡ true → is_count (decimal_at words at) ≡ false → NameBreaks verb words mode before at
-  too_many_names : (most : ℕ) → most_names verb mode ≡ Some most → most ≤ name_count before → NameBreaks verb words mode before at
-  repeated : must_differ verb mode ≡ true → stands words before (word_at words at) ≡ true → NameBreaks verb words mode before at
+pub data NameBreaks (names : Names) (words : List (List ℕ)) (before : List Item) (at : ℕ) : Type 0 where
+  zero_byte : is_plain (word_at words at) ≡ false → NameBreaks names words before at
+  no_count : must_count names before ≡ true → is_count (decimal_at words at) ≡ false → NameBreaks names words before at
+  too_many_names : (most : ℕ) → most_names names ≡ Some most → most ≤ name_count before → NameBreaks names words before at
+  repeated : must_differ names ≡ true → stands words before (word_at words at) ≡ true → NameBreaks names words before at
 
 -- an option that the command hasn't always does
-abbrev pub RoleBreaks : Verb → List (List ℕ) → Choice → List Item → ℕ → Role → ℕ → Type 0
-RoleBreaks verb words choice before at Name place = (place ≡ at) × NameBreaks verb words choice.mode before at
-RoleBreaks verb words choice before at (Known f) place = OptionBreaks verb words choice before at f place
-RoleBreaks verb words choice before at Unknown place = place ≡ at
+abbrev pub RoleBreaks : Names → List (List ℕ) → List Item → List Item → ℕ → Role → ℕ → Type 0
+RoleBreaks names words all before at Name place = (place ≡ at) × NameBreaks names words before at
+RoleBreaks names words all before at (Known e) place = OptionBreaks words all before at e place
+RoleBreaks names words all before at Unknown place = place ≡ at
 
 -- the word at a place breaks a rule: it is the word or a value of some item
 pub record BreaksRule (verb : Verb) (words : List (List ℕ)) (items : List Item) (place : ℕ) : Type 0 where
@@ -47,19 +46,22 @@ pub record BreaksRule (verb : Verb) (words : List (List ℕ)) (items : List Item
   pub item : Item
   pub after : List Item
   pub all : before ++ item ∷ after ≡ items
-  pub breaks : RoleBreaks verb words (choice_of verb items) before item.at item.role place
+  pub breaks : RoleBreaks (names_for verb (mode_of items)) words items before item.at item.role place
 
 -- ---- what is missing
 
+-- one of the options of a command
+pub record IsOption (verb : Verb) (e : Entry) : Type 0 where
+  pub before : List Entry
+  pub after : List Entry
+  pub all : before ++ e ∷ after ≡ options verb
+
 pub data IsMissing (verb : Verb) (words : List (List ℕ)) (items : List Item) : Type 0 where
-  value : (before : List Item) (item : Item) (after : List Item) (f : Flag) → before ++ item ∷ after ≡ items
-      → item.role ≡ Known f → length words ≤ item.at + value_count verb f → IsMissing verb words items
-  mode : needs_mode verb ≡ true → mode_of verb items ≡ None → IsMissing verb words items
-  name : name_count items < least_names verb (mode_of verb items) → IsMissing verb words items
-  output : needs_output verb (mode_of verb items) ≡ true → has Output items ≡ false → IsMissing verb words items
-  map : needs_map verb ≡ true → has Map items ≡ false → IsMissing verb words items
-  script : needs_script verb ≡ true → has Script items ≡ false → IsMissing verb words items
-  address : needs_address verb (mode_of verb items) ≡ true → has At items ≡ false → IsMissing verb words items
+  value : (before : List Item) (item : Item) (after : List Item) (e : Entry) → before ++ item ∷ after ≡ items
+      → item.role ≡ Known e → length words ≤ item.at + value_count e.1 → IsMissing verb words items
+  name : name_count items < least_names (names_for verb (mode_of items)) → IsMissing verb words items
+  mode : (e : Entry) → IsOption verb e → is_mode e.2 ≡ true → is_some (mode_of items) ≡ false → IsMissing verb words items
+  option : (e : Entry) → IsOption verb e → must_stand items e.2 ≡ true → has e.0 items ≡ false → IsMissing verb words items
 
 -- ---- the command's name too
 

@@ -1,123 +1,102 @@
 -- Which words of a command break a rule, and the first that does: the place is counted from 0, and where something
 -- is missing it is one past the last word. This project's.
 use Rattle.std.specs.Prelude.{ℕ, ◌+◌, ◌%◌, ◌^◌, ◌==◌, nat_lt, nat_le, min, Bool, true, false, not, ◌&&◌, ◌||◌, if◌then◌else◌}
-use Rattle.std.specs.Prelude.{List, [], ◌∷◌, ◌++◌, length, count_by, bytes_eq, Option, Some, None, is_some}
+use Rattle.std.specs.Prelude.{List, [], ◌∷◌, ◌++◌, filter, find, length, bytes_eq, Option, Some, None, is_some}
 use Rattle.std.specs.List.{list_any, list_all}
-use Rattle.tool_words.specs.declared.items.Verb.{Verb}
-use Rattle.tool_words.specs.declared.items.Verb.TheVariants.{Assemble, Library, List as Listing, Run, Link, Build}
-use Rattle.tool_words.specs.declared.items.Verb.TheVariants.{InterruptKit, Burn, Report, MakeBig, Debug}
-use Rattle.tool_words.specs.declared.items.Flag.{Flag}
-use Rattle.tool_words.specs.declared.items.Flag.TheVariants.{Create, Table, Extract, Output, Map, Bin, At, Memory, Rom, Steps}
-use Rattle.tool_words.specs.declared.items.Flag.TheVariants.{Scatter, Aif, Reloc, Base, Ram, Elf, Acknowledge}
-use Rattle.tool_words.specs.declared.items.Flag.TheVariants.{IntelHex, SRecords, Burned, Symbols, Script}
+use Rattle.tool_words.specs.declared.table.Verb.{Verb}
+use Rattle.tool_words.specs.declared.table.Flag.{Flag}
+use Rattle.tool_words.specs.declared.table.Value.{Value}
+use Rattle.tool_words.specs.declared.table.Value.TheVariants.{Nothing, File, Address, StepCount, Bank}
+use Rattle.tool_words.specs.declared.table.Standing.{Standing}
+use Rattle.tool_words.specs.declared.table.Standing.TheVariants.{Needed, With, NeededWith, NeededOr, Without, WithNeither}
+use Rattle.tool_words.specs.declared.table.Entry.{Entry}
+use Rattle.tool_words.specs.declared.table.Names.{Names}
 use Rattle.tool_words.specs.declared.items.Role.{Role}
 use Rattle.tool_words.specs.declared.items.Role.TheVariants.{Name, Known, Unknown}
 use Rattle.tool_words.specs.declared.items.Item.{Item}
-use Rattle.tool_words.specs.declared.rules.Choice.{Choice}
 use Rattle.tool_words.specs.Numerals.{numeral, number}
-use Rattle.tool_words.specs.Items.{word_at, value_count}
+use Rattle.tool_words.specs.Table.{flag_word, options, names_for, is_bank, is_mode, least_names, most_names, must_differ, is_counted}
+use Rattle.tool_words.specs.Items.{word_at}
 
 -- ---- items of a kind
 
--- an option's number among all
-abbrev pub code : Flag → ℕ
-code Create = 0
-code Table = 1
-code Extract = 2
-code Output = 3
-code Map = 4
-code Bin = 5
-code At = 6
-code Memory = 7
-code Rom = 8
-code Steps = 9
-code Scatter = 10
-code Aif = 11
-code Reloc = 12
-code Base = 13
-code Ram = 14
-code Elf = 15
-code Acknowledge = 16
-code IntelHex = 17
-code SRecords = 18
-code Burned = 19
-code Symbols = 20
-code Script = 21
+abbrev pub same_flag : Flag → Flag → Bool
+same_flag f g = bytes_eq (flag_word f) (flag_word g)
 
 abbrev pub is_flag : Flag → Role → Bool
-is_flag flag Name = false
-is_flag flag Unknown = false
-is_flag flag (Known other) = code flag == code other
+is_flag f Name = false
+is_flag f Unknown = false
+is_flag f (Known e) = same_flag f e.0
 
 abbrev pub is_name : Role → Bool
 is_name Name = true
 is_name Unknown = false
-is_name (Known flag) = false
+is_name (Known e) = false
 
 abbrev pub has : Flag → List Item → Bool
-has flag items = list_any (λ i. is_flag flag i.role) items
+has f items = list_any (λ i. is_flag f i.role) items
 
 abbrev pub name_count : List Item → ℕ
-name_count items = count_by (λ i. is_name i.role) items
-
--- options that may stand more than once: the banks of memory
-abbrev pub is_bank : Flag → Bool
-is_bank Memory = true
-is_bank Rom = true
-is_bank Ram = true
-is_bank other = false
+name_count items = length (filter (λ i. is_name i.role) items)
 
 abbrev pub is_bank_role : Role → Bool
 is_bank_role Name = false
 is_bank_role Unknown = false
-is_bank_role (Known flag) = is_bank flag
+is_bank_role (Known e) = is_bank e.1
 
 abbrev pub bank_count : List Item → ℕ
-bank_count items = count_by (λ i. is_bank_role i.role) items
+bank_count items = length (filter (λ i. is_bank_role i.role) items)
 
-abbrev pub runs_image : Verb → Bool
-runs_image Run = true
-runs_image Debug = true
-runs_image other = false
+-- the first of the options of which a command has one
+abbrev pub is_mode_role : Role → Bool
+is_mode_role Name = false
+is_mode_role Unknown = false
+is_mode_role (Known e) = is_mode e.2
 
--- options of which a command has one: what a library is wanted for, what is run, where an image is placed, beside
--- which -elf of an image that is made says what is written, or as which text it is burned, beside which -map says what
-abbrev pub is_mode : Verb → Flag → Bool
-is_mode verb Create = true
-is_mode verb Table = true
-is_mode verb Extract = true
-is_mode verb Bin = true
-is_mode verb Scatter = true
-is_mode verb Aif = true
-is_mode verb IntelHex = true
-is_mode verb SRecords = true
-is_mode verb Burned = true
-is_mode verb Map = runs_image verb
-is_mode verb Elf = runs_image verb
-is_mode verb other = false
+abbrev pub flag_of : Role → Option Flag
+flag_of Name = None
+flag_of Unknown = None
+flag_of (Known e) = Some e.0
 
--- the first such option
-abbrev pub role_mode : Verb → Role → Option Flag
-role_mode verb Name = None
-role_mode verb Unknown = None
-role_mode verb (Known flag) = if is_mode verb flag then Some flag else None
+abbrev pub mode_in : Option Item → Option Flag
+mode_in None = None
+mode_in (Some i) = flag_of i.role
 
-abbrev pub flag_or : Option Flag → Option Flag → Option Flag
-flag_or None later = later
-flag_or (Some flag) later = Some flag
-
-abbrev pub mode_of : Verb → List Item → Option Flag
-mode_of verb [] = None
-mode_of verb (i ∷ is) = flag_or (role_mode verb i.role) (mode_of verb is)
-
--- what items choose together, on which it depends which options may stand: the mode, whether the image that is made is
--- to move itself, and whether it is an ELF executable
-abbrev pub choice_of : Verb → List Item → Choice
-choice_of verb items = record { mode = mode_of verb items; moves = has Reloc items; executable = has Elf items }
+abbrev pub mode_of : List Item → Option Flag
+mode_of items = mode_in (find (λ i. is_mode_role i.role) items)
 
 abbrev pub is_the_mode : Flag → Option Flag → Bool
-is_the_mode flag None = false
-is_the_mode flag (Some mode) = code flag == code mode
+is_the_mode f None = false
+is_the_mode f (Some mode) = same_flag f mode
+
+-- ---- when an option stands
+
+-- an option stands as what it is there for: of those of which a command has one, it is the first
+abbrev pub is_beside : Flag → Role → Bool
+is_beside f role = is_flag f role && not (is_mode_role role)
+
+abbrev pub stands_as : List Item → Flag → Bool
+stands_as items f = is_the_mode f (mode_of items) || list_any (λ i. is_beside f i.role) items
+
+abbrev pub may_stand : List Item → Standing → Bool
+may_stand items (With f) = stands_as items f
+may_stand items (NeededWith f) = stands_as items f
+may_stand items (NeededOr f g) = stands_as items f || stands_as items g
+may_stand items (Without f) = not (stands_as items f)
+may_stand items (WithNeither f g) = not (stands_as items f || stands_as items g)
+may_stand items other = true
+
+abbrev pub must_stand : List Item → Standing → Bool
+must_stand items Needed = true
+must_stand items (NeededWith f) = stands_as items f
+must_stand items (NeededOr f g) = stands_as items f
+must_stand items other = false
+
+-- an option stands once, or sixteen times if it is of banks, and beside no other of which there is one
+abbrev pub is_surplus : List Item → Entry → Bool
+is_surplus before e =
+    (if is_bank e.1 then not (nat_lt (bank_count before) 16) else has e.0 before)
+    || (is_mode e.2 && is_some (mode_of before))
 
 -- ---- values
 
@@ -142,16 +121,13 @@ is_size (Some base) (Some size) = nat_lt 0 size && (size % 4 == 0 && nat_le (bas
 abbrev pub number_at : List (List ℕ) → ℕ → Option ℕ
 number_at words at = number (word_at words at)
 
--- the first value of an option, behind its word at a place
-abbrev pub first_is_good : Flag → List (List ℕ) → ℕ → Bool
-first_is_good At words at = is_aligned (number_at words (at + 1))
-first_is_good Base words at = is_aligned (number_at words (at + 1))
-first_is_good Acknowledge words at = is_aligned (number_at words (at + 1))
-first_is_good Memory words at = is_aligned (number_at words (at + 1))
-first_is_good Rom words at = is_aligned (number_at words (at + 1))
-first_is_good Ram words at = is_aligned (number_at words (at + 1))
-first_is_good Steps words at = is_at_most 1000000000 (number_at words (at + 1))
-first_is_good other words at = is_plain (word_at words (at + 1))
+-- the first value, behind its option at a place
+abbrev pub first_is_good : Value → List (List ℕ) → ℕ → Bool
+first_is_good Nothing words at = true
+first_is_good File words at = is_plain (word_at words (at + 1))
+first_is_good Address words at = is_aligned (number_at words (at + 1))
+first_is_good StepCount words at = is_at_most 1000000000 (number_at words (at + 1))
+first_is_good Bank words at = is_aligned (number_at words (at + 1))
 
 -- the second: a size
 abbrev pub second_is_good : List (List ℕ) → ℕ → Bool
@@ -165,73 +141,19 @@ abbrev pub or_else : Option ℕ → Option ℕ → Option ℕ
 or_else None later = later
 or_else (Some n) later = Some n
 
-abbrev pub second_fault : Verb → Flag → List (List ℕ) → ℕ → Option ℕ
-second_fault verb flag words at =
-    if value_count verb flag == 2 then value_fault words (at + 2) (second_is_good words at) else None
+abbrev pub values_fault : Value → List (List ℕ) → ℕ → Option ℕ
+values_fault Nothing words at = None
+values_fault Bank words at =
+    or_else (value_fault words (at + 1) (first_is_good Bank words at)) (value_fault words (at + 2) (second_is_good words at))
+values_fault one words at = value_fault words (at + 1) (first_is_good one words at)
 
-abbrev pub values_fault : Verb → Flag → List (List ℕ) → ℕ → Option ℕ
-values_fault verb flag words at =
-    or_else (if value_count verb flag == 0 then None else value_fault words (at + 1) (first_is_good flag words at))
-    (second_fault verb flag words at)
-
--- ---- rules
-
--- an option of an image that is made and depends on another: -reloc on -aif, -elf on -scatter, -symbols on -elf; none
--- beside -scatter takes -base, and none beside -bin or -reloc takes -ram
-abbrev pub is_image_allowed : Choice → Flag → Bool
-is_image_allowed choice Base = not (is_the_mode Scatter choice.mode)
-is_image_allowed choice Reloc = is_the_mode Aif choice.mode
-is_image_allowed choice Elf = is_the_mode Scatter choice.mode
-is_image_allowed choice Symbols = choice.executable
-is_image_allowed choice Ram = not (is_the_mode Bin choice.mode || choice.moves)
-is_image_allowed choice flag = true
-
--- an image to run that is loaded at an address that is told
-abbrev pub is_loaded_anywhere : Option Flag → Bool
-is_loaded_anywhere mode = is_the_mode Aif mode || is_the_mode Bin mode
-
--- and beside these -o of a library on -e, and -at on -aif or -bin
-abbrev pub is_allowed : Verb → Choice → Flag → Bool
-is_allowed Library choice Output = is_the_mode Extract choice.mode
-is_allowed Run choice At = is_loaded_anywhere choice.mode
-is_allowed Debug choice At = is_loaded_anywhere choice.mode
-is_allowed Link choice flag = is_image_allowed choice flag
-is_allowed Build choice flag = is_image_allowed choice flag
-is_allowed Report choice flag = is_image_allowed choice flag
-is_allowed verb choice flag = true
-
--- an option stands once, or sixteen times if it is of banks, and beside no other of which there is one
-abbrev pub is_surplus : Verb → List Item → Flag → Bool
-is_surplus verb before flag =
-    if is_bank flag then not (nat_lt (bank_count before) 16)
-    else has flag before || (is_mode verb flag && is_some (mode_of verb before))
-
--- the most names of a command, where there is a limit
-abbrev pub most_names : Verb → Option Flag → Option ℕ
-most_names Assemble mode = Some 1
-most_names Library None = None
-most_names Library (Some Table) = Some 0
-most_names Library (Some Extract) = Some 1
-most_names Library (Some other) = None
-most_names Listing mode = Some 1
-most_names Run mode = Some 0
-most_names Link mode = None
-most_names Build mode = None
-most_names InterruptKit mode = Some 0
-most_names Burn mode = Some 0
-most_names Report mode = None
-most_names MakeBig mode = Some 2
-most_names Debug mode = Some 0
+-- ---- names
 
 abbrev pub is_below : ℕ → Option ℕ → Bool
 is_below n None = true
 is_below n (Some most) = nat_lt n most
 
--- the first name of make-big counts: decimal digits alone, and a number from 1 to 50,000
-abbrev pub must_count : Verb → List Item → Bool
-must_count MakeBig before = name_count before == 0
-must_count other before = false
-
+-- a count: decimal digits alone, and a number from 1 to 50,000
 abbrev pub decimal_at : List (List ℕ) → ℕ → Option ℕ
 decimal_at words at = numeral 10 (word_at words at)
 
@@ -239,26 +161,14 @@ abbrev pub is_count : Option ℕ → Bool
 is_count None = false
 is_count (Some n) = nat_le 1 n && nat_le n 50000
 
+abbrev pub must_count : Names → List Item → Bool
+must_count names before = is_counted names && name_count before == 0
+
 abbrev pub is_met : Bool → Bool → Bool
 is_met needed there = not needed || there
 
-abbrev pub name_is_good : Verb → List (List ℕ) → List Item → ℕ → Bool
-name_is_good verb words before at = is_plain (word_at words at) && is_met (must_count verb before) (is_count (decimal_at words at))
-
--- an item, with what all items choose and those before it
-abbrev pub role_fault : Verb → List (List ℕ) → Choice → List Item → ℕ → Role → Option ℕ
-role_fault verb words choice before at Name =
-    if name_is_good verb words before at && is_below (name_count before) (most_names verb choice.mode) then None else Some at
-role_fault verb words choice before at Unknown = Some at
-role_fault verb words choice before at (Known flag) =
-    if is_allowed verb choice flag && not (is_surplus verb before flag) then values_fault verb flag words at else Some at
-
-abbrev pub items_fault : Verb → List (List ℕ) → Choice → List Item → List Item → Option ℕ
-items_fault verb words choice before [] = None
-items_fault verb words choice before (i ∷ is) =
-    or_else (role_fault verb words choice before i.at i.role) (items_fault verb words choice (before ++ i ∷ []) is)
-
--- ---- names that differ
+abbrev pub name_is_good : Names → List (List ℕ) → List Item → ℕ → Bool
+name_is_good names words before at = is_plain (word_at words at) && is_met (must_count names before) (is_count (decimal_at words at))
 
 -- the name is one of these items
 abbrev pub stands : List (List ℕ) → List Item → List ℕ → Bool
@@ -271,69 +181,30 @@ repeated words before (i ∷ is) =
     if is_name i.role && stands words before (word_at words i.at) then Some i.at
     else repeated words (before ++ i ∷ []) is
 
--- the names of a new library's objects
-abbrev pub must_differ : Verb → Option Flag → Bool
-must_differ Library (Some Create) = true
-must_differ verb mode = false
+abbrev pub names_fault : Names → List (List ℕ) → List Item → Option ℕ
+names_fault names words items = if must_differ names then repeated words [] items else None
 
-abbrev pub names_fault : Verb → Option Flag → List (List ℕ) → List Item → Option ℕ
-names_fault verb mode words items = if must_differ verb mode then repeated words [] items else None
+-- ---- all items
 
--- ---- what must stand
+-- an item, with all items and those before it
+abbrev pub role_fault : Names → List (List ℕ) → List Item → List Item → ℕ → Role → Option ℕ
+role_fault names words all before at Name =
+    if name_is_good names words before at && is_below (name_count before) (most_names names) then None else Some at
+role_fault names words all before at Unknown = Some at
+role_fault names words all before at (Known e) =
+    if may_stand all e.2 && not (is_surplus before e) then values_fault e.1 words at else Some at
 
-abbrev pub needs_mode : Verb → Bool
-needs_mode Assemble = false
-needs_mode Listing = false
-needs_mode InterruptKit = false
-needs_mode MakeBig = false
-needs_mode other = true
+abbrev pub items_fault : Names → List (List ℕ) → List Item → List Item → List Item → Option ℕ
+items_fault names words all before [] = None
+items_fault names words all before (i ∷ is) =
+    or_else (role_fault names words all before i.at i.role) (items_fault names words all (before ++ i ∷ []) is)
 
--- the least number of names
-abbrev pub least_names : Verb → Option Flag → ℕ
-least_names Library (Some Table) = 0
-least_names Run mode = 0
-least_names InterruptKit mode = 0
-least_names Burn mode = 0
-least_names MakeBig mode = 2
-least_names Debug mode = 0
-least_names verb mode = 1
+-- an option of a command stands where it must, and of those of which it has one there is one
+abbrev pub is_there : List Item → Entry → Bool
+is_there items e = is_met (is_mode e.2) (is_some (mode_of items)) && is_met (must_stand items e.2) (has e.0 items)
 
--- -o
-abbrev pub needs_output : Verb → Option Flag → Bool
-needs_output Assemble mode = true
-needs_output Library mode = is_the_mode Extract mode
-needs_output Listing mode = false
-needs_output Run mode = false
-needs_output Link mode = true
-needs_output Build mode = true
-needs_output InterruptKit mode = true
-needs_output Burn mode = true
-needs_output Report mode = false
-needs_output MakeBig mode = false
-needs_output Debug mode = false
-
--- -map
-abbrev pub needs_map : Verb → Bool
-needs_map Burn = true
-needs_map other = false
-
--- -script
-abbrev pub needs_script : Verb → Bool
-needs_script Debug = true
-needs_script other = false
-
--- -at
-abbrev pub needs_address : Verb → Option Flag → Bool
-needs_address verb mode = runs_image verb && is_the_mode Bin mode
-
-abbrev pub is_complete : Verb → Option Flag → List Item → Bool
-is_complete verb mode items =
-    is_met (needs_mode verb) (is_some mode)
-    && (nat_le (least_names verb mode) (name_count items)
-    && (is_met (needs_output verb mode) (has Output items)
-    && (is_met (needs_map verb) (has Map items)
-    && (is_met (needs_script verb) (has Script items)
-    && is_met (needs_address verb mode) (has At items)))))
+abbrev pub is_complete : Verb → Names → List Item → Bool
+is_complete verb names items = nat_le (least_names names) (name_count items) && list_all (λ e. is_there items e) (options verb)
 
 abbrev pub lesser : Option ℕ → Option ℕ → Option ℕ
 lesser None o = o
@@ -343,6 +214,6 @@ lesser (Some a) (Some b) = Some (min a b)
 -- the first word that breaks a rule behind a command, or the place of what is missing
 abbrev pub verb_fault : Verb → List (List ℕ) → List Item → Option ℕ
 verb_fault verb words items =
-    let choice = choice_of verb items in
-    or_else (lesser (items_fault verb words choice [] items) (names_fault verb choice.mode words items))
-    (if is_complete verb choice.mode items then None else Some (length words))
+    let names = names_for verb (mode_of items) in
+    or_else (lesser (items_fault names words items [] items) (names_fault names words items))
+    (if is_complete verb names items then None else Some (length words))

@@ -5,11 +5,12 @@ ghost use Rattle.tool_words.specs.Items as items;
 ghost use Rattle.tool_words.specs.Rules as rules;
 ghost use Rattle.tool_words.specs.Commands as commands;
 
-use crate::items::{Flag, Item, Verb, items_of, verb_named};
+use crate::items::{Item, items_of, verb_named};
 use crate::names::names_fault;
 use crate::rules::{
-    choice_of, decimal_at, has, is_complete, is_flag, is_name, items_fault, mode_of, number_at,
+    decimal_at, has, is_complete, is_flag, is_name, items_fault, mode_of, number_at,
 };
+use crate::table::{Flag, Verb, names_for};
 use sdt_fault::{List, NoMemory, Text};
 use std::alloc::{AllocError, AllocFailed, Global};
 
@@ -234,13 +235,13 @@ fn verb_fault(
     requires { All (λ i. i.at < length words.now) items.now }
     ensures { IfOk result (λ place. place ≡ rules.verb_fault verb (map string_bytes words.now) items.now) }
 {
-    let choice = choice_of(verb, items);
-    let repeated = names_fault(alloc, verb, choice.mode, words, items)?;
-    let place = lesser(items_fault(verb, words, choice, items), repeated);
+    let names = names_for(verb, mode_of(items));
+    let repeated = names_fault(alloc, names, words, items)?;
+    let place = lesser(items_fault(names, words, items), repeated);
     if place.is_some() {
         return Ok(place);
     }
-    if is_complete(verb, choice.mode, items) {
+    if is_complete(verb, names, items) {
         return Ok(None);
     }
     Ok(Some(words.len()))
@@ -572,7 +573,7 @@ fn debug_words(
     }))
 }
 
-ghost use Rattle.tool_words.specs.declared.items.Verb.TheVariants.{Run, InterruptKit, Burn, MakeBig, Debug};
+ghost use Rattle.tool_words.specs.declared.table.Verb.TheVariants.{Run, InterruptKit, Burn, MakeBig, Debug};
 
 fn kit_command(alloc: Global, words: &[String], items: &[Item]) -> Result<Command, NoMemory>
     requires { All (λ i. i.at < length words.now) items.now }
@@ -649,7 +650,7 @@ fn verb_command(
     requires { All (λ i. i.at < length words.now) items.now }
     ensures { IfOk result (λ command. command ≡ commands.chosen_command verb (map string_bytes words.now) items.now) }
 {
-    let mode = mode_of(verb, items);
+    let mode = mode_of(items);
     match verb {
         Verb::Assemble => {
             let source = first_name(alloc, words, items)?;

@@ -8,6 +8,7 @@ pub mod laws;
 pub mod names;
 pub mod numerals;
 pub mod rules;
+pub mod table;
 
 pub use crate::command::{
     Bank, BurnForm, Command, Container, DebugWords, LinkPlacement, LinkWords, ReportWords,

@@ -6,8 +6,9 @@ ghost use Rattle.tool_words.specs.Items as items;
 ghost use Rattle.tool_words.specs.Rules as rules;
 ghost use Rattle.tool_words.specs.Seen.{has_seen};
 
-use crate::items::{Flag, Item, Verb};
+use crate::items::Item;
 use crate::rules::is_name;
+use crate::table::{Names, must_differ};
 use sdt_fault::{NoMemory, Text};
 use std::alloc::Global;
 use std::collections::BTreeSet;
@@ -64,19 +65,19 @@ fn repeated(alloc: Global, words: &[String], items: &[Item]) -> Result<Option<us
     Ok(None)
 }
 
-/// The first name of a new library's objects that stands before too.
+/// The first name that stands before too, where names must differ.
 pub fn names_fault(
     alloc: Global,
-    verb: Verb,
-    mode: Option<Flag>,
+    names: Names,
     words: &[String],
     items: &[Item],
 ) -> Result<Option<usize>, NoMemory>
     requires { All (λ i. i.at < length words.now) items.now }
-    ensures { IfOk result (λ place. place ≡ rules.names_fault verb mode (map string_bytes words.now) items.now) }
+    ensures { IfOk result (λ place. place ≡ rules.names_fault names (map string_bytes words.now) items.now) }
 {
-    match (verb, mode) {
-        (Verb::Library, Some(Flag::Create)) => repeated(alloc, words, items),
-        (_, _) => Ok(None),
+    if !must_differ(names) {
+        return Ok(None);
     }
+    let place = repeated(alloc, words, items)?;
+    Ok(place)
 }

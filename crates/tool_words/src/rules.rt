@@ -1,24 +1,30 @@
 //! Which words break a rule.
 
-ghost use Rattle.std.specs.Prelude.{◌≡◌, ◌==◌, ◌<◌, ◌≤◌, ◌+◌, ◌^◌, IfOk, length, map, string_bytes, count_by, ℕ, All, IfSome};
+ghost use Rattle.std.specs.Prelude.{◌≡◌, ◌==◌, ◌<◌, ◌≤◌, ◌+◌, ◌^◌, [], All, IfSome, find, length, map, string_bytes, filter, ℕ};
 ghost use Rattle.std.specs.List.{list_any, list_all};
 ghost use Rattle.tool_words.specs.Items as items;
 ghost use Rattle.tool_words.specs.Rules as rules;
 
-use crate::items::{Flag, Item, Role, Verb, value_count};
+use crate::items::{Item, Role};
 use crate::numerals::{decimal, number};
+use crate::table::{
+    Entry, Flag, Names, Standing, Value, Verb, flag_word, is_bank, is_counted, is_mode,
+    least_names, most_names, options,
+};
 
-fn code(flag: Flag) -> u8
-    ensures { result ≡ rules.code flag }
+// ---- items of a kind
+
+fn same_flag(flag: Flag, other: Flag) -> bool
+    ensures { result ≡ rules.same_flag flag other }
 {
-    flag as u8
+    flag_word(flag) == flag_word(other)
 }
 
 pub fn is_flag(flag: Flag, role: Role) -> bool
     ensures { result ≡ rules.is_flag flag role }
 {
     match role {
-        Role::Known(other) => code(flag) == code(other),
+        Role::Known(entry) => same_flag(flag, entry.0),
         Role::Name => false,
         Role::Unknown => false,
     }
@@ -27,11 +33,7 @@ pub fn is_flag(flag: Flag, role: Role) -> bool
 pub fn is_name(role: Role) -> bool
     ensures { result ≡ rules.is_name role }
 {
-    match role {
-        Role::Name => true,
-        Role::Known(_) => false,
-        Role::Unknown => false,
-    }
+    matches!(role, Role::Name)
 }
 
 /// Whether the option is one of the items.
@@ -44,20 +46,20 @@ pub fn has(flag: Flag, items: &[Item]) -> bool
 fn name_count(items: &[Item]) -> usize
     ensures { result ≡ rules.name_count items.now }
 {
-    items.iter().filter(|item| is_name(item.role)).count()
-}
-
-fn is_bank(flag: Flag) -> bool
-    ensures { result ≡ rules.is_bank flag }
-{
-    matches!(flag, Flag::Memory | Flag::Rom | Flag::Ram)
+    let mut count = 0;
+    for item in items {
+        if is_name(item.role) {
+            count += 1;
+        }
+    }
+    count
 }
 
 fn is_bank_role(role: Role) -> bool
     ensures { result ≡ rules.is_bank_role role }
 {
     match role {
-        Role::Known(flag) => is_bank(flag),
+        Role::Known(entry) => is_bank(entry.1),
         Role::Name => false,
         Role::Unknown => false,
     }
@@ -66,83 +68,48 @@ fn is_bank_role(role: Role) -> bool
 fn bank_count(items: &[Item]) -> usize
     ensures { result ≡ rules.bank_count items.now }
 {
-    items.iter().filter(|item| is_bank_role(item.role)).count()
+    let mut count = 0;
+    for item in items {
+        if is_bank_role(item.role) {
+            count += 1;
+        }
+    }
+    count
 }
 
-fn runs_image(verb: Verb) -> bool
-    ensures { result ≡ rules.runs_image verb }
+fn is_mode_role(role: Role) -> bool
+    ensures { result ≡ rules.is_mode_role role }
 {
-    matches!(verb, Verb::Run | Verb::Debug)
-}
-
-fn is_mode(verb: Verb, flag: Flag) -> bool
-    ensures { result ≡ rules.is_mode verb flag }
-{
-    match flag {
-        Flag::Map => runs_image(verb),
-        Flag::Elf => runs_image(verb),
-        _ => matches!(
-            flag,
-            Flag::Create
-                | Flag::Table
-                | Flag::Extract
-                | Flag::Bin
-                | Flag::Scatter
-                | Flag::Aif
-                | Flag::IntelHex
-                | Flag::SRecords
-                | Flag::Burned
-        ),
+    match role {
+        Role::Known(entry) => is_mode(entry.2),
+        Role::Name => false,
+        Role::Unknown => false,
     }
 }
 
-fn role_mode(verb: Verb, role: Role) -> Option<Flag>
-    ensures { result ≡ rules.role_mode verb role }
+fn flag_of(role: Role) -> Option<Flag>
+    ensures { result ≡ rules.flag_of role }
 {
     match role {
-        Role::Known(flag) => {
-            if is_mode(verb, flag) {
-                return Some(flag);
-            }
-            None
-        }
+        Role::Known(entry) => Some(entry.0),
         Role::Name => None,
         Role::Unknown => None,
     }
 }
 
-/// What a library is wanted for, what is run, where an image is placed, or in which form it is burned: the first option
-/// of which there is one.
-pub fn mode_of(verb: Verb, items: &[Item]) -> Option<Flag>
-    ensures { result ≡ rules.mode_of verb items.now }
+fn mode_item(items: &[Item]) -> Option<Item>
+    ensures { result ≡ find (λ i. rules.is_mode_role i.role) items.now }
 {
-    for item in items {
-        let mode = role_mode(verb, item.role);
-        if mode.is_some() {
-            return mode;
-        }
-    }
-    None
+    items.iter().copied().find(|item| is_mode_role(item.role))
 }
 
-/// What a command's options choose together, on which it depends which options may stand beside them.
-#[derive(Clone, Copy)]
-pub struct Choice {
-    pub mode: Option<Flag>,
-    /// Whether the image that is made is to move itself (`-reloc`).
-    pub moves: bool,
-    /// Whether the image that is made is an ELF executable (`-elf`).
-    pub executable: bool,
-}
-
-/// What the items choose.
-pub fn choice_of(verb: Verb, items: &[Item]) -> Choice
-    ensures { result ≡ rules.choice_of verb items.now }
+/// The first of the options of which a command has one.
+pub fn mode_of(items: &[Item]) -> Option<Flag>
+    ensures { result ≡ rules.mode_of items.now }
 {
-    Choice {
-        mode: mode_of(verb, items),
-        moves: has(Flag::Reloc, items),
-        executable: has(Flag::Elf, items),
+    match mode_item(items) {
+        None => None,
+        Some(item) => flag_of(item.role),
     }
 }
 
@@ -151,9 +118,66 @@ fn is_the_mode(flag: Flag, mode: Option<Flag>) -> bool
 {
     match mode {
         None => false,
-        Some(mode) => code(flag) == code(mode),
+        Some(mode) => same_flag(flag, mode),
     }
 }
+
+// ---- when an option stands
+
+fn is_beside(flag: Flag, role: Role) -> bool
+    ensures { result ≡ rules.is_beside flag role }
+{
+    is_flag(flag, role) && !is_mode_role(role)
+}
+
+fn has_beside(flag: Flag, items: &[Item]) -> bool
+    ensures { result ≡ list_any (λ i. rules.is_beside flag i.role) items.now }
+{
+    items.iter().any(|item| is_beside(flag, item.role))
+}
+
+fn stands_as(items: &[Item], flag: Flag) -> bool
+    ensures { result ≡ rules.stands_as items.now flag }
+{
+    is_the_mode(flag, mode_of(items)) || has_beside(flag, items)
+}
+
+fn may_stand(items: &[Item], standing: Standing) -> bool
+    ensures { result ≡ rules.may_stand items.now standing }
+{
+    match standing {
+        Standing::With(flag) => stands_as(items, flag),
+        Standing::NeededWith(flag) => stands_as(items, flag),
+        Standing::NeededOr(flag, other) => stands_as(items, flag) || stands_as(items, other),
+        Standing::Without(flag) => !stands_as(items, flag),
+        Standing::WithNeither(flag, other) => !(stands_as(items, flag) || stands_as(items, other)),
+        _ => true,
+    }
+}
+
+fn must_stand(items: &[Item], standing: Standing) -> bool
+    ensures { result ≡ rules.must_stand items.now standing }
+{
+    match standing {
+        Standing::Needed => true,
+        Standing::NeededWith(flag) => stands_as(items, flag),
+        Standing::NeededOr(flag, _) => stands_as(items, flag),
+        _ => false,
+    }
+}
+
+fn is_surplus(before: &[Item], entry: Entry) -> bool
+    ensures { result ≡ rules.is_surplus before.now entry }
+{
+    let full = if is_bank(entry.1) {
+        bank_count(before) >= 16
+    } else {
+        has(entry.0, before)
+    };
+    full || is_mode(entry.2) && mode_of(before).is_some()
+}
+
+// ---- values
 
 fn is_plain(word: &[u8]) -> bool
     ensures { result ≡ rules.is_plain word.now }
@@ -192,15 +216,13 @@ fn is_size(base: Option<u32>, size: Option<u32>) -> bool
 
 /// The number that the word at a place writes.
 pub fn number_at(words: &[String], at: usize) -> Option<u32>
-    ensures { result ≡ number_at (map string_bytes words.now) at }
+    ensures { result ≡ rules.number_at (map string_bytes words.now) at }
 {
     match words.get(at) {
         None => None,
         Some(word) => number(word.as_str()),
     }
 }
-
-ghost use Rattle.tool_words.specs.Rules.{number_at};
 
 fn plain_at(words: &[String], at: usize) -> bool
     ensures { result ≡ rules.is_plain (items.word_at (map string_bytes words.now) at) }
@@ -211,27 +233,17 @@ fn plain_at(words: &[String], at: usize) -> bool
     }
 }
 
-fn first_is_good(flag: Flag, words: &[String], at: usize) -> bool
+fn first_is_good(value: Value, words: &[String], at: usize) -> bool
     requires { at < length words.now }
-    ensures { result ≡ rules.first_is_good flag (map string_bytes words.now) at }
+    ensures { result ≡ rules.first_is_good value (map string_bytes words.now) at }
 {
-    match flag {
-        Flag::At => is_aligned(number_at(words, at + 1)),
-        Flag::Memory => is_aligned(number_at(words, at + 1)),
-        Flag::Rom => is_aligned(number_at(words, at + 1)),
-        Flag::Base => is_aligned(number_at(words, at + 1)),
-        Flag::Acknowledge => is_aligned(number_at(words, at + 1)),
-        Flag::Ram => is_aligned(number_at(words, at + 1)),
-        Flag::Steps => is_at_most(1_000_000_000, number_at(words, at + 1)),
-        _ => plain_at(words, at + 1),
+    match value {
+        Value::Nothing => true,
+        Value::File => plain_at(words, at + 1),
+        Value::StepCount => is_at_most(1_000_000_000, number_at(words, at + 1)),
+        Value::Address => is_aligned(number_at(words, at + 1)),
+        Value::Bank => is_aligned(number_at(words, at + 1)),
     }
-}
-
-fn second_is_good(words: &[String], at: usize) -> bool
-    requires { at + 1 < length words.now }
-    ensures { result ≡ rules.second_is_good (map string_bytes words.now) at }
-{
-    is_size(number_at(words, at + 1), number_at(words, at + 2))
 }
 
 fn value_fault(words: &[String], at: usize, good: bool) -> Option<usize>
@@ -243,100 +255,39 @@ fn value_fault(words: &[String], at: usize, good: bool) -> Option<usize>
     if good { None } else { Some(at) }
 }
 
-fn second_fault(verb: Verb, flag: Flag, words: &[String], at: usize) -> Option<usize>
+fn size_fault(words: &[String], at: usize) -> Option<usize>
     requires { at + 1 < length words.now }
-    ensures { result ≡ rules.second_fault verb flag (map string_bytes words.now) at }
+    ensures { result ≡ rules.value_fault (map string_bytes words.now) (at + 2) (rules.second_is_good (map string_bytes words.now) at) }
 {
-    if value_count(verb, flag) == 2 {
-        return value_fault(words, at + 2, second_is_good(words, at));
-    }
-    None
+    let good = is_size(number_at(words, at + 1), number_at(words, at + 2));
+    value_fault(words, at + 2, good)
 }
 
-fn values_fault(verb: Verb, flag: Flag, words: &[String], at: usize) -> Option<usize>
+fn values_fault(value: Value, words: &[String], at: usize) -> Option<usize>
     requires { at < length words.now }
-    ensures { result ≡ rules.values_fault verb flag (map string_bytes words.now) at }
+    ensures { result ≡ rules.values_fault value (map string_bytes words.now) at }
 {
-    if value_count(verb, flag) == 0 {
+    if let Value::Nothing = value {
         return None;
     }
-    let first = value_fault(words, at + 1, first_is_good(flag, words, at));
+    let first = value_fault(words, at + 1, first_is_good(value, words, at));
     if first.is_some() {
         return first;
     }
-    second_fault(verb, flag, words, at)
-}
-
-/// Of the options of making an image.
-fn is_image_allowed(choice: Choice, flag: Flag) -> bool
-    ensures { result ≡ rules.is_image_allowed choice flag }
-{
-    match flag {
-        Flag::Base => !is_the_mode(Flag::Scatter, choice.mode),
-        Flag::Reloc => is_the_mode(Flag::Aif, choice.mode),
-        Flag::Elf => is_the_mode(Flag::Scatter, choice.mode),
-        Flag::Symbols => choice.executable,
-        Flag::Ram => !(is_the_mode(Flag::Bin, choice.mode) || choice.moves),
-        _ => true,
+    match value {
+        Value::Bank => size_fault(words, at),
+        _ => None,
     }
 }
 
-/// Whether an image to run is one that is loaded at an address that is told.
-fn is_loaded_anywhere(mode: Option<Flag>) -> bool
-    ensures { result ≡ rules.is_loaded_anywhere mode }
-{
-    is_the_mode(Flag::Aif, mode) || is_the_mode(Flag::Bin, mode)
-}
+// ---- names
 
-fn is_allowed(verb: Verb, choice: Choice, flag: Flag) -> bool
-    ensures { result ≡ rules.is_allowed verb choice flag }
-{
-    match (verb, flag) {
-        (Verb::Library, Flag::Output) => is_the_mode(Flag::Extract, choice.mode),
-        (Verb::Run, Flag::At) => is_loaded_anywhere(choice.mode),
-        (Verb::Debug, Flag::At) => is_loaded_anywhere(choice.mode),
-        (Verb::Link, flag) => is_image_allowed(choice, flag),
-        (Verb::Build, flag) => is_image_allowed(choice, flag),
-        (Verb::Report, flag) => is_image_allowed(choice, flag),
-        (_, _) => true,
-    }
-}
-
-fn is_surplus(verb: Verb, before: &[Item], flag: Flag) -> bool
-    ensures { result ≡ rules.is_surplus verb before.now flag }
-{
-    if is_bank(flag) {
-        return bank_count(before) >= 16;
-    }
-    has(flag, before) || is_mode(verb, flag) && mode_of(verb, before).is_some()
-}
-
-fn most_names(verb: Verb, mode: Option<Flag>) -> Option<usize>
-    ensures { result ≡ rules.most_names verb mode }
-{
-    match (verb, mode) {
-        (Verb::Assemble, _) => Some(1),
-        (Verb::Library, Some(Flag::Table)) => Some(0),
-        (Verb::Library, Some(Flag::Extract)) => Some(1),
-        (Verb::Library, _) => None,
-        (Verb::List, _) => Some(1),
-        (Verb::Run, _) => Some(0),
-        (Verb::Link, _) => None,
-        (Verb::Build, _) => None,
-        (Verb::InterruptKit, _) => Some(0),
-        (Verb::Burn, _) => Some(0),
-        (Verb::Report, _) => None,
-        (Verb::MakeBig, _) => Some(2),
-        (Verb::Debug, _) => Some(0),
-    }
-}
-
-fn may_follow(before: &[Item], most: Option<usize>) -> bool
-    ensures { result ≡ rules.is_below (rules.name_count before.now) most }
+fn is_below(count: usize, most: Option<usize>) -> bool
+    ensures { result ≡ rules.is_below count most }
 {
     match most {
         None => true,
-        Some(most) => name_count(before) < most,
+        Some(most) => count < most,
     }
 }
 
@@ -359,56 +310,54 @@ fn is_count(number: Option<u32>) -> bool
     }
 }
 
-fn must_count(verb: Verb, before: &[Item]) -> bool
-    ensures { result ≡ rules.must_count verb before.now }
+fn is_met(needed: bool, there: bool) -> bool
+    ensures { result ≡ rules.is_met needed there }
 {
-    match verb {
-        Verb::MakeBig => name_count(before) == 0,
-        _ => false,
-    }
+    !needed || there
 }
 
-fn name_is_good(verb: Verb, words: &[String], before: &[Item], at: usize) -> bool
-    ensures { result ≡ rules.name_is_good verb (map string_bytes words.now) before.now at }
+fn name_is_good(names: Names, words: &[String], before: &[Item], at: usize) -> bool
+    ensures { result ≡ rules.name_is_good names (map string_bytes words.now) before.now at }
 {
-    plain_at(words, at) && is_met(must_count(verb, before), is_count(decimal_at(words, at)))
+    let must_count = is_counted(names) && name_count(before) == 0;
+    plain_at(words, at) && is_met(must_count, is_count(decimal_at(words, at)))
 }
+
+// ---- all items
 
 fn item_fault(
-    verb: Verb,
+    names: Names,
     words: &[String],
-    choice: Choice,
+    all: &[Item],
     before: &[Item],
     item: Item,
 ) -> Option<usize>
     requires { item.at < length words.now }
-    ensures { result ≡ rules.role_fault verb (map string_bytes words.now) choice before.now item.at item.role }
+    ensures { result ≡ rules.role_fault names (map string_bytes words.now) all.now before.now item.at item.role }
 {
-    match item.role {
+    let fits = match item.role {
         Role::Name => {
-            let may_stand = may_follow(before, most_names(verb, choice.mode));
-            if name_is_good(verb, words, before, item.at) && may_stand {
-                return None;
-            }
-            Some(item.at)
+            name_is_good(names, words, before, item.at)
+                && is_below(name_count(before), most_names(names))
         }
-        Role::Unknown => Some(item.at),
-        Role::Known(flag) => {
-            if is_allowed(verb, choice, flag) && !is_surplus(verb, before, flag) {
-                return values_fault(verb, flag, words, item.at);
+        Role::Unknown => false,
+        Role::Known(entry) => {
+            if may_stand(all, entry.2) && !is_surplus(before, entry) {
+                return values_fault(entry.1, words, item.at);
             }
-            Some(item.at)
+            false
         }
-    }
+    };
+    if fits { None } else { Some(item.at) }
 }
 
-/// The first word of the items that breaks a rule, with what they choose together.
-pub fn items_fault(verb: Verb, words: &[String], choice: Choice, items: &[Item]) -> Option<usize>
+/// The first word of the items that breaks a rule.
+pub fn items_fault(names: Names, words: &[String], items: &[Item]) -> Option<usize>
     requires { All (λ i. i.at < length words.now) items.now }
-    ensures { result ≡ rules.items_fault verb (map string_bytes words.now) choice [] items.now }
+    ensures { result ≡ rules.items_fault names (map string_bytes words.now) items.now [] items.now }
 {
     for (k, item) in items.iter().enumerate() {
-        let fault = item_fault(verb, words, choice, &items[..k], *item);
+        let fault = item_fault(names, words, items, &items[..k], *item);
         if fault.is_some() {
             return fault;
         }
@@ -416,7 +365,18 @@ pub fn items_fault(verb: Verb, words: &[String], choice: Choice, items: &[Item])
     None
 }
 
-ghost use Rattle.std.specs.Prelude.{[]};
+fn is_there(items: &[Item], entry: Entry) -> bool
+    ensures { result ≡ rules.is_there items.now entry }
+{
+    is_met(is_mode(entry.2), mode_of(items).is_some())
+        && is_met(must_stand(items, entry.2), has(entry.0, items))
+}
+
+fn are_there(verb: Verb, items: &[Item]) -> bool
+    ensures { result ≡ list_all (λ e. rules.is_there items.now e) (table.options verb) }
+{
+    options(verb).iter().all(|entry| is_there(items, *entry))
+}
 
 fn has_names(least: usize, items: &[Item]) -> bool
     ensures { result ≡ nat_le least (rules.name_count items.now) }
@@ -425,80 +385,11 @@ fn has_names(least: usize, items: &[Item]) -> bool
 }
 
 ghost use Rattle.std.specs.Prelude.{nat_le};
-
-fn needs_mode(verb: Verb) -> bool
-    ensures { result ≡ rules.needs_mode verb }
-{
-    !matches!(
-        verb,
-        Verb::Assemble | Verb::List | Verb::InterruptKit | Verb::MakeBig
-    )
-}
-
-fn least_names(verb: Verb, mode: Option<Flag>) -> usize
-    ensures { result ≡ rules.least_names verb mode }
-{
-    match (verb, mode) {
-        (Verb::Library, Some(Flag::Table)) => 0,
-        (Verb::Run, _) => 0,
-        (Verb::InterruptKit, _) => 0,
-        (Verb::Burn, _) => 0,
-        (Verb::MakeBig, _) => 2,
-        (Verb::Debug, _) => 0,
-        (_, _) => 1,
-    }
-}
-
-fn needs_output(verb: Verb, mode: Option<Flag>) -> bool
-    ensures { result ≡ rules.needs_output verb mode }
-{
-    match verb {
-        Verb::Library => is_the_mode(Flag::Extract, mode),
-        Verb::List => false,
-        Verb::Run => false,
-        Verb::Assemble => true,
-        Verb::Link => true,
-        Verb::Build => true,
-        Verb::InterruptKit => true,
-        Verb::Burn => true,
-        Verb::Report => false,
-        Verb::MakeBig => false,
-        Verb::Debug => false,
-    }
-}
-
-fn needs_map(verb: Verb) -> bool
-    ensures { result ≡ rules.needs_map verb }
-{
-    matches!(verb, Verb::Burn)
-}
-
-fn needs_script(verb: Verb) -> bool
-    ensures { result ≡ rules.needs_script verb }
-{
-    matches!(verb, Verb::Debug)
-}
-
-fn needs_address(verb: Verb, mode: Option<Flag>) -> bool
-    ensures { result ≡ rules.needs_address verb mode }
-{
-    runs_image(verb) && is_the_mode(Flag::Bin, mode)
-}
-
-fn is_met(needed: bool, there: bool) -> bool
-    ensures { result ≡ rules.is_met needed there }
-{
-    !needed || there
-}
+ghost use Rattle.tool_words.specs.Table as table;
 
 /// Whether all that the command needs is there.
-pub fn is_complete(verb: Verb, mode: Option<Flag>, items: &[Item]) -> bool
-    ensures { result ≡ rules.is_complete verb mode items.now }
+pub fn is_complete(verb: Verb, names: Names, items: &[Item]) -> bool
+    ensures { result ≡ rules.is_complete verb names items.now }
 {
-    is_met(needs_mode(verb), mode.is_some())
-        && has_names(least_names(verb, mode), items)
-        && is_met(needs_output(verb, mode), has(Flag::Output, items))
-        && is_met(needs_map(verb), has(Flag::Map, items))
-        && is_met(needs_script(verb), has(Flag::Script, items))
-        && is_met(needs_address(verb, mode), has(Flag::At, items))
+    has_names(least_names(names), items) && are_there(verb, items)
 }

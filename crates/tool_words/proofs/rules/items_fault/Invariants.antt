@@ -3,4 +3,6 @@ use Rattle.tool_words.specs.Rules as rules
 use Rattle.tool_words.proofs.rules.items_fault.Given as goal
 
 abbrev pub invariant-loop-k : goal.invariant-loop-k
-invariant-loop-k l = rules.items_fault l.verb (map string_bytes l.words) l.choice (take l.k l.items) (drop l.k l.items) ≡ rules.items_fault l.verb (map string_bytes l.words) l.choice [] l.items
+invariant-loop-k l =
+    rules.items_fault l.names (map string_bytes l.words) l.items (take l.k l.items) (drop l.k l.items)
+    ≡ rules.items_fault l.names (map string_bytes l.words) l.items [] l.items
