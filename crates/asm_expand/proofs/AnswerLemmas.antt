@@ -1,20 +1,18 @@
 -- What the engine answers.
 use Rattle.std.proofs.Common.{◌≡◌, ◌≤◌, ℕ, List, [], ◌∷◌, ◌++◌, reverse, refl, sym, ◌∙◌, ap, subst, Option, Some, None, arith}
 use Rattle.std.specs.Prelude.{Result, Ok, Err, IfErr}
-use Rattle.std.specs.Str.Lines.{lines}
 use Rattle.std.proofs.lemmas.List.{reverse-append}
 use Rattle.sdt_fault.specs.declared.answer.Fault.{Fault}
 use Rattle.sdt_fault.specs.declared.answer.Fault.TheVariants as fault
 use Rattle.sdt_fault.specs.declared.kinds.LineKind.{LineKind}
-use Rattle.sdt_fault.specs.declared.kinds.LineKind.TheVariants.{Nesting, TooMany}
+use Rattle.sdt_fault.specs.declared.kinds.LineKind.TheVariants.{Nesting}
 use Rattle.sdt_fault.specs.declared.refusal.Refusal.{Refusal}
 use Rattle.sdt_fault.specs.declared.refusal.Refusal.TheVariants as refusal
 use Rattle.sdt_outside.specs.Files.{Files, content}
 use Rattle.asm_model.specs.declared.lines.Line.{Line}
-use Rattle.asm_model.specs.Lines.{first_beyond, split}
-use Rattle.asm_model.specs.Told.{IsBadLine, GivesFault}
+use Rattle.asm_model.specs.Told.{IsBadLine}
 use Rattle.expand_model.specs.declared.operations.Operation.{Operation}
-use Rattle.expand_model.specs.Expands.{Run, Outcome, Expands, Flats, FaultAt, MissingFile, outcome_of, outermost}
+use Rattle.expand_model.specs.Expands.{Run, Outcome, Flats, FaultAt, MissingFile, outcome_of, outermost}
 use Rattle.expand_model.specs.States.{State, started}
 use Rattle.expand_model.specs.Steps.{Sources, Context, Stop, Go, Under, got, visit_limit, Over, Closed, Left, Ended, Cut, Unclosed, Bad}
 use Rattle.expand_model.specs.Steps as model
@@ -184,9 +182,6 @@ module _ (sources : Sources) (start : model.Next) where
   refusal_told : (g : Engine) (name : List ℕ) (p : LineCursor) (r : Refusal) → GetsFrom sources name p (Err (fault.Refused r))
       → IsLed sources start g (next.Get name p)
       → IsFault (fault.Refused r) (RunsTo sources start)
-  refusal_told g name p (refusal.BadLine source n k) gets led =
-      let x = gotten g.state name p led.at led.shown in
-      (FaultAt source n k, bad_runs sources start led.contexts led.at source n k (x.2 ∙ gets x.0) led.leads, refl)
   refusal_told g name p (refusal.Missing q) gets led =
       let x = gotten g.state name p led.at led.shown in
       (MissingFile q, missing_runs sources start led.contexts led.at q (x.2 ∙ gets x.0) led.leads, refl)
@@ -255,25 +250,3 @@ led_start sources g p s = record {
   shown = (s.0, refl);
   leads = leads_from sources (Go (started visit_limit) (cursor_lines p));
 }
-
-pub split_refused : (sources : Sources) (name text : List ℕ) (e : Fault) → GivesFault (split name text) e
-    → IsFault e (λ o. Expands sources visit_limit name text o)
-split_refused sources name text (fault.ReadFault q) h = tt
-split_refused sources name text fault.NoMemory h = tt
-split_refused sources name text (fault.Refused r) h = by (first_beyond 1 (lines text)) refl
-  where
-    by : (o : Option ℕ) → first_beyond 1 (lines text) ≡ o → (x : Outcome) × Expands sources visit_limit name text x × IsToldBy r x
-    by None e = let g = rw e at h in absurd (cc)
-    by (Some n) e =
-        let g = rw e at h in
-        let is : r ≡ refusal.BadLine name n TooMany = cc in
-        (FaultAt name n TooMany, rw e refl, rw is refl)
-
-pub split_reads : (name text : List ℕ) (e : Fault) (Has : List ℕ → Type 0) → GivesFault (split name text) e → IsReadOf e Has
-split_reads name text (fault.Refused r) Has h = tt
-split_reads name text fault.NoMemory Has h = tt
-split_reads name text (fault.ReadFault q) Has h = by (first_beyond 1 (lines text)) refl
-  where
-    by : (o : Option ℕ) → first_beyond 1 (lines text) ≡ o → Has q
-    by None e = let g = rw e at h in absurd (cc)
-    by (Some n) e = let g = rw e at h in absurd (cc)

@@ -1,9 +1,10 @@
 -- The first line, by what the code finds of it.
-use Rattle.std.proofs.Common.{◌≡◌, ℕ, ◌-◌, ◌==◌, List, [], ◌∷◌, true, false, refl, sym, ◌∙◌, ap}
+use Rattle.std.proofs.Common.{◌≡◌, ℕ, ◌-◌, ◌==◌, ◌||◌, List, [], ◌∷◌, Bool, true, false, refl, sym, ◌∙◌, ap}
 use Rattle.std.specs.Prelude.{Err}
 use Rattle.std.proofs.lemmas.Bool.{false_from_ne_true, eqb-true}
 use Rattle.sdt_fault.specs.declared.kinds.LineKind.TheVariants.{Syntax, TooMany}
 use Rattle.asm_model.specs.declared.lines.Line.{Line}
+use Rattle.asm_model.specs.Lines.{is_beyond}
 use Rattle.expand_model.specs.declared.macros.Prototype.{Prototype}
 use Rattle.expand_model.specs.Known.{Operand}
 use Rattle.expand_model.specs.Pairing.{raw_operation, taken}
@@ -48,27 +49,42 @@ zero_at sources d c at s (m ∷ ms) l rest h e z =
 line_is : (l m : Line) (ls ms : List Line) → m ∷ ms ≡ l ∷ ls → m ≡ l
 line_is l m ls ms e = cc
 
+or_true : (b : Bool) → (b || true) ≡ true
+or_true true = refl
+or_true false = refl
+
+-- a line beyond a limit
+pub beyond_at : (sources : Sources) (d : Depth) (c : Expansion) (at : LineCursor) (s : State) (ls : List Line) (l : Line) (rest : List Line)
+    → cursor_lines at ≡ ls → ls ≡ l ∷ rest → is_beyond l ≡ true → Reading sources d c (next.Bad at TooMany) s ls
+unfolding first_line
+beyond_at sources d c at s [] l rest h e long = absurd (cc)
+beyond_at sources d c at s (m ∷ ms) l rest h e long =
+    let x = some_operand s (m ∷ ms) in
+    let is : is_beyond m ≡ true = ap (λ (y : Line). is_beyond y) (line_is l m rest ms e) ∙ long in
+    (x.0, x.1, rw (is, or_true (s.visits == 0)) (shows_bad sources c at TooMany m ms h))
+
 visited_text : (s : State) (text : List ℕ) → substituted (visited s) text ≡ substituted s text
 unfolding substituted
 visited_text s text = refl
 
 pub line_at : (sources : Sources) (d : Depth) (c : Expansion) (n : Next) (at : LineCursor) (s : State) (text : List ℕ) (ls : List Line) (l : Line)
     (rest : List Line)
-    → cursor_lines at ≡ ls → ls ≡ l ∷ rest → (s.visits == 0) ≡ false → text ≡ l.text
+    → cursor_lines at ≡ ls → ls ≡ l ∷ rest → is_beyond l ≡ false → (s.visits == 0) ≡ false → text ≡ l.text
     → ((m : Line) (ms : List Line) → cursor_lines at ≡ m ∷ ms
     → (x : Operand) × ReadsText s.macros (substituted (visited s) text) x × Shows sources c n
     (said_text sources d m x (visited s) ms (substituted (visited s) text)))
     → Reading sources d c n s ls
 unfolding first_line
-line_at sources d c n at s text [] l rest h e z t reads = absurd (cc)
-line_at sources d c n at s text (m ∷ ms) l rest h e z t reads =
+line_at sources d c n at s text [] l rest h e fits z t reads = absurd (cc)
+line_at sources d c n at s text (m ∷ ms) l rest h e fits z t reads =
     let is = line_is l m rest ms e in
     let same : substituted s m.text ≡ substituted (visited s) text =
     ap (λ (x : Line). substituted s x.text) is ∙ ap (substituted s) (sym t) ∙ sym (visited_text s text) in
     let x = reads m ms h in
-    (x.0, rw same x.1, rw (z, same) x.2)
+    let short : is_beyond m ≡ false = ap (λ (y : Line). is_beyond y) is ∙ fits in
+    (x.0, rw same x.1, rw (z, short, same) x.2)
 
-pub definition_is : (l m : Line) (s : State) (rest : List Line) (p : Prototype) → (s.visits == 0) ≡ false
+pub definition_is : (l m : Line) (s : State) (rest : List Line) (p : Prototype) → (s.visits == 0) ≡ false → is_beyond m ≡ false
     → prototype_line (raw_operation m) (prototype_of (raw_words_of m.text)) l (visited s) m rest ≡ defined_as p l (visited s) (taken (s.visits - 1) rest)
     → definition l s (m ∷ rest) ≡ defined_as p l (visited s) (taken (s.visits - 1) rest)
-definition_is l m s rest p z h = rw z h
+definition_is l m s rest p z fits h = rw (z, fits) h

@@ -136,8 +136,6 @@ Opens f old new = (new.state ≡ old.state) × (new.frames.items ≡ old.frames.
 abbrev pub GetsFrom : Sources → List ℕ → LineCursor → Result Next Fault → Type 0
 GetsFrom sources name behind (Ok n) =
     (g : Engine) (s : State) → Represents g.state s → Shows sources g.state n (got name s (cursor_lines behind) (sources name))
-GetsFrom sources name behind (Err (fault.Refused (BadLine source n k))) =
-    (s : State) → got name s (cursor_lines behind) (sources name) ≡ Stop (model.Bad source n k)
 GetsFrom sources name behind (Err (fault.Refused (Missing q))) =
     (s : State) → got name s (cursor_lines behind) (sources name) ≡ Stop (model.Missing q)
 GetsFrom sources name behind (Err (fault.Refused _)) = ⊥

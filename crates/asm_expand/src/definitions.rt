@@ -12,6 +12,7 @@ use crate::faults::is_long;
 use crate::line_cursors::LineCursor;
 use crate::steps::{End, Next};
 use asm_expr::told::{first_told, kind_if};
+use asm_lines::split::is_beyond;
 use asm_model::{Line, SharedText};
 use asm_variables::expansion::{Definition, Expansion};
 use asm_variables::line_fields::raw_words_of;
@@ -300,6 +301,10 @@ pub fn definition(alloc: Global, state: &mut Expansion, at: LineCursor) -> Resul
         return Ok(Next::Stop(End::Unclosed(at)));
     };
     if state.visits == 0 {
+        drop(at);
+        return Ok(Next::Bad(place, LineKind::TooMany));
+    }
+    if is_beyond(line) {
         drop(at);
         return Ok(Next::Bad(place, LineKind::TooMany));
     }

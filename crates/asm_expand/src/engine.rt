@@ -1,7 +1,6 @@
 //! The engine: the lines of a source, in a loop over a stack of what is open.
 
-ghost use Rattle.asm_model.specs.Lines.{split};
-ghost use Rattle.asm_model.specs.Told.{GivesFault};
+ghost use Rattle.asm_model.specs.Lines.{file_lines};
 ghost use Rattle.std.specs.Prelude.{Ok, ◌≡◌, ◌≤◌, ◌∷◌, [], ◌++◌, length, IfOk, IfErr, MatchOption, OnOk};
 ghost use Rattle.sdt_fault.specs.declared.kinds.LineKind.TheVariants.{Nesting};
 ghost use Rattle.sdt_outside.specs.Counts.{Rose};
@@ -141,12 +140,11 @@ fn open(engine: &mut Engine, frame: Frame) -> Result<(), NoMemory>
 }
 
 /// The lines of a file with these bytes.
-fn lines_in(alloc: Global, name: &Text, bytes: &[u8]) -> Result<LineCursor, Fault>
-    ensures lines { IfOk result (λ p. split name.now bytes.now ≡ Ok (cursor_lines p)) }
-    ensures fault { IfErr result (λ e. GivesFault (split name.now bytes.now) e) }
+fn lines_in(alloc: Global, name: &Text, bytes: &[u8]) -> Result<LineCursor, NoMemory>
+    ensures { IfOk result (λ p. cursor_lines p ≡ file_lines name.now bytes.now) }
 {
     let lines = split_lines(alloc, name, bytes)?;
-    Ok(LineCursor::start(alloc, lines)?)
+    LineCursor::start(alloc, lines)
 }
 
 /// The lines of a file, under its frame.
@@ -173,9 +171,9 @@ fn get<S: Store>(
             drop(name);
             match first {
                 Ok(first) => Ok(Next::Under(Frame::File(behind), first)),
-                Err(fault) => {
+                Err(NoMemory) => {
                     drop(behind);
-                    Err(fault)
+                    Err(Fault::NoMemory)
                 }
             }
         }
@@ -411,11 +409,8 @@ pub fn expand<S: Store>(
     ensures read_faults { S.read_faults store.old ≤ S.read_faults store.new }
     ensures write_faults { S.write_faults store.new ≡ S.write_faults store.old }
 {
-    match split_lines(alloc, source, text) {
-        Err(fault) => Err(fault),
-        Ok(lines) => {
-            let first = LineCursor::start(alloc, lines)?;
-            expand_lines(alloc, first, store)
-        }
+    match lines_in(alloc, source, text) {
+        Err(NoMemory) => Err(Fault::NoMemory),
+        Ok(first) => expand_lines(alloc, first, store),
     }
 }

@@ -28,7 +28,7 @@ use asm_expr::directives::parts_of;
 use asm_expr::read::expression;
 use asm_expr::told::{first_told, kind_if};
 use asm_lines::scan::scan;
-use asm_lines::split::LINE_BYTES;
+use asm_lines::split::{LINE_BYTES, is_beyond};
 use asm_model::{Expr, SharedText};
 use asm_variables::expansion::{Definition, Expansion};
 use asm_variables::line_fields::{Words, words_of};
@@ -412,6 +412,9 @@ pub fn read(
     let Some(line) = at.first() else {
         return Ok(Next::Stop(End::Over));
     };
+    if is_beyond(line) {
+        return Ok(Next::Bad(at, LineKind::TooMany));
+    }
     let Ok(text) = line.text.share() else {
         drop(at);
         return Err(NoMemory);

@@ -2,14 +2,11 @@
 
 ghost use Rattle.std.specs.Prelude.{◌≡◌, ◌+◌, ◌-◌, ◌<◌, ◌≤◌, ◌==◌, ◌∷◌, length, position, take, drop, IfOk};
 ghost use Rattle.std.specs.Str.Lines.{lines, strip_carriage_return};
-ghost use Rattle.asm_model.specs.Lines.{split};
-ghost use Rattle.asm_model.specs.Told.{Gives};
+ghost use Rattle.asm_model.specs.Lines.{file_lines, is_beyond as beyond};
 
 use crate::scan::{begin, behind};
-use asm_model::{FileName, Line, SharedText, bad_line};
+use asm_model::{FileName, Line, SharedText};
 use memchr::memchr;
-use sdt_fault::answer::Fault;
-use sdt_fault::kinds::LineKind;
 use sdt_fault::{List, NoMemory, Text};
 use std::alloc::Global;
 
@@ -19,12 +16,12 @@ pub const SOURCE_LINES: u32 = 200_000;
 /// The bytes of a line.
 pub const LINE_BYTES: usize = 65_536;
 
-/// The lines of the text of the file that `source` names, numbered from 1. A text with more than
-/// `SOURCE_LINES` lines, or a line of more than `LINE_BYTES` bytes, is refused at the first line at fault.
-/// The lines share one copy of the text; one of 2^32 bytes or more counts as want of memory.
+/// The lines of the text of the file that `source` names, numbered from 1, up to the first with a number above
+/// `SOURCE_LINES` or more than `LINE_BYTES` bytes: that one is the last, since none behind it is ever visited. The lines
+/// share one copy of the text; one of 2^32 bytes or more counts as want of memory.
 #[tactic(auto, using(crate::proofs::LineLemmas::no_lines))]
-pub fn split_lines(alloc: Global, source: &Text, text: &[u8]) -> Result<List<Line>, Fault>
-    ensures { Gives (split source.now text.now) result }
+pub fn split_lines(alloc: Global, source: &Text, text: &[u8]) -> Result<List<Line>, NoMemory>
+    ensures { IfOk result (λ list. list ≡ file_lines source.now text.now) }
 {
     let file = FileName::of(alloc, source)?;
     let whole = SharedText::from_slice(alloc, text)?;
@@ -33,17 +30,26 @@ pub fn split_lines(alloc: Global, source: &Text, text: &[u8]) -> Result<List<Lin
     let mut number = 1;
     'lines: while place < text.len() {
         let (end, next) = first_line(text, place);
-        if number > SOURCE_LINES {
-            return Err(bad_line(alloc, source, number, LineKind::TooMany));
+        let line = line_of(&file, number, &whole, place, end)?;
+        let last = is_beyond(&line);
+        list.push(line)?;
+        if last {
+            return Ok(List::from_vec(list));
         }
-        if end - place > LINE_BYTES {
-            return Err(bad_line(alloc, source, number, LineKind::TooMany));
-        }
-        list.push(line_of(&file, number, &whole, place, end)?)?;
         place = next;
         number += 1;
     }
     Ok(List::from_vec(list))
+}
+
+/// Whether a line is too long, or beyond the limit on the lines of a file.
+pub fn is_beyond(line: &Line) -> bool
+    ensures { result ≡ beyond line.now }
+{
+    if line.number > SOURCE_LINES {
+        return true;
+    }
+    line.text.as_slice().len() > LINE_BYTES
 }
 
 /// The line that a part of the text is.

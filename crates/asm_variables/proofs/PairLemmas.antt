@@ -1,8 +1,9 @@
 -- Lines that are passed, one by one.
-use Rattle.std.proofs.Common.{◌≡◌, ℕ, ◌+◌, ◌-◌, ◌<◌, ◌≤◌, List, [], ◌∷◌, length, drop, reverse, refl, sym, ◌∙◌, ap, arith, zero, suc, get_or, length-drop}
+use Rattle.std.proofs.Common.{◌≡◌, ℕ, ◌+◌, ◌-◌, ◌<◌, ◌≤◌, List, [], ◌∷◌, length, drop, reverse, true, false, refl, sym, ◌∙◌, ap, arith, zero, suc, get_or, length-drop}
 use Rattle.std.proofs.lemmas.List.{drop_more}
 use Rattle.sdt_fault.specs.declared.kinds.LineKind.TheVariants.{Nesting, TooMany}
 use Rattle.asm_model.specs.declared.lines.Line.{Line}
+use Rattle.asm_model.specs.Lines.{is_beyond}
 use Rattle.expand_model.specs.declared.operations.Opening.{Opening}
 use Rattle.expand_model.specs.Pairing.{Stays, Turns, Closes, Unpaired, Closed, Turned, Faulty, Endless, skipped, skipped_line, behind_line, raw_operation}
 
@@ -28,10 +29,15 @@ unfolding skipped
 refuses o os zero l ls e = refl
 refuses o os (suc n) l ls e = absurd (omega (arith, e))
 
-goes : (o : Opening) (os : List Opening) (n m : ℕ) (l : Line) (ls : List Line) → n ≡ suc m
+goes : (o : Opening) (os : List Opening) (n m : ℕ) (l : Line) (ls : List Line) → n ≡ suc m → is_beyond l ≡ false
     → skipped o os n (l ∷ ls) ≡ skipped_line (behind_line o os (raw_operation l)) l m ls (λ p ps. skipped p ps m ls)
 unfolding skipped
-goes o os n m l ls e = rw e refl
+goes o os n m l ls e fits = rw (e, fits) refl
+
+refuses_beyond : (o : Opening) (os : List Opening) (n m : ℕ) (l : Line) (ls : List Line) → n ≡ suc m → is_beyond l ≡ true
+    → skipped o os n (l ∷ ls) ≡ Faulty l TooMany
+unfolding skipped
+refuses_beyond o os n m l ls e long = rw (e, long) refl
 
 module _ (opening : Opening) (visits : ℕ) (lines : List Line) (innermost : Opening) (outer : List Opening) (at : ℕ)
     (s : IsSkipping opening visits lines innermost outer at) where
@@ -48,10 +54,15 @@ module _ (opening : Opening) (visits : ℕ) (lines : List Line) (innermost : Ope
     pub too_many : at ≡ visits → skipped opening [] visits lines ≡ Faulty l TooMany
     too_many e = sym s.same ∙ rw here (refuses innermost (reverse outer) (visits - at) l (drop (at + 1) lines) (omega (arith, e)))
 
-    module _ (room : at < visits) where
+    pub beyond : at < visits → is_beyond l ≡ true → skipped opening [] visits lines ≡ Faulty l TooMany
+    beyond room long =
+        sym s.same
+        ∙ rw here (refuses_beyond innermost (reverse outer) (visits - at) (visits - (at + 1)) l (drop (at + 1) lines) (omega (arith, room)) long)
+
+    module _ (room : at < visits) (fits : is_beyond l ≡ false) where
       passed : skipped opening [] visits lines ≡ skipped_line (behind_line innermost (reverse outer) (raw_operation l)) l (visits - (at + 1))
           (drop (at + 1) lines) (λ p ps. skipped p ps (visits - (at + 1)) (drop (at + 1) lines))
-      passed = sym s.same ∙ rw here (goes innermost (reverse outer) (visits - at) (visits - (at + 1)) l (drop (at + 1) lines) (omega (arith, room)))
+      passed = sym s.same ∙ rw here (goes innermost (reverse outer) (visits - at) (visits - (at + 1)) l (drop (at + 1) lines) (omega (arith, room)) fits)
 
       pub turns : behind_line innermost (reverse outer) (raw_operation l) ≡ Turns
           → skipped opening [] visits lines ≡ Turned (visits - (at + 1)) (drop (at + 1) lines)

@@ -1,9 +1,10 @@
 -- Lines of a macro's body that are passed, one by one.
-use Rattle.std.proofs.Common.{◌≡◌, ℕ, ◌+◌, ◌-◌, ◌<◌, ◌≤◌, List, [], ◌∷◌, ◌++◌, length, take, drop, refl, sym, ◌∙◌, ap, arith, zero, suc, get_or, length-drop, append-nil}
+use Rattle.std.proofs.Common.{◌≡◌, ℕ, ◌+◌, ◌-◌, ◌<◌, ◌≤◌, List, [], ◌∷◌, ◌++◌, length, take, drop, true, false, refl, sym, ◌∙◌, ap, arith, zero, suc, get_or, length-drop, append-nil}
 use Rattle.std.proofs.lemmas.List.{drop_more, take_more}
 use Rattle.sdt_fault.specs.declared.kinds.LineKind.{LineKind}
 use Rattle.sdt_fault.specs.declared.kinds.LineKind.TheVariants.{Nesting, TooMany}
 use Rattle.asm_model.specs.declared.lines.Line.{Line}
+use Rattle.asm_model.specs.Lines.{is_beyond}
 use Rattle.asm_variables.specs.declared.pairing.BodyPart.{BodyPart}
 use Rattle.asm_variables.specs.declared.pairing.BodyPart.TheVariants as part
 use Rattle.asm_variables.specs.Pairing.{inside_shown}
@@ -52,9 +53,14 @@ unfolding taken
 refuses zero l ls e = refl
 refuses (suc n) l ls e = absurd (omega (arith, e))
 
-goes : (n m : ℕ) (l : Line) (ls : List Line) → n ≡ suc m → taken n (l ∷ ls) ≡ taken_line (raw_operation l) l m ls (taken m ls)
+goes : (n m : ℕ) (l : Line) (ls : List Line) → n ≡ suc m → is_beyond l ≡ false
+    → taken n (l ∷ ls) ≡ taken_line (raw_operation l) l m ls (taken m ls)
 unfolding taken
-goes n m l ls e = rw e refl
+goes n m l ls e fits = rw (e, fits) refl
+
+refuses_beyond : (n m : ℕ) (l : Line) (ls : List Line) → n ≡ suc m → is_beyond l ≡ true → taken n (l ∷ ls) ≡ Bad l TooMany
+unfolding taken
+refuses_beyond n m l ls e long = rw (e, long) refl
 
 module _ (visits : ℕ) (lines : List Line) (at : ℕ) (s : IsTaking visits lines at) where
   pub endless : length lines ≤ at → taken visits lines ≡ Open
@@ -70,13 +76,19 @@ module _ (visits : ℕ) (lines : List Line) (at : ℕ) (s : IsTaking visits line
     pub too_many : at ≡ visits → taken visits lines ≡ Bad l TooMany
     too_many e = sym s.same ∙ rw (here, refuses (visits - at) l (drop (at + 1) lines) (omega (arith, e))) (fronted_bad (take at lines) l TooMany)
 
-    module _ (room : at < visits) where
+    pub beyond : at < visits → is_beyond l ≡ true → taken visits lines ≡ Bad l TooMany
+    beyond room long =
+        sym s.same
+        ∙ rw (here, refuses_beyond (visits - at) (visits - (at + 1)) l (drop (at + 1) lines) (omega (arith, room)) long)
+        (fronted_bad (take at lines) l TooMany)
+
+    module _ (room : at < visits) (fits : is_beyond l ≡ false) where
       -- what the line makes of the lines behind it
       abbrev made : Taken
       made = taken_line (raw_operation l) l (visits - (at + 1)) (drop (at + 1) lines) (taken (visits - (at + 1)) (drop (at + 1) lines))
 
       passed : (r : Taken) → made ≡ r → taken visits lines ≡ fronted (take at lines) r
-      passed r e = sym s.same ∙ rw (here, goes (visits - at) (visits - (at + 1)) l (drop (at + 1) lines) (omega (arith, room)), e) refl
+      passed r e = sym s.same ∙ rw (here, goes (visits - at) (visits - (at + 1)) l (drop (at + 1) lines) (omega (arith, room)) fits, e) refl
 
       module _ (p : BodyPart) (is : made ≡ inside_shown p l (visits - (at + 1)) (drop (at + 1) lines) (taken (visits - (at + 1)) (drop (at + 1) lines))) where
         pub whole : p ≡ part.Ends → taken visits lines ≡ Whole (take at lines) (visits - (at + 1)) (drop (at + 1) lines)

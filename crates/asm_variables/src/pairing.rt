@@ -9,6 +9,7 @@ ghost use Rattle.asm_variables.specs.Pairing.{applied, behind_shown, HasEffect, 
 
 use crate::line_fields::raw_words_of;
 use crate::operations::operation_of;
+use asm_lines::split::is_beyond;
 use asm_model::Line;
 use expand_model::{Opening, Operation};
 use sdt_fault::NoMemory;
@@ -220,6 +221,9 @@ pub fn skip(
         if at == visits {
             return Ok(Skipping::Faulty(at, LineKind::TooMany));
         }
+        if is_beyond(line) {
+            return Ok(Skipping::Faulty(at, LineKind::TooMany));
+        }
         match pass(line, &mut innermost, &mut outer)? {
             OpeningAfter::Stays => {}
             OpeningAfter::Turns => return Ok(Skipping::Turned(at + 1)),
@@ -250,6 +254,9 @@ pub fn take_body(visits: usize, lines: &[Line]) -> Taking
     'lines: while at < lines.len() {
         let line = &lines[at];
         if at == visits {
+            return Taking::Bad(at, LineKind::TooMany);
+        }
+        if is_beyond(line) {
             return Taking::Bad(at, LineKind::TooMany);
         }
         match part_of(line) {

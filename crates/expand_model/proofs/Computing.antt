@@ -3,9 +3,8 @@ use Rattle.std.proofs.Common.{◌≡◌, ℕ, ◌+◌, List, [], ◌∷◌, leng
 use Rattle.std.proofs.lemmas.Bool.{ltb-true}
 use Rattle.std.proofs.lemmas.Option.{same_Some, none-some}
 use Rattle.std.specs.Prelude.{MatchBool, Result, Ok, Err, nat_lt, if◌then◌else◌}
-use Rattle.std.specs.Str.Lines.{lines}
 use Rattle.sdt_fault.specs.declared.kinds.LineKind.{LineKind}
-use Rattle.sdt_fault.specs.declared.kinds.LineKind.TheVariants.{Syntax, TooMany}
+use Rattle.sdt_fault.specs.declared.kinds.LineKind.TheVariants.{Syntax}
 use Rattle.asm_model.specs.declared.exprs.Expr.{Expr}
 use Rattle.asm_model.specs.declared.exprs.ExprItem.{ExprItem}
 use Rattle.asm_model.specs.declared.exprs.Part.{Part}
@@ -16,7 +15,7 @@ use Rattle.asm_model.specs.declared.tokens.Token.{Token}
 use Rattle.asm_model.specs.declared.tokens.TokenKind.{TokenKind}
 use Rattle.asm_model.specs.declared.tokens.TokenKind.TheVariants.{Sign}
 use Rattle.asm_model.specs.Grammar.{ParsesTokens, Parses}
-use Rattle.asm_model.specs.Lines.{numbered, first_beyond}
+use Rattle.asm_model.specs.Lines.{file_lines}
 use Rattle.asm_model.specs.Parts.{part_of}
 use Rattle.asm_model.specs.Says.{sentence}
 use Rattle.asm_model.specs.Tokens.{IsLongest, IsTokenAt, is_operation_sign, blanks, is_end, due_behind, first_due, TokensFrom}
@@ -24,7 +23,7 @@ use Rattle.asm_lines.specs.Lengths.{best_of}
 use Rattle.asm_lines.proofs.KindLemmas.{best_longest}
 use Rattle.asm_expr.specs.Parsing.{parsed, started}
 use Rattle.asm_expr.proofs.Spelled.{parsed_spelled}
-use Rattle.expand_model.specs.Expands.{Run, stops, reads, passes, Outcome, FaultAt, Expands, ExpandsLines, outcome_of, outermost}
+use Rattle.expand_model.specs.Expands.{Run, stops, reads, passes, Outcome, Expands, outcome_of, outermost}
 use Rattle.expand_model.specs.Known.{Operand, ReadsExpression}
 use Rattle.expand_model.specs.declared.macros.Macro.{Macro}
 use Rattle.expand_model.specs.States.{State}
@@ -233,25 +232,16 @@ abbrev end_by : Option End → Option Outcome
 end_by None = None
 end_by (Some e) = Some (outcome_of e)
 
-abbrev lines_by : ℕ → Sources → ℕ → List ℕ → List (List ℕ) → Option ℕ → Option Outcome
-lines_by f sources visits name texts None = end_by (run_by sources f outermost (Go (states.started visits) (numbered name 1 texts)))
-lines_by f sources visits name texts (Some n) = Some (FaultAt name n TooMany)
-
 -- the outcome of a source, as far as so many steps show it
 abbrev pub outcome_by : ℕ → Sources → ℕ → List ℕ → List ℕ → Option Outcome
-outcome_by f sources visits name text = lines_by f sources visits name (lines text) (first_beyond 1 (lines text))
+outcome_by f sources visits name text = end_by (run_by sources f outermost (Go (states.started visits) (file_lines name text)))
 
-end_sound_of : (sources : Sources) (visits : ℕ) (name : List ℕ) (texts : List (List ℕ)) (r : Option End) (o : Outcome)
-    → Ends sources outermost (Go (states.started visits) (numbered name 1 texts)) r → end_by r ≡ Some o → ExpandsLines sources visits name texts None o
-end_sound_of sources visits name texts None o h e = absurd (none-some o e)
-end_sound_of sources visits name texts (Some i) o h e = (i, h i refl, sym (same_Some _ _ e))
-
-lines_sound : (f : ℕ) (sources : Sources) (visits : ℕ) (name : List ℕ) (texts : List (List ℕ)) (n : Option ℕ) (o : Outcome)
-    → lines_by f sources visits name texts n ≡ Some o → ExpandsLines sources visits name texts n o
-lines_sound f sources visits name texts None o h =
-    end_sound_of sources visits name texts _ o (run_sound sources f outermost (Go (states.started visits) (numbered name 1 texts))) h
-lines_sound f sources visits name texts (Some n) o h = sym (same_Some _ _ h)
+end_sound_of : (sources : Sources) (visits : ℕ) (name text : List ℕ) (r : Option End) (o : Outcome)
+    → Ends sources outermost (Go (states.started visits) (file_lines name text)) r → end_by r ≡ Some o → Expands sources visits name text o
+end_sound_of sources visits name text None o h e = absurd (none-some o e)
+end_sound_of sources visits name text (Some i) o h e = (i, h i refl, sym (same_Some _ _ e))
 
 pub outcome_sound : (f : ℕ) (sources : Sources) (visits : ℕ) (name text : List ℕ) (o : Outcome)
     → outcome_by f sources visits name text ≡ Some o → Expands sources visits name text o
-outcome_sound f sources visits name text o h = lines_sound f sources visits name (lines text) (first_beyond 1 (lines text)) o h
+outcome_sound f sources visits name text o h =
+    end_sound_of sources visits name text _ o (run_sound sources f outermost (Go (states.started visits) (file_lines name text))) h

@@ -1,17 +1,15 @@
 -- A run has one end.
 use Rattle.std.proofs.Common.{◌≡◌, ℕ, List, [], ◌∷◌, true, false, Option, Some, None, sym, ◌∙◌, ap}
 use Rattle.std.specs.Prelude.{Bool, MatchBool, Result, Ok, Err}
-use Rattle.std.specs.Str.Lines.{lines}
 use Rattle.sdt_fault.specs.declared.kinds.LineKind.{LineKind}
 use Rattle.sdt_fault.specs.declared.kinds.LineKind.TheVariants.{Syntax}
 use Rattle.asm_model.specs.declared.lines.Line.{Line}
 use Rattle.asm_model.specs.declared.tokens.Token.{Token}
 use Rattle.asm_model.specs.Grammar.{OneParse}
-use Rattle.asm_model.specs.Lines.{first_beyond}
 use Rattle.asm_model.specs.Parts.{part_of}
 use Rattle.asm_model.specs.Says.{sentence}
 use Rattle.asm_model.specs.Tokens.{OneScan}
-use Rattle.expand_model.specs.Expands.{Run, stops, reads, passes, Outcome, ExpandsLines, ExpansionLaw, outcome_of}
+use Rattle.expand_model.specs.Expands.{Run, stops, reads, passes, Outcome, ExpansionLaw, outcome_of}
 use Rattle.expand_model.specs.Known.{Operand, ReadsExpression, FromTokens}
 use Rattle.expand_model.specs.declared.macros.Macro.{Macro}
 use Rattle.expand_model.specs.States.{State}
@@ -64,10 +62,5 @@ module _ (one_scan : OneScan) (one_parse : OneParse) where
       let same = sym (one_end sources (deeper c d) (Go s ls) i p o.0 o.1) in
       one_end sources d (turn c i) e r b (rw same at o.2)
 
-  one_of_lines : (sources : Sources) (visits : ℕ) (name : List ℕ) (texts : List (List ℕ)) (n : Option ℕ) (a b : Outcome)
-      → ExpandsLines sources visits name texts n a → ExpandsLines sources visits name texts n b → a ≡ b
-  one_of_lines sources visits name texts None a b p q = p.2 ∙ ap outcome_of (one_end _ _ _ _ p.1 _ q.1) ∙ sym q.2
-  one_of_lines sources visits name texts (Some n) a b p q = p ∙ sym q
-
   pub one_outcome : ExpansionLaw
-  one_outcome sources visits name text a b p q = one_of_lines sources visits name (lines text) (first_beyond 1 (lines text)) a b p q
+  one_outcome sources visits name text a b p q = p.2 ∙ ap outcome_of (one_end _ _ _ _ p.1 _ q.1) ∙ sym q.2

@@ -1,13 +1,12 @@
 -- What a source expands to: by cases on its lines and on what they stand in, each construct's lines on their own. ARM SDT
 -- 2.50 Reference Guide, chapter on the assembler. A visit is one line passed: read, skipped by IF or by a false WHILE, or
--- taken into a macro's definition.
-use Rattle.std.specs.Prelude.{◌≡◌, ℕ, List, Option, Some, None}
-use Rattle.std.specs.Str.Lines.{lines}
+-- taken into a macro's definition; what stands behind END is neither visited nor counted.
+use Rattle.std.specs.Prelude.{◌≡◌, ℕ, List}
 use Rattle.sdt_fault.specs.declared.kinds.LineKind.{LineKind}
-use Rattle.sdt_fault.specs.declared.kinds.LineKind.TheVariants.{Nesting, TooMany}
+use Rattle.sdt_fault.specs.declared.kinds.LineKind.TheVariants.{Nesting}
 use Rattle.asm_model.specs.declared.lines.Flat.{Flat}
 use Rattle.asm_model.specs.declared.lines.Line.{Line}
-use Rattle.asm_model.specs.Lines.{numbered, first_beyond}
+use Rattle.asm_model.specs.Lines.{file_lines}
 use Rattle.expand_model.specs.Known.{Operand}
 use Rattle.expand_model.specs.States.{State, started}
 use Rattle.expand_model.specs.Steps.{Sources, Depth, Context, End, Over, Closed, Left, Ended, Cut, Unclosed, Bad, Missing, Next, Stop, Go, Under, deeper, Reads, first_line, turn}
@@ -42,14 +41,10 @@ outcome_of (Missing name) = MissingFile name
 abbrev pub outermost : Depth
 outermost = record { constructs = 0; files = 0 }
 
-abbrev pub ExpandsLines : Sources → ℕ → List ℕ → List (List ℕ) → Option ℕ → Outcome → Type 0
-ExpandsLines sources visits name texts None o =
-    (e : End) × Run sources outermost (Go (started visits) (numbered name 1 texts)) e × (o ≡ outcome_of e)
-ExpandsLines sources visits name texts (Some n) o = o ≡ FaultAt name n TooMany
-
 -- the outcome of a source with this name and text, where so many lines may be visited
 abbrev pub Expands : Sources → ℕ → List ℕ → List ℕ → Outcome → Type 0
-Expands sources visits name text o = ExpandsLines sources visits name (lines text) (first_beyond 1 (lines text)) o
+Expands sources visits name text o =
+    (e : End) × Run sources outermost (Go (started visits) (file_lines name text)) e × (o ≡ outcome_of e)
 
 -- a source has at most one outcome
 abbrev pub ExpansionLaw : Type 0

@@ -1,10 +1,11 @@
 -- How lines that aren't read are paired: those that an IF or a false WHILE skips, and those of a macro's definition. They
 -- count as they stand, by their operations alone. ARM SDT 2.50 Reference Guide, chapter on the assembler. This project's:
 -- in skipped lines IF, WHILE and MACRO are paired, inside a definition MACRO and MEND alone.
-use Rattle.std.specs.Prelude.{ℕ, zero, suc, List, [], ◌∷◌, Option, Some, None}
+use Rattle.std.specs.Prelude.{ℕ, zero, suc, List, [], ◌∷◌, Option, Some, None, if◌then◌else◌}
 use Rattle.sdt_fault.specs.declared.kinds.LineKind.{LineKind}
 use Rattle.sdt_fault.specs.declared.kinds.LineKind.TheVariants.{Nesting, TooMany}
 use Rattle.asm_model.specs.declared.lines.Line.{Line}
+use Rattle.asm_model.specs.Lines.{is_beyond}
 use Rattle.expand_model.specs.declared.operations.Opening.{Opening}
 use Rattle.expand_model.specs.declared.operations.Opening.TheVariants.{Condition, Alternative, Loop, Definition}
 use Rattle.expand_model.specs.declared.operations.Operation.{Operation}
@@ -74,7 +75,8 @@ unfoldable pub skipped : Opening → List Opening → ℕ → List Line → Skip
 skipped o os n [] = Endless
 skipped o os zero (l ∷ ls) = Faulty l TooMany
 skipped o os (suc n) (l ∷ ls) =
-    skipped_line (behind_line o os (raw_operation l)) l n ls (λ p ps. skipped p ps n ls)
+    if is_beyond l then Faulty l TooMany
+    else skipped_line (behind_line o os (raw_operation l)) l n ls (λ p ps. skipped p ps n ls)
 
 -- ---- the lines of a macro's body
 
@@ -98,4 +100,4 @@ taken_line _ l n ls rest = with_line l rest
 unfoldable pub taken : ℕ → List Line → Taken
 taken n [] = Open
 taken zero (l ∷ ls) = Bad l TooMany
-taken (suc n) (l ∷ ls) = taken_line (raw_operation l) l n ls (taken n ls)
+taken (suc n) (l ∷ ls) = if is_beyond l then Bad l TooMany else taken_line (raw_operation l) l n ls (taken n ls)

@@ -1,11 +1,10 @@
 -- The rules of expansion, as two tables without recursion: what the first of some lines says, and what follows lines that
 -- ended, by what they stand in. ARM SDT 2.50 Reference Guide, chapter on the assembler. This project's: the limits; that
 -- words of expansion come before macros and macros before all other operations; and that of the faults of a line the
--- first in the order of the kinds is told, but TooMany before all where the line is one visit too many.
+-- first in the order of the kinds is told, but TooMany before all where the line is one visit too many, or beyond a limit.
 use Rattle.std.specs.Prelude.{◌≡◌, ℕ, ◌+◌, List, [], ◌∷◌, ◌++◌, length, nat_le, nat_lt, ◌==◌, ◌&&◌, ◌||◌, not, Bool, true, false, if◌then◌else◌, codes, Option, Some, None, Result, Ok, Err, MatchBool}
 use Rattle.std.specs.List.{list_all}
 use Rattle.std.specs.Option.{is_some}
-use Rattle.std.specs.Str.Lines.{lines}
 use Rattle.sdt_fault.specs.declared.kinds.LineKind.{LineKind}
 use Rattle.sdt_fault.specs.declared.kinds.LineKind.TheVariants.{Syntax, UnknownWord, DuplicateName, WrongType, Nesting, TooDeep, TooMany}
 use Rattle.asm_model.specs.declared.lines.Flat.{Flat}
@@ -15,7 +14,7 @@ use Rattle.asm_model.specs.declared.values.Value.TheVariants.{Number, Truth, Wor
 use Rattle.asm_model.specs.Forms.{same}
 use Rattle.asm_model.specs.Kinds.{earliest, told_kind, kind_if}
 use Rattle.asm_model.specs.Limits.{line_bytes}
-use Rattle.asm_model.specs.Lines.{numbered, first_beyond}
+use Rattle.asm_model.specs.Lines.{is_beyond, file_lines}
 use Rattle.asm_model.specs.Tokens.{is_called}
 use Rattle.expand_model.specs.Known.{Operand, ReadsExpression, long_kinds, value_of, known_number}
 use Rattle.expand_model.specs.Operations.{operation_of}
@@ -247,7 +246,7 @@ prototype_line o (Some p) l s m rest =
 abbrev pub definition : Line → State → List Line → Next
 definition l s [] = Stop (Unclosed l)
 definition l s (m ∷ rest) =
-    if s.visits == 0 then bad m TooMany
+    if s.visits == 0 || is_beyond m then bad m TooMany
     else prototype_line (raw_operation m) (prototype_of (raw_words_of m.text)) l (visited s) m rest
 
 abbrev pub call : Depth → Line → word.Words → State → List Line → Macro → Next
@@ -268,14 +267,9 @@ file_kinds d w =
     label_kinds w ++ kind_if (not (is_file_name (operand_text w.behind))) Syntax
     ++ kind_if (nat_le file_depth d.files) TooDeep
 
--- a file's lines, or its first line beyond a limit
-abbrev pub opened : List ℕ → List (List ℕ) → State → List Line → Option ℕ → Next
-opened name texts s ls None = Under (File ls) s (numbered name 1 texts)
-opened name texts s ls (Some n) = Stop (Bad name n TooMany)
-
 abbrev pub got : List ℕ → State → List Line → Option (List ℕ) → Next
 got name s ls None = Stop (Missing name)
-got name s ls (Some text) = opened name (lines text) s ls (first_beyond 1 (lines text))
+got name s ls (Some text) = Under (File ls) s (file_lines name text)
 
 -- ---- the first table: what a line says
 
@@ -346,7 +340,7 @@ said_text sources d l x s ls (Err k) = bad l k
 unfoldable pub first_line : Sources → Depth → State → List Line → Operand → Next
 first_line sources d s [] x = Stop (Over s)
 first_line sources d s (l ∷ ls) x =
-    if s.visits == 0 then bad l TooMany else said_text sources d l x (visited s) ls (substituted s l.text)
+    if s.visits == 0 || is_beyond l then bad l TooMany else said_text sources d l x (visited s) ls (substituted s l.text)
 
 -- ---- the second table: what follows lines that ended
 

@@ -8,12 +8,12 @@ use Rattle.sdt_fault.specs.declared.kinds.LineKind.{LineKind}
 use Rattle.sdt_fault.specs.declared.kinds.LineKind.TheVariants.{Syntax}
 use Rattle.asm_model.specs.declared.lines.Flat.{Flat}
 use Rattle.asm_model.specs.declared.lines.Line.{Line}
-use Rattle.asm_model.specs.Limits.{line_bytes}
-use Rattle.asm_model.specs.Lines.{numbered, first_beyond}
+use Rattle.asm_model.specs.Limits.{line_bytes, source_lines}
+use Rattle.asm_model.specs.Lines.{numbered, is_beyond, reached}
 use Rattle.asm_model.specs.Tokens.{is_called}
 use Rattle.expand_model.specs.declared.standing.Standing.{Standing}
 use Rattle.expand_model.specs.declared.standing.Standing.TheVariants.{Open}
-use Rattle.expand_model.specs.Expands.{Run, stops, reads, Expands, ExpandsLines, outcome_of, outermost, Flats}
+use Rattle.expand_model.specs.Expands.{Run, stops, reads, Expands, outcome_of, outermost, Flats}
 use Rattle.expand_model.specs.Known.{Operand}
 use Rattle.expand_model.specs.Operations.{operation_of}
 use Rattle.expand_model.specs.Standing.{Byte, begun_at, standing, standing_from}
@@ -63,39 +63,62 @@ plain_kind text h = rw h (none (as_name (words_of text).operation))
 plain_reads : (s : State) (l : Line) (ls : List Line) (ends : Bool) → s.macros ≡ [] → IsPlain ends l.text → Reads s (l ∷ ls) (Err Syntax)
 plain_reads s l ls ends m p = rw (substituted_same s l.text p.no_dollar, m, plain_kind l.text p.no_word, p.no_equ) refl
 
-plain_says : (sources : Sources) (d : Depth) (s : State) (l : Line) (ls : List Line) (ends : Bool) → s.macros ≡ [] → 0 < s.visits → IsPlain ends l.text
+plain_says : (sources : Sources) (d : Depth) (s : State) (l : Line) (ls : List Line) (ends : Bool) → s.macros ≡ [] → 0 < s.visits → l.number ≤ source_lines
+    → IsPlain ends l.text
     → first_line sources d s (l ∷ ls) (Err Syntax)
     ≡ (let t = with_flat l l.text (words_of l.text) (Err Syntax) (visited s) in cond ends (Stop (Ended t)) (Go t ls))
 unfolding first_line said
-plain_says sources d s l ls ends m v p =
+plain_says sources d s l ls ends m v c p =
     let some : (s.visits == 0) ≡ false = ne_eqb s.visits 0 (λ e. omega arith) in
     let fits : nat_lt line_bytes (length l.text) ≡ false = le-ltb line_bytes (length l.text) p.short in
-    rw (some, substituted_same s l.text p.no_dollar, fits, m, plain_kind l.text p.no_word, p.end) refl
+    let low : nat_lt source_lines l.number ≡ false = le-ltb source_lines l.number c in
+    rw (some, low, fits, substituted_same s l.text p.no_dollar, m, plain_kind l.text p.no_word, p.end) refl
 
 -- ---- lines
+
+none_beyond : (name : List ℕ) (n : ℕ) (ts : List (List ℕ)) → n + length ts ≤ source_lines + 1 → ArePlain ts
+    → reached (numbered name n ts) ≡ numbered name n ts
+none_beyond name n [] few p = absurd p
+none_beyond name n (t ∷ []) few p = fits
+  where
+    l : Line
+    l = record { source = name; number = n; text = t }
+
+    by : (b : Bool) → l ∷ cond b [] [] ≡ l ∷ []
+    by true = refl
+    by false = refl
+
+    fits : l ∷ cond (is_beyond l) [] [] ≡ l ∷ []
+    fits = by (is_beyond l)
+none_beyond name n (t ∷ u ∷ ts) few p =
+    let low : nat_lt source_lines n ≡ false = le-ltb source_lines n (omega arith) in
+    let fits : nat_lt line_bytes (length t) ≡ false = le-ltb line_bytes (length t) p.0.short in
+    let l : Line = record { source = name; number = n; text = t } in
+    rw (low, fits) (ap (λ (ls : List Line). l ∷ ls) (none_beyond name (n + 1) (u ∷ ts) (omega arith) p.1))
 
 record Leaves (sources : Sources) (d : Depth) (s : State) (ls : List Line) : Type 0 where
   at : State
   run : Run sources d (Go s ls) (Ended at)
   flats : at.flats ≡ s.flats ++ flats_of ls
 
-plain_run : (sources : Sources) (d : Depth) (s : State) (name : List ℕ) (n : ℕ) (ts : List (List ℕ)) → s.macros ≡ [] → length ts ≤ s.visits → ArePlain ts
+plain_run : (sources : Sources) (d : Depth) (s : State) (name : List ℕ) (n : ℕ) (ts : List (List ℕ)) → s.macros ≡ [] → length ts ≤ s.visits
+    → n + length ts ≤ source_lines + 1 → ArePlain ts
     → Leaves sources d s (numbered name n ts)
-plain_run sources d s name n [] m v p = absurd p
-plain_run sources d s name n (t ∷ []) m v p =
+plain_run sources d s name n [] m v c p = absurd p
+plain_run sources d s name n (t ∷ []) m v c p =
     let l : Line = record { source = name; number = n; text = t } in
-    let e = plain_says sources d s l [] true m (omega arith) p in
+    let e = plain_says sources d s l [] true m (omega arith) (omega arith) p in
     record {
       at = with_flat l t (words_of t) (Err Syntax) (visited s);
       run = reads d s (l ∷ []) (Err Syntax) _ (plain_reads s l [] true m p) (rw e (stops d _));
       flats = refl;
     }
-plain_run sources d s name n (t ∷ u ∷ ts) m v p =
+plain_run sources d s name n (t ∷ u ∷ ts) m v c p =
     let l : Line = record { source = name; number = n; text = t } in
     let ls : List Line = numbered name (n + 1) (u ∷ ts) in
-    let e = plain_says sources d s l ls false m (omega arith) p.0 in
+    let e = plain_says sources d s l ls false m (omega arith) (omega arith) p.0 in
     let next : State = with_flat l t (words_of t) (Err Syntax) (visited s) in
-    let more = plain_run sources d next name (n + 1) (u ∷ ts) m (omega arith) p.1 in
+    let more = plain_run sources d next name (n + 1) (u ∷ ts) m (omega arith) (omega arith) p.1 in
     record {
       at = more.at;
       run = reads d s (l ∷ ls) (Err Syntax) _ (plain_reads s l ls false m p.0) (rw e more.run);
@@ -103,7 +126,7 @@ plain_run sources d s name n (t ∷ u ∷ ts) m v p =
     }
 
 pub plain_sources_expand : PlainSourcesExpand
-plain_sources_expand sources visits name text none plain few =
-    rw none
-    (let run = plain_run sources outermost (started visits) name 1 (lines text) refl few plain in
+plain_sources_expand sources visits name text short plain few =
+    rw (none_beyond name 1 (lines text) (omega (arith, short)) plain)
+    (let run = plain_run sources outermost (started visits) name 1 (lines text) refl few (omega (arith, short)) plain in
     (Ended run.at, run.run, ap Flats (sym run.flats)))

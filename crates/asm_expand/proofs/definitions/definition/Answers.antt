@@ -25,5 +25,6 @@ returns-in-Ok-read-clause-says c =
     let shown = rw c.past.ensures at h sources (visited s) l (ls, a) v in
     subst (λ (xs : List Line). Shows sources c.defined.new.state n (definition l s xs)) (sym here)
     (subst (λ (x : model.Next). Shows sources c.defined.new.state n x) (sym
-    (definition_is l m s rest c.in-Ok-read.prototype (some_visits _ _ c.if-state-eq0.false r.visits) read)) shown))
+    (definition_is l m s rest c.in-Ok-read.prototype (some_visits _ _ c.if-state-eq0.false r.visits)
+    (sym c.is_beyond.ensures ∙ c.if-is_beyond.false) read)) shown))
     c.defined.ensures.says

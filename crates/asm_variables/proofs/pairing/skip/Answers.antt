@@ -1,5 +1,5 @@
-use Rattle.std.proofs.Common.{arith}
-use Rattle.asm_variables.proofs.PairLemmas.{begun, endless, too_many, turns, closes, unpaired, stays, line_at}
+use Rattle.std.proofs.Common.{arith, sym, ◌∙◌}
+use Rattle.asm_variables.proofs.PairLemmas.{begun, beyond, endless, too_many, turns, closes, unpaired, stays, line_at}
 use Rattle.asm_variables.proofs.pairing.skip.Goals as goal
 
 pub lines-init : goal.lines-init
@@ -13,17 +13,26 @@ returns-then-at-visits c =
       too_many _ _ _ _ _ _ c.lines.invariant l.result c.lines-test.true l.is c.if-at-visits.true,
     )
 
+pub returns-then-is_beyond : goal.returns-then-is_beyond
+returns-then-is_beyond c =
+    let l = c.index-lines-at in
+    let left = c.lines.invariant.left in (
+      l.result,
+      line_at _ _ _ _ _ _ c.lines.invariant l.result c.lines-test.true l.is,
+      beyond _ _ _ _ _ _ c.lines.invariant l.result c.lines-test.true l.is (omega (arith, left, c.if-at-visits.false)) (sym c.is_beyond.ensures ∙ c.if-is_beyond.true),
+    )
+
 pub returns-in-Turns : goal.returns-in-Turns
 returns-in-Turns c =
     let l = c.index-lines-at in
     let left = c.lines.invariant.left in
-    turns _ _ _ _ _ _ c.lines.invariant l.result c.lines-test.true l.is (omega (arith, left, c.if-at-visits.false)) (rw c.in-Turns.is at c.in_ok-pass.ensures)
+    turns _ _ _ _ _ _ c.lines.invariant l.result c.lines-test.true l.is (omega (arith, left, c.if-at-visits.false)) (sym c.is_beyond.ensures ∙ c.if-is_beyond.false) (rw c.in-Turns.is at c.in_ok-pass.ensures)
 
 pub returns-in-Closes : goal.returns-in-Closes
 returns-in-Closes c =
     let l = c.index-lines-at in
     let left = c.lines.invariant.left in
-    closes _ _ _ _ _ _ c.lines.invariant l.result c.lines-test.true l.is (omega (arith, left, c.if-at-visits.false)) (rw c.in-Closes.is at c.in_ok-pass.ensures)
+    closes _ _ _ _ _ _ c.lines.invariant l.result c.lines-test.true l.is (omega (arith, left, c.if-at-visits.false)) (sym c.is_beyond.ensures ∙ c.if-is_beyond.false) (rw c.in-Closes.is at c.in_ok-pass.ensures)
 
 pub returns-in-Unpaired : goal.returns-in-Unpaired
 returns-in-Unpaired c =
@@ -31,7 +40,7 @@ returns-in-Unpaired c =
     let left = c.lines.invariant.left in (
       l.result,
       line_at _ _ _ _ _ _ c.lines.invariant l.result c.lines-test.true l.is,
-      unpaired _ _ _ _ _ _ c.lines.invariant l.result c.lines-test.true l.is (omega (arith, left, c.if-at-visits.false))
+      unpaired _ _ _ _ _ _ c.lines.invariant l.result c.lines-test.true l.is (omega (arith, left, c.if-at-visits.false)) (sym c.is_beyond.ensures ∙ c.if-is_beyond.false)
           (rw c.in-Unpaired.is at c.in_ok-pass.ensures),
     )
 
@@ -39,7 +48,7 @@ pub lines-preserved : goal.lines-preserved
 lines-preserved c =
     let l = c.index-lines-at in
     let left = c.lines.invariant.left in
-    stays _ _ _ _ _ _ c.lines.invariant l.result c.lines-test.true l.is (omega (arith, left, c.if-at-visits.false)) _ _
+    stays _ _ _ _ _ _ c.lines.invariant l.result c.lines-test.true l.is (omega (arith, left, c.if-at-visits.false)) (sym c.is_beyond.ensures ∙ c.if-is_beyond.false) _ _
     (rw c.in-Stays.is at c.in_ok-pass.ensures)
 
 pub returns : goal.returns
