@@ -36,7 +36,7 @@ said_states thumb [] (p ∷ ps) h = absurd h
 said_states thumb (f ∷ fs) [] h = absurd h
 said_states thumb (f ∷ fs) ((g, Ok (Some s)) ∷ ps) h = ((lines_are_fine thumb f s h.1).1, said_states (state_behind s.what thumb) fs ps h.2)
 said_states thumb (f ∷ fs) ((g, Ok None) ∷ ps) h = said_states thumb fs ps h.2
-said_states thumb (f ∷ fs) ((g, Err k) ∷ ps) h = said_states thumb fs ps h.2
+said_states thumb (f ∷ fs) ((g, Err k) ∷ ps) h = (tt, said_states thumb fs ps h.2)
 
 state_kept : (t : Targets) (w : What) (thumb : Bool) → state_behind (named_what t w) thumb ≡ state_behind w thumb
 state_kept t (what.Directive line.Code16) thumb = refl
@@ -79,16 +79,16 @@ all_loads_named [] h = tt
 all_loads_named (s ∷ ss) h = (fine_loads s h.0, all_loads_named ss h.1)
 
 pub readings_are_fit : ReadingsAreFit
-readings_are_fit lines r h =
-    let ss = reversed r.statements.items [] in
-    let fine : AllByRecursion IsFine ss = reversed_keep IsFine r.statements.items [] (named_fine lines h.says h.say r.statements.items h.statements) tt in
+readings_are_fit lines read h =
+    let ss = reversed read [] in
+    let fine : AllByRecursion IsFine ss = reversed_keep IsFine read [] (named_fine lines h.says h.say read h.named) tt in
     record {
       said = all_said ss fine;
       texts = each_gives IsFine HasTexts fine_texts ss fine;
       fit = each_gives IsFine IsFit fine_fit ss fine;
       named = all_named ss fine;
       loads_named = all_loads_named ss fine;
-      states = states_reversed r.statements.items []
-          (subst (λ (l : List Statement). GoByStates false l) (sym h.statements)
+      states = states_reversed read []
+          (subst (λ (l : List Statement). GoByStates false l) (sym h.named)
           (named_states false [] (statements_in h.says) (said_states false lines h.says h.say))) tt;
     }

@@ -1,5 +1,5 @@
 -- What lines say is one thing.
-use Rattle.std.proofs.Common.{◌≡◌, ◌∙◌, List, [], ◌∷◌, length, Bool, true, false, refl, sym, ap, subst}
+use Rattle.std.proofs.Common.{◌≡◌, ◌∙◌, List, [], ◌∷◌, Bool, true, false, refl, sym, ap, subst}
 use Rattle.asm_model.specs.declared.lines.Flat.{Flat}
 use Rattle.asm_model.specs.Grammar.{OneParse}
 use Rattle.asm_model.specs.Parts.{piece}
@@ -13,7 +13,7 @@ use Rattle.asm_locals.specs.Naming.{in_names}
 use Rattle.asm_reading.specs.Laws.{OneLine, OneReading}
 use Rattle.asm_reading.specs.Says.{ReadsBy}
 use Rattle.asm_reading.proofs.SayingLemmas.{OneOperation, one_saying}
-use Rattle.asm_reading.specs.FlatLines.{state_after, Say, statements_in, first_unread, read_first}
+use Rattle.asm_reading.specs.FlatLines.{state_after, Say, statements_in}
 
 one_operation : OneParse → (thumb : Bool) → OneOperation (ReadsBy thumb)
 one_operation law true text t ts a b p q = thumb_law.one_reading law text (unnamed t.kind) (thumb_words.operation_named (piece text t)) ts a b p q
@@ -42,8 +42,4 @@ one_say law thumb (f ∷ fs) (p ∷ ps) (q ∷ qs) h k =
 
 pub one_reading : OneLine → OneReading
 one_reading law lines a b h k =
-    let e : h.says ≡ k.says = one_say law false lines h.says k.says h.say k.say in (
-      h.statements ∙ ap (λ (l : List (Flat × Said)). in_names (statements_in l)) e ∙ sym k.statements,
-      h.unread ∙ ap (λ (l : List (Flat × Said)). first_unread l) e ∙ sym k.unread,
-      h.before ∙ ap (λ (l : List (Flat × Said)). length (statements_in (read_first l))) e ∙ sym k.before,
-    )
+    h.named ∙ ap (λ (l : List (Flat × Said)). in_names (statements_in l)) (one_say law false lines h.says k.says h.say k.say) ∙ sym k.named

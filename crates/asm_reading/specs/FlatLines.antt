@@ -1,7 +1,7 @@
 -- What the flat lines of a source say. A source begins in ARM state, CODE16 and CODE32 change the state of the lines behind
 -- them, and each line is read in its own. END says nothing more here: expansion has ended the file at it. SDT 2.50 Reference
 -- Guide, chapter on the assembler. This project's: a line that can't be read changes no state.
-use Rattle.std.specs.Prelude.{◌≡◌, List, [], ◌∷◌, ◌++◌, Bool, true, false, Some, None, Ok, Err}
+use Rattle.std.specs.Prelude.{◌≡◌, List, [], ◌∷◌, ◌++◌, Bool, false, Some, None, Ok, Err}
 use Rattle.sdt_fault.specs.declared.kinds.LineKind.{LineKind}
 use Rattle.asm_locals.specs.Naming.{in_names}
 use Rattle.asm_model.specs.declared.lines.Flat.{Flat}

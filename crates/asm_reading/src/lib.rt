@@ -8,5 +8,5 @@ pub mod flat_lines;
 pub mod laws;
 pub mod says;
 
-pub use crate::flat_lines::{Reading, Unread, read_lines};
+pub use crate::flat_lines::read_lines;
 pub use crate::says::{parse_arm, parse_thumb};
