@@ -21,10 +21,6 @@ pub coded_is : (x : Code) (r : Result Extent LineKind) → coded (Ok x) ≡ all_
 coded_is x (Ok e) h = let g : Ok (extent_of_code x) ≡ Ok (capped e) = h in (e, refl, cc)
 coded_is x (Err k) h = absurd (let g : Ok (extent_of_code x) ≡ Err k = h in cc)
 
-fault_is : (k : LineKind) (r : Result Extent LineKind) → coded (Err k) ≡ all_capped r → r ≡ Err k
-fault_is k (Ok e) h = absurd (cc)
-fault_is k (Err j) h = cc
-
 standing_any : (area : ℕ) (before : List Piece) (e f : Extent) (o : Option Standing) → IsStanding area (piece None e ∷ before) o
     → IsStanding area (piece None f ∷ before) o
 standing_any area before e f None h = h
