@@ -1,29 +1,25 @@
 -- What a statement takes up in its area.
-use Rattle.std.proofs.Common.{◌≡◌, ◌<◌, ◌≤◌, ℕ, zero, suc, ◌+◌, ◌^◌, ◌&&◌, Bool, true, false, cond, List, [], ◌∷◌, length, Option, Some, None, refl, sym, ap, ◌∙◌, subst, arith, eqb, min, slice_get}
+use Rattle.std.proofs.Common.{◌≡◌, ◌<◌, ◌≤◌, ℕ, ◌+◌, ◌^◌, cond, List, ◌∷◌, length, Option, Some, None, refl, sym, ap, ◌∙◌, subst, arith, min, slice_get}
 use Rattle.std.specs.Prelude.{Result, Ok, Err}
-use Rattle.std.proofs.lemmas.Bool.{lt-ltb, le-ltb, ne_eqb}
+use Rattle.std.proofs.lemmas.Bool.{lt-ltb, le-ltb}
 use Rattle.sdt_fault.specs.declared.kinds.LineKind.{LineKind}
 use Rattle.sdt_fault.specs.declared.kinds.LineKind.TheVariants.{TooMany}
 use Rattle.asm_model.specs.Extents.{Extent, Block}
-use Rattle.asm_model.specs.Laid.{area_bytes, is_too_many, taken}
-use Rattle.asm_model.specs.Offsets.{Piece, waiting, raised, end_behind, end_from, offset_of, size_behind, start_in, pooled, all_pooled}
+use Rattle.asm_model.specs.Laid.{area_bytes}
+use Rattle.asm_model.specs.Offsets.{Piece, offset_of, size_behind, start_in}
 use Rattle.asm_offsets.specs.declared.extents.Extent.{Extent as Code}
 use Rattle.asm_offsets.specs.declared.extents.PlacedExtent.{PlacedExtent as Put}
 use Rattle.asm_offsets.specs.Coded.{extent_of_code}
-use Rattle.asm_offsets.specs.Running.{Standing, piece, pools_behind, StandsBehind, IsStanding, IsAdded, IsBehind, IsPlaced, IsThere, entry_behind, filling}
+use Rattle.asm_offsets.specs.Running.{Standing, piece, IsStanding, IsBehind, IsPlaced}
 use Rattle.asm_laying.specs.declared.taking.Taken.{Taken}
 use Rattle.asm_laying.specs.Reading.{most_bytes, capped, all_capped, coded}
-use Rattle.asm_laying.specs.Taking.{fitted, IsTakenUp, Loses, TakesOne}
+use Rattle.asm_laying.specs.Taking.{fitted, IsTakenUp, TakesOne}
 
 -- ---- what code says
 
 pub coded_is : (x : Code) (r : Result Extent LineKind) → coded (Ok x) ≡ all_capped r → (e : Extent) × (r ≡ Ok e) × (extent_of_code x ≡ capped e)
 coded_is x (Ok e) h = let g : Ok (extent_of_code x) ≡ Ok (capped e) = h in (e, refl, cc)
 coded_is x (Err k) h = absurd (let g : Ok (extent_of_code x) ≡ Err k = h in cc)
-
-fault_is : (k : LineKind) (r : Result Extent LineKind) → coded (Err k) ≡ all_capped r → r ≡ Err k
-fault_is k (Ok e) h = absurd (cc)
-fault_is k (Err j) h = cc
 
 standing_any : (area : ℕ) (before : List Piece) (e f : Extent) (o : Option Standing) → IsStanding area (piece None e ∷ before) o
     → IsStanding area (piece None f ∷ before) o
