@@ -5,12 +5,10 @@ use Rattle.std.specs.Fmt.{decimal}
 use Rattle.std.specs.List.{list_any}
 use Rattle.std.proofs.lemmas.Bool.{le-ltb, lt-ltb, false_from_ne_true}
 use Rattle.std.proofs.lemmas.Fmt.{decimal_injective}
-use Rattle.asm_model.specs.declared.directives.AreaAttributes.{AreaAttributes}
 use Rattle.asm_model.specs.declared.directives.Contents.{Contents}
 use Rattle.asm_model.specs.declared.directives.Contents.TheVariants as contents
 use Rattle.asm_model.specs.declared.directives.DirectiveLine.TheVariants as line
 use Rattle.asm_model.specs.declared.names.LaidName.{LaidName}
-use Rattle.asm_model.specs.declared.names.Names.{Names}
 use Rattle.asm_model.specs.declared.statements.Statement.{Statement}
 use Rattle.asm_model.specs.declared.statements.What.TheVariants as what
 use Rattle.sdt_fault.specs.declared.kinds.LineKind.{LineKind}
@@ -28,7 +26,7 @@ use Rattle.asm_model.proofs.OffsetLemmas.{end_rises}
 use Rattle.asm_model.proofs.WordLemmas.{same_true}
 use Rattle.source_model.specs.Registers.{register_names}
 use Rattle.big_model.specs.Sources.{label_of}
-use Rattle.big_model.specs.Statements.{stated, attributes, area_what, clear, give, leave, step_statements, data_statements, begun, code_part, data_part, big_statements}
+use Rattle.big_model.specs.Statements.{stated, area_what, clear, give, leave, step_statements, data_statements, begun, code_part, data_part, big_statements}
 use Rattle.big_faults.specs.Big.{BigHasNoFault}
 use Rattle.word_source.specs.Words.{AllWords, AllFresh, AllSound, more, Stand, AreLaid}
 use Rattle.word_source.proofs.WordLemmas.{same_statements, words_have_no_fault}
@@ -127,7 +125,7 @@ entered d source own registers names_settled all self arm = record {
     ends = λ b. rw self (by_test (0 == b));
     unlike = λ name h. rw (or_parts (same name own) false h).0 refl;
   };
-  faultless = (refl, rw (self, arm) refl, refl, (refl, rw self refl, refl, tt));
+  faultless = (refl, rw (self, arm) refl, refl, (refl, refl, refl, tt));
 }
   where
     by_test : (t : Bool) → cond t (raised (cond t (raised 0 1 + 0) 0) 4 + 0) (cond t (raised 0 1 + 0) 0) ≡ 0
