@@ -1,11 +1,11 @@
 //! Replies.
 
 ghost use Rattle.std.specs.Prelude.{◌≡◌, ◌+◌, ◌%◌, ◌++◌, ◌<◌, IfOk, OnOk, false, sum};
-ghost use Rattle.std.specs.Fmt.{digit_glyph};
 ghost use Rattle.gdb_packets.specs.Framing as framing;
 ghost use Rattle.gdb_packets.specs.Replies as replies;
 
 use crate::request::Query;
+use crate::shown::digit;
 use sdt_fault::NoMemory;
 use std::alloc::Global;
 
@@ -18,17 +18,6 @@ fn sum_of(bytes: &[u8]) -> u8
         total = total.wrapping_add(*byte);
     }
     total
-}
-
-/// The digit of a number below 16.
-fn digit(value: u8) -> u8
-    requires { value < 16 }
-    ensures { result ≡ digit_glyph false value }
-{
-    if value < 10 {
-        return b'0' + value;
-    }
-    b'a' + (value - 10)
 }
 
 /// A packet with this content.
