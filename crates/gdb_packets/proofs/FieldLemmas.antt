@@ -21,7 +21,7 @@ apart mark x d m = by (x == mark) refl
     by : (b : Bool) → (x == mark) ≡ b → not b ≡ true
     by false e = refl
     by true e = let same : x ≡ mark = eqb-true x mark e in
-            absurd (let d' : is_digit mark ≡ true = subst (λ k. is_digit k ≡ true) same d in cc)
+        absurd (let d' : is_digit mark ≡ true = subst (λ k. is_digit k ≡ true) same d in cc)
 
 -- digits are no mark
 pub digits_differ : (mark : ℕ) (front : List ℕ) → list_all is_digit front ≡ true → is_digit mark ≡ false
@@ -51,12 +51,12 @@ pub cut_whole : (mark : ℕ) (front rest : List ℕ) → list_all (differs mark)
 cut_whole mark front rest d =
     let at : position_or_len (λ b. b == mark) (front ++ mark ∷ rest) ≡ length front = place_whole mark front rest d in
     let within : nat_lt (length front) (length (front ++ mark ∷ rest)) ≡ true =
-            lt-ltb (length front) (length (front ++ mark ∷ rest)) (simp length-append (omega arith)) in
+    lt-ltb (length front) (length (front ++ mark ∷ rest)) (simp length-append (omega arith)) in
     let found : position (λ b. b == mark) (front ++ mark ∷ rest) ≡ Some (length front) =
     subst (λ (n : ℕ). cond (nat_lt n (length (front ++ mark ∷ rest))) (Some n) None ≡ Some (length front)) (sym at)
-            (ap (λ (b : Bool). cond b (Some (length front)) None) within) in
+    (ap (λ (b : Bool). cond b (Some (length front)) None) within) in
     ap (cut_at (front ++ mark ∷ rest)) found ∙ ap₂ (λ (p q : List ℕ). Some (p, q)) (take-append_seam front (mark ∷ rest))
-            (behind_front mark front rest)
+    (behind_front mark front rest)
 
 one_more : (i : ℕ) → suc i ≡ i + 1
 one_more i = omega arith
@@ -76,13 +76,13 @@ cut_back mark text front rest e = by (position (λ b. b == mark) text) refl e
         let tail : drop i text ≡ get_or text i 0 ∷ drop (suc i) text = drop-cons text i 0 s.0 in
         let next : drop (suc i) text ≡ drop (i + 1) text = ap (λ (j : ℕ). drop j text) (one_more i) in
         sym (take-append-drop i text)
-                ∙ ap₂ (λ (p q : List ℕ). p ++ q) front' (tail ∙ ap₂ (λ (x : ℕ) (q : List ℕ). x ∷ q) here (next ∙ rest'))
+        ∙ ap₂ (λ (p q : List ℕ). p ++ q) front' (tail ∙ ap₂ (λ (x : ℕ) (q : List ℕ). x ∷ q) here (next ∙ rest'))
 
 pub digits_of : (t : List ℕ) (k : ℕ) → number t ≡ Some k → list_all is_digit t ≡ true
 digits_of t k e = by (nat_lt 0 (length t)) (list_all is_digit t) e
   where
     by : (b c : Bool) → cond (b && c) (cond (nat_le (digits_value 16 t) 0xFFFFFFFF) (Some (digits_value 16 t)) None) None ≡ Some k
-            → c ≡ true
+        → c ≡ true
     by true true f = refl
     by true false f = absurd (cc)
     by false c f = absurd (cc)
@@ -90,7 +90,7 @@ digits_of t k e = by (nat_lt 0 (length t)) (list_all is_digit t) e
 pub pair_whole : (text : List ℕ) (a n : ℕ) → IsPair text a n → pair 44 text ≡ Some (a, n)
 pair_whole text a n p =
     ap (pair 44) p.whole ∙ ap pair_of (cut_whole 44 p.s p.t (digits_differ 44 p.s (digits_of p.s a p.first) refl))
-            ∙ ap₂ both p.first p.second
+    ∙ ap₂ both p.first p.second
 
 pub pair_back : (text : List ℕ) (a n : ℕ) → pair 44 text ≡ Some (a, n) → IsPair text a n
 pair_back text a n e = by (cut 44 text) refl e

@@ -60,13 +60,13 @@ reads (forms.set_registers e) = ap (of_data SetRegisters) e
 reads (forms.register e) = ap (of_one Register) e
 reads (forms.set_register t v {k} {w} e f) =
     ap (λ c. of_two SetRegister (register_write_of c)) (cut_whole 61 t v (digits_differ 61 t (digits_of t k e) refl))
-            ∙ ap₂ (λ a b. of_two SetRegister (written a b)) e f
+    ∙ ap₂ (λ a b. of_two SetRegister (written a b)) e f
 reads (forms.memory {t} {a} {n} p) = ap (of_two Memory) (pair_whole t a n p)
 reads (forms.store t hex {bytes} {a} p g) =
     ap hexadecimal_by (place_whole t hex a (length bytes) p) ∙ ap (requests.store a (length bytes)) g ∙ same_length bytes a
 reads (forms.store_binary t binary {bytes} {a} p g) =
     ap binary_by (place_whole t binary a (length bytes) p) ∙ ap (λ (x : List ℕ). requests.store a (length bytes) (Some x)) g
-            ∙ same_length bytes a
+    ∙ same_length bytes a
 reads forms.continue_alone = refl
 reads forms.continue_first = refl
 reads forms.continue_signal = refl
@@ -193,7 +193,7 @@ named_told : (text : List ℕ) → ToldIf text (named text)
 named_told text =
     name_told text (codes "vCont;") requests.action _ action_told (
     name_told text (codes "qXfer:features:read:target.xml:") requests.target _
-        (λ rest. pair_told (codes "qXfer:features:read:target.xml:") rest Target (λ a n p. forms.target p)) (
+    (λ rest. pair_told (codes "qXfer:features:read:target.xml:") rest Target (λ a n p. forms.target p)) (
     name_told text (codes "qRcmd,") requests.command _ (λ rest. data_told (codes "qRcmd,") rest Command (λ bytes e. forms.command e)) (
     name_told text (codes "qSupported") (λ rest. Known Supported) _ (λ rest h. forms.supported) (
     name_told text (codes "vKill;") (λ rest. Leave) _ (λ rest h. forms.kill_process) (
@@ -237,7 +237,7 @@ place_back : (text : List ℕ) (a n : ℕ) (rest : List ℕ) → place text ≡ 
 place_back text a n rest e = by (cut 58 text) refl e
   where
     found : (t r : List ℕ) → text ≡ t ++ 58 ∷ r → (o : Option (ℕ × ℕ)) → pair 44 t ≡ o → with_rest o r ≡ Some (a, n, rest)
-            → IsPlace text a n rest
+        → IsPlace text a n rest
     found t r w None f g = absurd (cc)
     found t r w (Some p) f g =
         let all : (p.0, p.1, r) ≡ (a, n, rest) = cc in
@@ -267,7 +267,7 @@ hexadecimal_told rest = by (place rest) refl
     by (Some p) e =
         let q = place_back rest p.0 p.1 p.2 e in
         store_told (codes "M" ++ rest) p.0 p.1 (bytes_in p.2) (λ bytes f g.
-            subst (λ (x : List ℕ). Says (codes "M" ++ x) (Store p.0 bytes)) (sym q.whole)
+        subst (λ (x : List ℕ). Says (codes "M" ++ x) (Store p.0 bytes)) (sym q.whole)
         (forms.store q.t p.2 (subst (λ (n : ℕ). IsPair q.t p.0 n) g q.numbers) f))
 
 binary_told : (rest : List ℕ) → Told (codes "X" ++ rest) (requests.binary_store rest)
@@ -278,7 +278,7 @@ binary_told rest = by (place rest) refl
     by (Some p) e =
         let q = place_back rest p.0 p.1 p.2 e in
         store_told (codes "X" ++ rest) p.0 p.1 (Some (unescaped false p.2)) (λ bytes f g.
-            subst (λ (x : List ℕ). Says (codes "X" ++ x) (Store p.0 bytes)) (sym q.whole)
+        subst (λ (x : List ℕ). Says (codes "X" ++ x) (Store p.0 bytes)) (sym q.whole)
         (forms.store_binary q.t p.2 (subst (λ (n : ℕ). IsPair q.t p.0 n) g q.numbers) (cc)))
 
 abbrev letter_of : Bool → ℕ
@@ -332,25 +332,25 @@ point_told set kind t a n p = by (bytes_eq kind (codes "0")) (bytes_eq kind (cod
         (cond d (cond set (of_range SetWatch (range a n)) (of_range DropWatch (range a n))) Unknown))
     by true c d e f g =
         λ h. subst (λ (k : List ℕ). Says (letter_of set ∷ (k ++ 44 ∷ t)) (cond set (SetPoint a) (DropPoint a)))
-            (same (codes "0") e) (soft_told set t a n p)
+        (same (codes "0") e) (soft_told set t a n p)
     by false true d e f g =
         λ h. subst (λ (k : List ℕ). Says (letter_of set ∷ (k ++ 44 ∷ t)) (cond set (SetPoint a) (DropPoint a)))
-            (same (codes "1") f) (hard_told set t a n p)
+        (same (codes "1") f) (hard_told set t a n p)
     by false false true e f g =
         subst (λ (k : List ℕ). Told (letter_of set ∷ (k ++ 44 ∷ t))
-                (cond set (of_range SetWatch (range a n)) (of_range DropWatch (range a n))))
-            (same (codes "2") g) (watch_told set t a n p)
+        (cond set (of_range SetWatch (range a n)) (of_range DropWatch (range a n))))
+        (same (codes "2") g) (watch_told set t a n p)
     by false false false e f g = λ h. absurd h
 
 points_told : (set : Bool) (rest : List ℕ) → Told (letter_of set ∷ rest) (requests.points set rest)
 points_told set rest = by (cut 44 rest) refl
   where
     found : (kind t : List ℕ) → rest ≡ kind ++ 44 ∷ t → (o : Option (ℕ × ℕ)) → pair 44 t ≡ o
-            → Told (letter_of set ∷ rest) (points_by set kind o)
+        → Told (letter_of set ∷ rest) (points_by set kind o)
     found kind t w None f = λ h. absurd h
     found kind t w (Some p) f =
         subst (λ (x : List ℕ). Told (letter_of set ∷ x) (point set kind p.0 p.1)) (sym w)
-            (point_told set kind t p.0 p.1 (pair_back t p.0 p.1 f))
+        (point_told set kind t p.0 p.1 (pair_back t p.0 p.1 f))
 
     by : (o : Option (List ℕ × List ℕ)) → cut 44 rest ≡ o → Told (letter_of set ∷ rest) (points_of set o)
     by None e = λ h. absurd h
@@ -364,7 +364,7 @@ answer_told rest = by (ends_with nat_eq rest (codes ",C")) refl
         λ h. forms.answered (λ front w. true≢false (sym (ap (λ (x : List ℕ). ends_with nat_eq x (codes ",C")) w ∙ ends_true front) ∙ e))
     by true e =
         λ h. subst (λ (x : List ℕ). Says (codes "F" ++ x) (Answer true)) (sym ((ends_is Decides-eqb rest (codes ",C") true (sym e)).0 refl))
-            (forms.interrupted (take (length rest - 2) rest))
+        (forms.interrupted (take (length rest - 2) rest))
 
 letters_told : (text : List ℕ) → Told text (by_letter text)
 letters_told [] = λ h. absurd h

@@ -96,7 +96,7 @@ all_long h (b ∷ rest) over fits = by (all_long (kept h b) rest) (nat_lt (lengt
     by more true f =
         let room : length h.content < 65536 = ltb-true (length h.content) 65536 f in
         let longer : length (kept h b).content ≡ length h.content + 1 = ap (length {A = ℕ}) (kept_fits h b room).0
-                ∙ length-append h.content (b ∷ []) in
+        ∙ length-append h.content (b ∷ []) in
         more (omega arith) (omega arith)
     by more false f = long_stays (kept h b) rest (kept_long h b (inr (ltb-false (length h.content) 65536 f)))
 
@@ -115,8 +115,8 @@ inside_step : (checked : Bool) (h : Hearing) (b : ℕ) (rest : List ℕ) → h.p
 inside_step checked h b rest p e =
     let apart = plain_parts b e in
     ap (λ (q : Place). add (told_at q checked h b) h.content (heard_from checked (after_at q h b) rest)) p
-        ∙ ap (λ (c : Bool). heard_from checked (cond c begun (cond (b == 35) (record h { place = First }) (kept h b))) rest) apart.0
-        ∙ ap (λ (c : Bool). heard_from checked (cond c (record h { place = First }) (kept h b)) rest) apart.1
+    ∙ ap (λ (c : Bool). heard_from checked (cond c begun (cond (b == 35) (record h { place = First }) (kept h b))) rest) apart.0
+    ∙ ap (λ (c : Bool). heard_from checked (cond c (record h { place = First }) (kept h b)) rest) apart.1
 
 content_parts : (b : ℕ) (content : List ℕ) → IsContent (b ∷ content) → (is_plain b ≡ true) × IsContent content
 content_parts b content e = by (is_plain b) (list_all is_plain content) e
@@ -147,7 +147,7 @@ between_any : (checked : Bool) (h : Hearing) (rest : List ℕ) → h.place ≡ B
 between_any checked h [] p = refl
 between_any checked h (b ∷ rest) p =
     ap (λ (q : Place). add (told_at q checked h b) h.content (heard_from checked (after_at q h b) rest)) p
-        ∙ between_add b h.content [] _ ∙ ap (add (between b) []) (by (between_any checked h rest p) (b == 36))
+    ∙ between_add b h.content [] _ ∙ ap (add (between b) []) (by (between_any checked h rest p) (b == 36))
   where
     by : heard_from checked h rest ≡ heard_from checked idle rest
         → (c : Bool) → heard_from checked (cond c begun h) rest ≡ heard_from checked (cond c begun idle) rest
@@ -168,18 +168,18 @@ behind_packet : (checked : Bool) (h : Hearing) (high low : ℕ) (rest : List ℕ
     ≡ add (ended (not checked || writes high low h.sum) h.long) h.content (heard_from checked idle rest)
 behind_packet checked h high low rest p =
     hash_step checked h (high ∷ low ∷ rest) p
-        ∙ ap (add (ended (not checked || writes high low h.sum) h.long) h.content) (between_any checked (at Between h) rest refl)
+    ∙ ap (add (ended (not checked || writes high low h.sum) h.long) h.content) (between_any checked (at Between h) rest refl)
 
 whole_packet : (checked : Bool) (content rest : List ℕ) (high low : ℕ) → IsContent content
     → heard_from checked idle (36 ∷ (content ++ 35 ∷ high ∷ low ∷ rest))
     ≡ add (ended (is_right checked content high low) (kept_all begun content).long) (kept_all begun content).content
-            (heard_from checked idle rest)
+    (heard_from checked idle rest)
 whole_packet checked content rest high low c =
     let k : Hearing = kept_all begun content in
     let total : k.sum ≡ sum content % 256 = (let s = all_sum begun content (omega arith) in omega arith) in
     inside_all checked begun content (35 ∷ high ∷ low ∷ rest) refl c
-        ∙ behind_packet checked k high low rest (all_place begun content)
-        ∙ ap (λ (x : ℕ). add (ended (not checked || writes high low x) k.long) k.content (heard_from checked idle rest)) total
+    ∙ behind_packet checked k high low rest (all_place begun content)
+    ∙ ap (λ (x : ℕ). add (ended (not checked || writes high low x) k.long) k.content (heard_from checked idle rest)) total
 
 noise_heard : (checked : Bool) (b : ℕ) (rest : List ℕ) → b ≢ 36 → b ≢ 43 → b ≢ 45 → b ≢ 3
     → heard_from checked idle (b ∷ rest) ≡ heard_from checked idle rest
@@ -188,7 +188,7 @@ noise_heard checked b rest p q r s =
   where
     by : (x y z w : Bool) → x ≡ false → y ≡ false → z ≡ false → w ≡ false
         → add (cond y heard.Accepted (cond z heard.Again (cond w heard.Interrupt heard.Nothing))) []
-            (heard_from checked (cond x begun idle) rest)
+        (heard_from checked (cond x begun idle) rest)
         ≡ heard_from checked idle rest
     by true y z w e f g h = absurd (cc)
     by false true z w e f g h = absurd (cc)
@@ -208,31 +208,31 @@ hears {checked} (stream.packet content rest high low c fits right s) =
     let k : Hearing = kept_all begun content in
     let all = all_fits begun content (omega arith) in
     whole_packet checked content rest high low c
-        ∙ ap (λ (x : Bool). add (ended x k.long) k.content (heard_from checked idle rest)) right
-        ∙ ap (λ (x : Bool). add (ended true x) k.content (heard_from checked idle rest)) all.1
-        ∙ ap₂ (λ (x : List ℕ) (e : List Event). Packet x ∷ e) all.0 (hears s)
+    ∙ ap (λ (x : Bool). add (ended x k.long) k.content (heard_from checked idle rest)) right
+    ∙ ap (λ (x : Bool). add (ended true x) k.content (heard_from checked idle rest)) all.1
+    ∙ ap₂ (λ (x : List ℕ) (e : List Event). Packet x ∷ e) all.0 (hears s)
 hears {checked} (stream.too_long content rest high low c over right s) =
     let k : Hearing = kept_all begun content in
     whole_packet checked content rest high low c
-        ∙ ap (λ (x : Bool). add (ended x k.long) k.content (heard_from checked idle rest)) right
-        ∙ ap (λ (x : Bool). add (ended true x) k.content (heard_from checked idle rest))
-            (all_long begun content (omega arith) (omega arith))
-        ∙ ap (λ (e : List Event). TooLong ∷ e) (hears s)
+    ∙ ap (λ (x : Bool). add (ended x k.long) k.content (heard_from checked idle rest)) right
+    ∙ ap (λ (x : Bool). add (ended true x) k.content (heard_from checked idle rest))
+    (all_long begun content (omega arith) (omega arith))
+    ∙ ap (λ (e : List Event). TooLong ∷ e) (hears s)
 hears {checked} (stream.broken content rest high low c wrong s) =
     let k : Hearing = kept_all begun content in
     whole_packet checked content rest high low c
-        ∙ ap (λ (x : Bool). add (ended x k.long) k.content (heard_from checked idle rest)) wrong
-        ∙ ap (λ (e : List Event). Broken ∷ e) (hears s)
+    ∙ ap (λ (x : Bool). add (ended x k.long) k.content (heard_from checked idle rest)) wrong
+    ∙ ap (λ (e : List Event). Broken ∷ e) (hears s)
 hears {checked} (stream.cut_off content rest c s) =
     inside_all checked begun content (36 ∷ rest) refl c ∙ start_step checked (kept_all begun content) rest (all_place begun content)
-            ∙ hears s
+    ∙ hears s
 hears {checked} (stream.open_content content c) =
     ap (heard_from checked begun) (sym (append-nil content)) ∙ inside_all checked begun content [] refl c
 hears {checked} (stream.open_sum content c) =
     inside_all checked begun content (35 ∷ []) refl c ∙ hash_step checked (kept_all begun content) [] (all_place begun content)
 hears {checked} (stream.open_digit content high c) =
     inside_all checked begun content (35 ∷ high ∷ []) refl c
-            ∙ hash_step checked (kept_all begun content) (high ∷ []) (all_place begun content)
+    ∙ hash_step checked (kept_all begun content) (high ∷ []) (all_place begun content)
 
 -- ---- each stream says what is heard of it
 
@@ -305,7 +305,7 @@ says checked [] (Digit front high) = λ c. said (stream.open_digit front high c)
 says checked (b ∷ rest) Out = out_said checked b rest (says checked rest Out) (says checked rest (In []) refl)
 says checked (b ∷ rest) (In front) =
     λ c. in_said checked b front rest c (says checked rest (In []) refl) (says checked rest (Hash front) c)
-        (says checked rest (In (front ++ b ∷ [])))
+    (says checked rest (In (front ++ b ∷ [])))
 says checked (b ∷ rest) (Hash front) = λ c. says checked rest (Digit front b) c
 says checked (b ∷ rest) (Digit front high) = λ c. packet_said checked front rest high b c (says checked rest Out)
 
@@ -321,7 +321,7 @@ glyphs_write : (high low s : ℕ) → high < 16 → low < 16 → 16 * high + low
     → writes (digit_glyph false high) (digit_glyph false low) s ≡ true
 glyphs_write high low s h l e =
     ap₂ (λ (x y : ℕ). nat_lt x 16 && nat_lt y 16 && (16 * x + y == s)) (glyph_value high h) (glyph_value low l)
-        ∙ ap₂ (λ (x y : Bool). x && y) (ap₂ (λ (x y : Bool). x && y) (lt-ltb high 16 h) (lt-ltb low 16 l)) (eq-eqb (16 * high + low) s e)
+    ∙ ap₂ (λ (x y : Bool). x && y) (ap₂ (λ (x y : Bool). x && y) (lt-ltb high 16 h) (lt-ltb low 16 l)) (eq-eqb (16 * high + low) s e)
 
 sum_writes : (n : ℕ) → writes (digit_glyph false (n % 256 / 16)) (digit_glyph false (n % 16)) (n % 256) ≡ true
 sum_writes n = glyphs_write (n % 256 / 16) (n % 16) (n % 256) (omega arith) (omega arith) (omega arith)
@@ -331,9 +331,9 @@ hears_framed checked content rest c fits =
     let high : ℕ = digit_glyph false (sum content % 256 / 16) in
     let low : ℕ = digit_glyph false (sum content % 16) in
     let right : is_right checked content high low ≡ true = ap (λ (x : Bool). not checked || x) (sum_writes (sum content))
-            ∙ either checked in
+    ∙ either checked in
     ap (λ (x : List ℕ). heard_from checked idle (36 ∷ x)) (append_assoc content (35 ∷ sum_digits content) rest)
-        ∙ hears (stream.packet content rest high low c fits right (says checked rest Out))
+    ∙ hears (stream.packet content rest high low c fits right (says checked rest Out))
   where
     either : (b : Bool) → (not b || true) ≡ true
     either true = refl

@@ -27,14 +27,12 @@ is_right checked content high low = not checked || writes high low (sum content 
 
 pub data Stream (checked : Bool) : List ℕ → List Event → Type 0 where
   ends : Stream checked [] []
-
   -- ---- between packets
   accepted : {rest : List ℕ} {events : List Event} → Stream checked rest events → Stream checked (43 ∷ rest) (Accepted ∷ events)
   again : {rest : List ℕ} {events : List Event} → Stream checked rest events → Stream checked (45 ∷ rest) (Again ∷ events)
   interrupt : {rest : List ℕ} {events : List Event} → Stream checked rest events → Stream checked (3 ∷ rest) (Interrupt ∷ events)
   noise : {rest : List ℕ} {events : List Event} (b : ℕ) → b ≢ 36 → b ≢ 43 → b ≢ 45 → b ≢ 3
       → Stream checked rest events → Stream checked (b ∷ rest) events
-
   -- ---- packets
   packet : {events : List Event} (content rest : List ℕ) (high low : ℕ) → IsContent content → length content ≤ 65536
       → is_right checked content high low ≡ true
@@ -45,7 +43,6 @@ pub data Stream (checked : Bool) : List ℕ → List Event → Type 0 where
   broken : {events : List Event} (content rest : List ℕ) (high low : ℕ) → IsContent content
       → is_right checked content high low ≡ false
       → Stream checked rest events → Stream checked (36 ∷ (content ++ 35 ∷ high ∷ low ∷ rest)) (Broken ∷ events)
-
   -- ---- a packet that another cuts off, and one that the stream cuts off
   cut_off : {events : List Event} (content rest : List ℕ) → IsContent content
       → Stream checked (36 ∷ rest) events → Stream checked (36 ∷ (content ++ 36 ∷ rest)) events
