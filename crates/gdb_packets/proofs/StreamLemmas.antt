@@ -1,17 +1,15 @@
 -- Streams are heard as what they say.
-use Rattle.std.proofs.Common.{◌≡◌, ◌≢◌, ℕ, zero, suc, ◌+◌, ◌/◌, ◌%◌, ◌*◌, ◌<◌, ◌≤◌, ◌==◌, ◌||◌, ◌&&◌, nat_lt, not, Bool, true, false, cond, List, [], ◌∷◌, ◌++◌, length, refl, ap, ap₂, sym, ◌∙◌, subst, arith, append_assoc, append-nil, length-append, sum, ne_eqb, eq-eqb, lt-ltb, ltb-false, ltb-true, inl, inr, ⊎_elim, ◌⊎◌, true≢false}
+use Rattle.std.proofs.Common.{◌≡◌, ◌≢◌, ℕ, ◌+◌, ◌/◌, ◌%◌, ◌*◌, ◌<◌, ◌≤◌, ◌==◌, ◌||◌, ◌&&◌, nat_lt, not, Bool, true, false, cond, List, [], ◌∷◌, ◌++◌, length, refl, ap, ap₂, sym, ◌∙◌, subst, arith, append_assoc, append-nil, length-append, sum, ne_eqb, eq-eqb, lt-ltb, ltb-false, ltb-true, inl, inr, ⊎_elim, ◌⊎◌, true≢false}
 use Rattle.std.specs.List.{list_all}
 use Rattle.std.specs.Char.{digit_value}
 use Rattle.std.specs.Fmt.{digit_glyph}
 use Rattle.std.proofs.lemmas.Bool.{eqb-true}
-use Rattle.std.proofs.lemmas.Grind.{common_steps}
 use Rattle.std.proofs.lemmas.List.Folds.{list_all-append}
 use Rattle.std.proofs.lemmas.List.Sums.{sum_by-cons}
-use Rattle.gdb_packets.specs.declared.framing.Heard.{Heard}
 use Rattle.gdb_packets.specs.declared.framing.Heard.TheVariants as heard
 use Rattle.gdb_packets.specs.declared.framing.Place.{Place}
-use Rattle.gdb_packets.specs.declared.framing.Place.TheVariants.{Between, Inside, First, Second}
-use Rattle.gdb_packets.specs.Framing.{Hearing, after, after_at, told, told_at, between, ended, idle, begun, kept, framed, writes, sum_digits}
+use Rattle.gdb_packets.specs.declared.framing.Place.TheVariants.{Between, Inside, First}
+use Rattle.gdb_packets.specs.Framing.{Hearing, after_at, told_at, between, ended, idle, begun, kept, writes, sum_digits}
 use Rattle.gdb_packets.specs.Heard as stream
 use Rattle.gdb_packets.specs.Heard.{Event, Packet, Broken, TooLong, Accepted, Again, Interrupt, Stream, is_plain, IsContent, is_right, add, heard_from, HearsStream, HearsFramed}
 

@@ -1,6 +1,6 @@
 -- Binary data as packets spell it. gdb's manual, "Remote Serial Protocol", Overview: behind `}` stands a byte with its bit 5
 -- changed, which it must for `#`, `$`, `}` and, in what a server says, `*`.
-use Rattle.std.specs.Prelude.{◌≡◌, ◌≢◌, ℕ, ◌||◌, ◌==◌, Bool, true, false, bit_xor, if◌then◌else◌, List, [], ◌∷◌}
+use Rattle.std.specs.Prelude.{◌≡◌, ◌≢◌, ℕ, ◌||◌, ◌==◌, Bool, false, bit_xor, if◌then◌else◌, List, [], ◌∷◌}
 use Rattle.gdb_packets.specs.Fields.{unescaped}
 use Rattle.gdb_packets.specs.Heard.{IsContent}
 
