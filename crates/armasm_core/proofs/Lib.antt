@@ -1,6 +1,7 @@
 mod AssembleLemmas
 mod BeginLemmas
 mod FaultLemmas
+mod JudgeLemmas
 mod LawLemmas
 mod ListLemmas
 mod PoolLemmas

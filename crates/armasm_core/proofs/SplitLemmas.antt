@@ -55,7 +55,7 @@ first_before names fixed all (l ∷ rest) before e =
     let h = first_before names fixed all rest (l ∷ before) e in
     (or_none (first_laid names fixed all before) (told_at l.statement (told_kind (layout_kinds fixed all l before ++ register_kinds names l before))) h).0
 
-pub registers_there : (statements : List Statement) (rest : List LaidLine) (l : LaidLine) (before : List LaidLine) → layout_faults statements ≡ None
+pub registers_there : (statements : List Statement) (rest : List LaidLine) (l : LaidLine) (before : List LaidLine) → layout_faults statements ≡ []
     → laid statements ≡ reversed rest (l ∷ before) → register_kinds (register_names statements) l before ≡ []
 registers_there statements rest l before e parts =
     let names = register_names statements in
@@ -67,6 +67,6 @@ registers_there statements rest l before e parts =
     (first_before names fixed statements rest (l ∷ before) whole) in
     (both_empty (layout_kinds fixed statements l before) (register_kinds names l before) (told_none l.statement kinds here.1)).1
 
-pub layout_there : (statements : List Statement) (rest : List LaidLine) (l : LaidLine) (before : List LaidLine) → layout_faults statements ≡ None
+pub layout_there : (statements : List Statement) (rest : List LaidLine) (l : LaidLine) (before : List LaidLine) → layout_faults statements ≡ []
     → laid statements ≡ reversed rest (l ∷ before) → layout_kinds (settled (equals_in statements)) statements l before ≡ []
 layout_there statements rest l before e parts = layout_here statements e (reversed rest []) before l (split_there (laid statements) rest l before parts)

@@ -1,12 +1,14 @@
 -- What the clauses of the crate cite.
 pub mod Assembling
 pub mod Passes
+pub mod Telling
 pub mod Standing
 pub mod Beginning
 pub mod Building
 pub mod Emission
 pub mod Emitted
 pub mod Entries
+pub mod Judging
 pub mod Gathering
 pub mod Listing
 pub mod Wherever
