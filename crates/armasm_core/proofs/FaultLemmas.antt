@@ -1,6 +1,6 @@
 -- Faults of passes, as calls answer them.
-use Rattle.std.proofs.Common.{◌≡◌, inl, inr, ℕ, ◌<◌, ◌==◌, ◌&&◌, Bool, true, false, cond, List, [], ◌∷◌, ◌++◌, length, map, Option, Some, None, Result, Ok, Err, refl, sym, ap, ◌∙◌, subst, arith}
-use Rattle.std.specs.List.{list_any, slice_index_or}
+use Rattle.std.proofs.Common.{◌≡◌, inl, inr, ℕ, ◌==◌, ◌&&◌, Bool, true, false, cond, List, [], ◌∷◌, ◌++◌, map, Option, Some, None, Result, Ok, Err, refl, sym, ap, ◌∙◌, subst}
+use Rattle.std.specs.List.{list_any}
 use Rattle.std.specs.Global.{Vec}
 use Rattle.sdt_fault.specs.declared.answer.Fault.{Fault}
 use Rattle.sdt_fault.specs.declared.kinds.LineKind.{LineKind}
@@ -113,12 +113,12 @@ pub makes_first : (name : List ℕ) (flats : List Flat) (ss : List Statement) (r
 makes_first name flats ss rs f is some h =
     subst (λ (t : List Refusal). IsToldAs (first_of t) f) (is ∙ sym (laid_first (laid_refusals name flats ss) (refusals_at (value_faults ss)) some)) h
 
--- ---- the first
+-- ---- both of two tests
 
-pub some_there : (rs : List Refusal) → (rs ≡ [] → ⊥) → 0 < length rs
-some_there [] h = absurd (h refl)
-some_there (r ∷ rs) h = omega arith
+pub and_true : (b c : Bool) → b ≡ true → c ≡ (b && c)
+and_true true c e = refl
+and_true false c e = absurd (cc)
 
-pub first_there : (rs : List Refusal) (r : Refusal) → (rs ≡ [] → ⊥) → r ≡ slice_index_or rs 0 r → first_of rs ≡ Some r
-first_there [] r h e = absurd (h refl)
-first_there (q ∷ rs) r h e = ap Some (sym e)
+pub and_false : (b c r : Bool) → r ≡ b → r ≡ false → r ≡ (b && c)
+and_false true c r e f = absurd (cc)
+and_false false c r e f = f

@@ -1,7 +1,6 @@
 mod AssembleLemmas
 mod BeginLemmas
 mod FaultLemmas
-mod JudgeLemmas
 mod LawLemmas
 mod ListLemmas
 mod PoolLemmas

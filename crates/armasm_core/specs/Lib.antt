@@ -8,7 +8,6 @@ pub mod Building
 pub mod Emission
 pub mod Emitted
 pub mod Entries
-pub mod Judging
 pub mod Gathering
 pub mod Listing
 pub mod Wherever

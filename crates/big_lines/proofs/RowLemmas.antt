@@ -10,9 +10,8 @@ use Rattle.asm_model.specs.Laid.{reversed}
 use Rattle.asm_model.specs.Limits.{source_lines, line_bytes}
 use Rattle.asm_model.specs.Lines.{numbered, first_beyond}
 use Rattle.asm_model.specs.Says.{Said}
-use Rattle.asm_reading.specs.declared.flat_lines.Reading.{Reading}
 use Rattle.asm_reading.specs.Laws.{OneLine}
-use Rattle.asm_reading.specs.FlatLines.{IsReading, Say, statements_in, first_unread}
+use Rattle.asm_reading.specs.FlatLines.{AreRead, Say, statements_in}
 use Rattle.expand_model.specs.Expands.{Flats, Expands}
 use Rattle.expand_model.specs.Steps.{Sources, visit_limit}
 use Rattle.plain_source.specs.Plain.{ArePlain, PlainSourcesExpand, flats_of}
@@ -52,8 +51,8 @@ AreRows (f ∷ fs) [] = ⊥
 AreRows (f ∷ fs) (s ∷ ss) = (ends : Bool) × IsLine ends f s × AreRows fs ss
 
 pub same_rows : OneLine → (fs : List Flat) (ss : List Statement) (ps : List (Flat × Said)) → AreRows fs ss → Say false fs ps
-    → (statements_in ps ≡ ss) × (first_unread ps ≡ None)
-same_rows one [] [] [] h k = (refl, refl)
+    → statements_in ps ≡ ss
+same_rows one [] [] [] h k = refl
 same_rows one [] [] (p ∷ ps) h k = absurd k
 same_rows one [] (s ∷ ss) ps h k = absurd h
 same_rows one (f ∷ fs) [] ps h k = absurd h
@@ -62,7 +61,7 @@ same_rows one (f ∷ fs) (s ∷ ss) ((g, x) ∷ ps) h k =
     let e : x ≡ Ok (Some s) = one false f x (Ok (Some s)) k.1 h.1.says in
     let k2 = rw (e, h.1.state) at k.2 in
     let more = same_rows one fs ss ps h.2 k2 in
-    (rw (e, more.0) refl, rw (e, more.1) refl)
+    rw (e, more) refl
 
 rows_named : (before : List Statement) (fs : List Flat) (ss : List Statement) → AreRows fs ss → named_behind before ss ≡ ss
 rows_named before [] [] h = refl
@@ -70,10 +69,10 @@ rows_named before [] (s ∷ ss) h = absurd h
 rows_named before (f ∷ fs) [] h = absurd h
 rows_named before (f ∷ fs) (s ∷ ss) h = rw (h.1.not_local, h.1.names_none _, rows_named (s ∷ before) fs ss h.2) refl
 
-pub rows_read : OneLine → (fs : List Flat) (ss : List Statement) (r : Reading) → AreRows fs ss → IsReading fs r → (r.statements.items ≡ ss) × (r.unread ≡ None)
-rows_read one fs ss r h k =
+pub rows_read : OneLine → (fs : List Flat) (ss read : List Statement) → AreRows fs ss → AreRead fs read → read ≡ ss
+rows_read one fs ss read h k =
     let same = same_rows one fs ss k.says h k.say in
-    (k.statements ∙ ap in_names same.0 ∙ rows_named [] fs ss h, k.unread ∙ same.1)
+    k.named ∙ ap in_names same ∙ rows_named [] fs ss h
 
 pub reversed_twice : (xs ys zs : List Statement) → reversed (reversed xs ys) zs ≡ reversed ys (xs ++ zs)
 reversed_twice [] ys zs = refl

@@ -10,7 +10,7 @@ use Rattle.asm_model.specs.declared.statements.What.TheVariants as what
 use Rattle.asm_model.specs.Laid.{reversed}
 use Rattle.asm_model.specs.Lines.{numbered}
 use Rattle.asm_reading.specs.Laws.{OneLine}
-use Rattle.asm_reading.specs.FlatLines.{IsReading}
+use Rattle.asm_reading.specs.FlatLines.{AreRead}
 use Rattle.expand_model.specs.Expands.{ExpansionLaw}
 use Rattle.expand_model.specs.Steps.{visit_limit}
 use Rattle.plain_source.specs.Plain.{ArePlain, flats_of}
@@ -213,12 +213,12 @@ rows_reversed (f ∷ fs) gs [] ts h k = absurd h
 rows_reversed (f ∷ fs) gs (s ∷ ss) ts h k = rows_reversed fs (f ∷ gs) ss (s ∷ ts) h.1 (false, h.0, k)
 
 pub big_is_read : OneLine → BigIsRead
-big_is_read one name n r few h =
+big_is_read one name n read few h =
     let ss = big_statements name n in
     let end : List Statement = stated name (n + n + 7) None (what.Directive line.End) ∷ [] in
     let last : AreRows (flat name (n + n + 7) (codes " END") ∷ []) end = (true, end_line name (n + n + 7), tt) in
     let rows = rows_reversed (before_end name n) (flat name (n + n + 7) (codes " END") ∷ []) (data_part name n) end (all_lines name n few) last in
-    let Read : List Flat → Type 0 = λ fs. IsReading fs r in
+    let Read : List Flat → Type 0 = λ fs. AreRead fs read in
     let k = subst Read (flats_are name n) h in
-    let read = rows_read one (reversed (last_first name n) []) (reversed ss []) r rows k in
-    (ap (λ (xs : List Statement). reversed xs []) read.0 ∙ reversed_twice ss [] [] ∙ joined_none ss, read.1)
+    let same = rows_read one (reversed (last_first name n) []) (reversed ss []) read rows k in
+    ap (λ (xs : List Statement). reversed xs []) same ∙ reversed_twice ss [] [] ∙ joined_none ss

@@ -1,10 +1,10 @@
 -- The lines of a generated source: what it expands to, what they say, and how long it is. This project's.
-use Rattle.std.specs.Prelude.{◌≡◌, ℕ, ◌^◌, ◌≤◌, List, [], length, None}
+use Rattle.std.specs.Prelude.{◌≡◌, ℕ, ◌^◌, ◌≤◌, List, [], length}
 use Rattle.asm_model.specs.declared.lines.Flat.{Flat}
+use Rattle.asm_model.specs.declared.statements.Statement.{Statement}
 use Rattle.asm_model.specs.Laid.{reversed}
 use Rattle.asm_model.specs.Lines.{numbered}
-use Rattle.asm_reading.specs.declared.flat_lines.Reading.{Reading}
-use Rattle.asm_reading.specs.FlatLines.{IsReading}
+use Rattle.asm_reading.specs.FlatLines.{AreRead}
 use Rattle.expand_model.specs.Expands.{Outcome, Flats, Expands}
 use Rattle.expand_model.specs.Steps.{Sources, visit_limit}
 use Rattle.plain_source.specs.Plain.{flats_of}
@@ -24,8 +24,8 @@ BigExpands =
 -- what its lines say
 abbrev pub BigIsRead : Type 0
 BigIsRead =
-    (name : List ℕ) (n : ℕ) (r : Reading) → n ≤ 50000 → IsReading (big_flats name n) r
-    → (reversed r.statements.items [] ≡ big_statements name n) × (r.unread ≡ None)
+    (name : List ℕ) (n : ℕ) (read : List Statement) → n ≤ 50000 → AreRead (big_flats name n) read
+    → reversed read [] ≡ big_statements name n
 
 -- how long it is
 abbrev pub BigIsShort : Type 0

@@ -1,5 +1,5 @@
 -- The text of `words.s` is accepted.
-use Rattle.std.proofs.Common.{◌≡◌, ℕ, ◌^◌, ◌<◌, ◌≤◌, List, [], length, true, false, refl, ap, subst, arith, Option, None, Some, inl, inr}
+use Rattle.std.proofs.Common.{◌≡◌, ℕ, ◌^◌, ◌<◌, ◌≤◌, List, [], length, true, false, refl, sym, ap, ◌∙◌, subst, arith, Option, None, Some, inl, inr}
 use Rattle.std.specs.Prelude.{Result, Ok, Err}
 use Rattle.std.specs.List.{list_any}
 use Rattle.sdt_fault.specs.declared.refusal.Refusal.{Refusal}
@@ -7,15 +7,14 @@ use Rattle.sdt_outside.specs.Files.{content}
 use Rattle.aof_object.specs.declared.records.Object.{Object}
 use Rattle.asm_model.specs.declared.statements.Statement.{Statement}
 use Rattle.asm_model.specs.Laid.{reversed}
-use Rattle.asm_reading.specs.declared.flat_lines.Reading.{Reading}
 use Rattle.asm_reading.specs.Laws.{OneLine}
-use Rattle.asm_reading.specs.FlatLines.{IsReading}
+use Rattle.asm_reading.specs.FlatLines.{AreRead}
 use Rattle.expand_model.specs.Expands.{ExpansionLaw, Outcome}
 use Rattle.expand_model.specs.Steps.{visit_limit}
 use Rattle.expand_model.specs.Words.{token_width, words_of}
 use Rattle.plain_source.specs.Plain.{ArePlain, PlainSourcesExpand}
 use Rattle.source_model.specs.Objects.{IsObject}
-use Rattle.armasm_core.specs.Assembling.{says_area, source_faults, FlatsMake, OutcomeMakes}
+use Rattle.armasm_core.specs.Assembling.{says_area, first_of, source_refusals, FlatsMake, OutcomeMakes}
 use Rattle.big_lines.proofs.RowLemmas.{AreRows, lines_expand, rows_read}
 use Rattle.big_lines.proofs.TextLemmas.{AreClean}
 use Rattle.example_laws.specs.Words.{words_lines, words_text, words_flats, words_statements, WordsExpand, WordsAreRead, WordsHaveNoFault, WordsAreAccepted}
@@ -62,9 +61,8 @@ rows name = (
 )
 
 pub words_are_read : OneLine → WordsAreRead
-words_are_read one name r h =
-    let read = rows_read one (words_flats name) (reversed (words_statements name) []) r (rows name) h in
-    (ap (λ (ss : List Statement). reversed ss []) read.0, read.1)
+words_are_read one name read h =
+    ap (λ (ss : List Statement). reversed ss []) (rows_read one (words_flats name) (reversed (words_statements name) []) read (rows name) h)
 
 -- ---- assembly
 
@@ -72,19 +70,20 @@ has_area : (name : List ℕ) → list_any says_area (words_flats name) ≡ true
 unfolding words_of token_width
 has_area name = refl
 
-no_fault : OneLine → WordsHaveNoFault → (name : List ℕ) (h : Reading) → IsReading (words_flats name) h → source_faults name (words_flats name) h ≡ None
-no_fault one sound name h says =
-    let read = words_are_read one name h says in
+no_fault : OneLine → WordsHaveNoFault → (name : List ℕ) (read : List Statement) → AreRead (words_flats name) read
+    → source_refusals name (words_flats name) (reversed read []) ≡ []
+no_fault one sound name read says =
     let none = sound name in
-    rw (has_area name, read.1, read.0, none.0, none.1) refl
+    rw (has_area name, words_are_read one name read says, none.0, none.1) refl
 
-no_refusal : {A B : Type 0} (x : Option A) (a : A) → x ≡ None → x ≡ Some a → B
-no_refusal x a none some = absurd (cc)
+no_refusal : {B : Type 0} (refusals : List Refusal) (r : Refusal) → refusals ≡ [] → first_of refusals ≡ Some r → B
+no_refusal refusals r none some = absurd (let bad : None ≡ Some r = sym (ap first_of none) ∙ some in cc)
 
 flats_make : OneLine → WordsHaveNoFault → (name : List ℕ) (made : Result Object Refusal) → FlatsMake name (words_flats name) made
     → (o : Object) × (made ≡ Ok o) × IsObject (words_statements name) o
-flats_make one sound name (Ok o) h = (o, refl, subst (λ (ss : List Statement). IsObject ss o) (words_are_read one name h.reading h.says).0 h.makes.1)
-flats_make one sound name (Err r) h = no_refusal (source_faults name (words_flats name) h.reading) r (no_fault one sound name h.reading h.says) h.makes
+flats_make one sound name (Ok o) h = (o, refl, subst (λ (ss : List Statement). IsObject ss o) (words_are_read one name h.statements h.read) h.make.1)
+flats_make one sound name (Err r) h =
+    no_refusal (source_refusals name (words_flats name) (reversed h.statements [])) r (no_fault one sound name h.statements h.read) h.make
 
 too_long : {A : Type 0} (k : ℕ) → 2 ^ 24 < k → k ≤ 2 ^ 24 → A
 too_long k over within = absurd (omega arith)

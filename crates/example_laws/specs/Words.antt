@@ -16,8 +16,7 @@ use Rattle.asm_model.specs.declared.statements.What.{What}
 use Rattle.asm_model.specs.declared.statements.What.TheVariants as what
 use Rattle.asm_model.specs.Laid.{reversed}
 use Rattle.asm_model.specs.Lines.{numbered}
-use Rattle.asm_reading.specs.declared.flat_lines.Reading.{Reading}
-use Rattle.asm_reading.specs.FlatLines.{IsReading}
+use Rattle.asm_reading.specs.FlatLines.{AreRead}
 use Rattle.expand_model.specs.Expands.{Expands, Flats}
 use Rattle.expand_model.specs.Steps.{Sources, visit_limit}
 use Rattle.plain_source.specs.Plain.{flats_of}
@@ -76,12 +75,11 @@ WordsExpand = (sources : Sources) (name : List ℕ) → Expands sources visit_li
 -- what its lines say
 abbrev pub WordsAreRead : Type 0
 WordsAreRead =
-    (name : List ℕ) (r : Reading) → IsReading (words_flats name) r
-    → (reversed r.statements.items [] ≡ words_statements name) × (r.unread ≡ None)
+    (name : List ℕ) (read : List Statement) → AreRead (words_flats name) read → reversed read [] ≡ words_statements name
 
 -- what layout and values find in its statements
 abbrev pub WordsHaveNoFault : Type 0
-WordsHaveNoFault = (name : List ℕ) → (layout_faults (words_statements name) ≡ None) × (value_faults (words_statements name) ≡ None)
+WordsHaveNoFault = (name : List ℕ) → (layout_faults (words_statements name) ≡ []) × (value_faults (words_statements name) ≡ [])
 
 -- what assembly makes of it, under any name and whatever files there are beside it: no refusal, but an object of its statements
 abbrev pub WordsAreAccepted : Type 0
