@@ -18,8 +18,8 @@ use Rattle.asm_model.specs.declared.statements.What.{What}
 use Rattle.asm_model.specs.declared.statements.What.TheVariants as what
 use Rattle.asm_model.specs.Kinds.{kind_if}
 use Rattle.asm_model.specs.Labels.{Defined, defined_by}
-use Rattle.asm_model.specs.Laid.{LaidLine, laid, reversed, statements_of}
-use Rattle.asm_model.specs.LayoutKinds.{area_bytes, area_kinds, contents_behind, contents_kinds, equals_in, fault_kinds, first_equal, has_place, is_entry, is_free, is_repeated, is_thumb_area, layout_kinds, map_kinds, name_kinds, names_behind, names_here, names_in, no_area_kinds, settled, settled_kinds, state_kinds}
+use Rattle.asm_model.specs.Laid.{LaidLine, area_bytes, laid, reversed, statements_of}
+use Rattle.asm_model.specs.LayoutKinds.{area_kinds, contents_behind, contents_kinds, equals_in, fault_kinds, first_equal, has_place, is_entry, is_free, is_repeated, is_thumb_area, layout_kinds, map_kinds, name_kinds, names_behind, names_here, names_in, no_area_kinds, settled, settled_kinds, state_kinds}
 use Rattle.asm_model.specs.OwnKinds.{own_kinds}
 use Rattle.asm_reading.specs.Laws.{AreFit, OneReading, ReadingsAreFit}
 use Rattle.asm_reading.specs.FlatLines.{AreRead}
