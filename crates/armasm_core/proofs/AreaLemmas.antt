@@ -142,7 +142,7 @@ kept_alike w (Some contents.Data) h = sym (ap not h)
 kept_alike w (Some contents.Zeroes) h = sym (ap not h)
 
 -- an area keeps its bytes unless its attributes have the bit of zeros
-pub zeroes_there : (statements : List Statement) → layout_faults statements ≡ None → (area w : ℕ)
+pub zeroes_there : (statements : List Statement) → layout_faults statements ≡ [] → (area w : ℕ)
     → attributes_of area (is_thumb_area area (statements_of (laid statements))) (laid statements) ≡ Some w
     → is_kept (contents_of area (laid statements)) ≡ not (marks_zeroes w)
 zeroes_there statements e area w is =
@@ -154,7 +154,7 @@ zeroes_there statements e area w is =
 same_low : (m n : ℕ) → m ≡ n → n ≤ m
 same_low m n e = omega arith
 
-pub code_there : (statements : List Statement) (areas : List LaidArea) → AreAreas (laid statements) areas → layout_faults statements ≡ None
+pub code_there : (statements : List Statement) (areas : List LaidArea) → AreAreas (laid statements) areas → layout_faults statements ≡ []
     → (area : ℕ) → get_or (map is_marked areas) area false ≡ holds_code (contents_of area (laid statements))
 code_there statements areas h e area = got areas area ∙ by_area (slice_get areas area) refl
   where

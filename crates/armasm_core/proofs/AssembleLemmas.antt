@@ -1,43 +1,44 @@
 -- What a call answers of a text.
-use Rattle.std.proofs.Common.{◌≡◌, inr, ℕ, ◌^◌, ◌<◌, ◌≤◌, Bool, true, false, cond, List, length, Option, Some, None, Result, Ok, Err, refl, sym, subst}
+use Rattle.std.proofs.Common.{◌≡◌, inr, ℕ, ◌^◌, ◌<◌, ◌≤◌, ◌==◌, ◌&&◌, Bool, true, false, cond, List, [], ◌∷◌, length, Option, Some, None, Result, Ok, Err, refl, sym, subst}
 use Rattle.std.specs.Prelude.{IfErr, IfOk}
-use Rattle.std.specs.List.{list_any}
+use Rattle.std.specs.List.{AllByRecursion, list_any}
 use Rattle.sdt_fault.specs.declared.answer.Fault.{Fault}
 use Rattle.sdt_fault.specs.declared.answer.Fault.TheVariants as fault
 use Rattle.sdt_fault.specs.declared.kinds.LineKind.{LineKind}
+use Rattle.sdt_fault.specs.declared.kinds.LineKind.TheVariants.{NoArea}
 use Rattle.sdt_fault.specs.declared.refusal.Refusal.{Refusal}
 use Rattle.sdt_fault.specs.declared.refusal.Refusal.TheVariants.{BadLine, Missing}
 use Rattle.sdt_outside.specs.Files.{Files, content}
 use Rattle.aof_object.specs.declared.records.Object.{Object}
 use Rattle.aof_object.specs.Validity.{IsValid}
 use Rattle.asm_expand.specs.Leading.{Caused, IsFault, IsReadOf, IsToldBy, OfFiles}
-use Rattle.asm_layout.specs.Front.{front_laid}
 use Rattle.asm_model.specs.declared.lines.Flat.{Flat}
 use Rattle.asm_model.specs.declared.statements.Statement.{Statement}
-use Rattle.asm_model.specs.Directives.{or_else}
-use Rattle.asm_reading.specs.declared.flat_lines.Reading.{Reading}
-use Rattle.asm_reading.specs.declared.flat_lines.Unread.{Unread}
-use Rattle.asm_reading.specs.FlatLines.{IsReading}
+use Rattle.asm_model.specs.Forms.{same}
+use Rattle.asm_model.specs.Kinds.{earlier}
+use Rattle.asm_model.specs.Laid.{reversed}
+use Rattle.asm_reading.specs.FlatLines.{AreRead}
 use Rattle.expand_model.specs.Expands.{Outcome, Flats, FaultAt, MissingFile, Expands, ExpansionLaw}
 use Rattle.expand_model.specs.Gets.{GetsFile}
 use Rattle.expand_model.specs.Steps.{visit_limit}
 use Rattle.source_model.specs.SourceFaults.{layout_faults, value_faults}
 use Rattle.stand_model.specs.Placed.{HoldsWherePlaced}
-use Rattle.armasm_core.specs.Assembling.{most_bytes, said_by, says_area, told, unread_told, line_faults, without_area, reading_faults, source_faults, FlatsMake, OutcomeMakes, MayExpand, Assembles, IsCaused}
+use Rattle.armasm_core.specs.Assembling.{most_bytes, says_area, refusals_at, without_area, laid_refusals, first_pass, source_refusals, first_of, FlatsMake, OutcomeMakes, MayExpand, Assembles, IsCaused}
 use Rattle.armasm_core.specs.Passes.{FlatsGive, Makes}
 use Rattle.armasm_core.specs.Standing.{FlatsStand, StandsFrom, ObjectsOfFlatsAreValid, ObjectsOfFlatsStand}
 
 -- ---- flat lines
 
-pub flats_give : (name : List ℕ) (flats : List Flat) (r : Reading) (x : Result Object Fault) → IsReading flats r → Makes name flats r x → FlatsGive name flats x
-flats_give name flats r (Ok o) says made = record { reading = r; says = says; makes = made }
-flats_give name flats r (Err (fault.Refused q)) says made = record { reading = r; says = says; makes = made }
-flats_give name flats r (Err (fault.ReadFault file)) says made = made
-flats_give name flats r (Err fault.NoMemory) says made = tt
+pub flats_give : (name : List ℕ) (flats : List Flat) (ss : List Statement) (x : Result Object Fault) → AreRead flats ss
+    → Makes name flats (reversed ss []) x → FlatsGive name flats x
+flats_give name flats ss (Ok o) read made = record { statements = ss; read = read; make = made }
+flats_give name flats ss (Err (fault.Refused q)) read made = record { statements = ss; read = read; make = made }
+flats_give name flats ss (Err (fault.ReadFault file)) read made = made
+flats_give name flats ss (Err fault.NoMemory) read made = tt
 
 -- ---- what was expanded
 
-may_expand : (told : Option Files) (name text : List ℕ) (o : Outcome) → OfFiles told (λ sources. Expands sources visit_limit name text o)
+pub may_expand : (told : Option Files) (name text : List ℕ) (o : Outcome) → OfFiles told (λ sources. Expands sources visit_limit name text o)
     → MayExpand told name text o
 may_expand None name text o h = tt
 may_expand (Some files) name text o h = h
@@ -49,41 +50,50 @@ assembled told name text flats (Err (fault.Refused r)) short expands made = inr 
 assembled told name text flats (Err (fault.ReadFault file)) short expands made = absurd made
 assembled told name text flats (Err fault.NoMemory) short expands made = tt
 
--- each fault is of a line
-abbrev IsOfLine : Option Refusal → Type 0
-IsOfLine (Some (BadLine file n k)) = Unit {0}
-IsOfLine None = Unit {0}
+-- each refusal of flat lines is of a line
+abbrev pub IsOfLine : Refusal → Type 0
+IsOfLine (BadLine file n k) = Unit {0}
 IsOfLine _ = ⊥
 
-of_line : (t : Option (Statement × LineKind)) → IsOfLine (told t)
-of_line None = tt
-of_line (Some t) = tt
+lines_of_line : (t : List (Statement × LineKind)) → AllByRecursion IsOfLine (refusals_at t)
+lines_of_line [] = tt
+lines_of_line (f ∷ fs) = (tt, lines_of_line fs)
 
-either_of_line : (a b : Option Refusal) → IsOfLine a → IsOfLine b → IsOfLine (or_else a b)
-either_of_line None b h k = k
-either_of_line (Some r) b h k = h
-
-lines_of_line : (ss : List Statement) (before : ℕ) (u : Option Unread) → IsOfLine (line_faults ss before u)
-lines_of_line ss before None = of_line (layout_faults ss)
-lines_of_line ss before (Some u) = either_of_line (told (front_laid ss before)) (Some (unread_told u)) (of_line (front_laid ss before)) tt
-
-tables_of_line : (name : List ℕ) (t : Option Refusal) → IsOfLine (Some (without_area name t))
-tables_of_line name (Some (BadLine file n k)) = tt
-tables_of_line name t = tt
-
-reading_of_line : (name : List ℕ) (flats : List Flat) (r : Reading) → IsOfLine (reading_faults name flats r)
-reading_of_line name flats r = by_area (list_any says_area flats)
+missing_of_line : (name : List ℕ) (rs : List Refusal) → AllByRecursion IsOfLine rs → AllByRecursion IsOfLine (without_area name rs)
+missing_of_line name [] h = (tt, tt)
+missing_of_line name (BadLine source number kind ∷ rest) h = by_first (same source name && number == 1)
   where
-    by_area : (b : Bool)
-        → IsOfLine (cond b (line_faults (said_by r) r.before r.unread) (Some (without_area name (line_faults (said_by r) r.before r.unread))))
-    by_area true = lines_of_line (said_by r) r.before r.unread
-    by_area false = tables_of_line name (line_faults (said_by r) r.before r.unread)
+    by_first : (b : Bool)
+        → AllByRecursion IsOfLine
+        (cond b (BadLine name 1 (earlier NoArea kind) ∷ rest) (BadLine name 1 NoArea ∷ BadLine source number kind ∷ rest))
+    by_first true = (tt, h.1)
+    by_first false = (tt, h)
+missing_of_line name (r ∷ rest) h = (tt, h)
 
-source_of_line : (name : List ℕ) (flats : List Flat) (r : Reading) → IsOfLine (source_faults name flats r)
-source_of_line name flats r =
-    either_of_line (reading_faults name flats r) (told (value_faults (said_by r))) (reading_of_line name flats r) (of_line (value_faults (said_by r)))
+laid_of_line : (name : List ℕ) (flats : List Flat) (ss : List Statement) → AllByRecursion IsOfLine (laid_refusals name flats ss)
+laid_of_line name flats ss = by_area (list_any says_area flats)
+  where
+    faults : List Refusal
+    faults = refusals_at (layout_faults ss)
 
-line_caused : (files : Option Files) (rose : Type 0) (q : Refusal) → IsOfLine (Some q) → IsCaused files rose (fault.Refused q)
+    by_area : (b : Bool) → AllByRecursion IsOfLine (cond b faults (without_area name faults))
+    by_area true = lines_of_line (layout_faults ss)
+    by_area false = missing_of_line name faults (lines_of_line (layout_faults ss))
+
+first_pass_of_line : (laid later : List Refusal) → AllByRecursion IsOfLine laid → AllByRecursion IsOfLine later
+    → AllByRecursion IsOfLine (first_pass laid later)
+first_pass_of_line [] later h k = k
+first_pass_of_line (r ∷ rs) later h k = h
+
+pub source_of_line : (name : List ℕ) (flats : List Flat) (ss : List Statement) → AllByRecursion IsOfLine (source_refusals name flats ss)
+source_of_line name flats ss =
+    first_pass_of_line (laid_refusals name flats ss) (refusals_at (value_faults ss)) (laid_of_line name flats ss) (lines_of_line (value_faults ss))
+
+first_of_line : (rs : List Refusal) (r : Refusal) → AllByRecursion IsOfLine rs → first_of rs ≡ Some r → IsOfLine r
+first_of_line [] r h e = absurd (cc)
+first_of_line (q ∷ rs) r h e = let is : q ≡ r = cc in subst IsOfLine is h.0
+
+pub line_caused : (files : Option Files) (rose : Type 0) (q : Refusal) → IsOfLine q → IsCaused files rose (fault.Refused q)
 line_caused files rose (Missing file) h = absurd h
 line_caused files rose q h = tt
 
@@ -91,7 +101,8 @@ pub made_caused : (files : Option Files) (rose : Type 0) (name : List ℕ) (flat
     → IfErr x (IsCaused files rose)
 made_caused files rose name flats (Ok o) made = tt
 made_caused files rose name flats (Err (fault.Refused r)) made =
-    line_caused files rose r (subst IsOfLine made.makes (source_of_line name flats made.reading))
+    line_caused files rose r
+    (first_of_line (source_refusals name flats (reversed made.statements [])) r (source_of_line name flats (reversed made.statements [])) made.make)
 made_caused files rose name flats (Err (fault.ReadFault file)) made = absurd made
 made_caused files rose name flats (Err fault.NoMemory) made = tt
 

@@ -18,12 +18,11 @@ use Rattle.asm_model.specs.declared.statements.What.{What}
 use Rattle.asm_model.specs.declared.statements.What.TheVariants as what
 use Rattle.asm_model.specs.Kinds.{kind_if}
 use Rattle.asm_model.specs.Labels.{Defined, defined_by}
-use Rattle.asm_model.specs.Laid.{LaidLine, laid, reversed, statements_of}
-use Rattle.asm_model.specs.LayoutKinds.{area_bytes, area_kinds, contents_behind, contents_kinds, equals_in, fault_kinds, first_equal, has_place, is_entry, is_free, is_repeated, is_thumb_area, layout_kinds, map_kinds, name_kinds, names_behind, names_here, names_in, no_area_kinds, settled, settled_kinds, state_kinds}
+use Rattle.asm_model.specs.Laid.{LaidLine, area_bytes, laid, reversed, statements_of}
+use Rattle.asm_model.specs.LayoutKinds.{area_kinds, contents_behind, contents_kinds, equals_in, fault_kinds, first_equal, has_place, is_entry, is_free, is_repeated, is_thumb_area, layout_kinds, map_kinds, name_kinds, names_behind, names_here, names_in, no_area_kinds, settled, settled_kinds, state_kinds}
 use Rattle.asm_model.specs.OwnKinds.{own_kinds}
-use Rattle.asm_reading.specs.declared.flat_lines.Reading.{Reading}
 use Rattle.asm_reading.specs.Laws.{AreFit, OneReading, ReadingsAreFit}
-use Rattle.asm_reading.specs.FlatLines.{IsReading}
+use Rattle.asm_reading.specs.FlatLines.{AreRead}
 use Rattle.expand_model.specs.Expands.{Expands, ExpansionLaw, FaultAt, Flats, MissingFile, Outcome}
 use Rattle.expand_model.specs.Steps.{Sources, visit_limit}
 use Rattle.layout_laws.proofs.SoundLemmas.{both_empty, kind_none, or_none}
@@ -37,7 +36,7 @@ use Rattle.source_laws.specs.Laws.{SourcesKeepStates}
 use Rattle.source_laws.proofs.ListLemmas.{same_rest}
 use Rattle.source_model.specs.Objects.{At, IsObject, Source, entry_by, entry_of, source_of}
 use Rattle.source_model.specs.SourceFaults.{layout_faults}
-use Rattle.armasm_core.specs.Assembling.{most_bytes, FlatsMake, IsAssembled, OutcomeMakes, ReadingMakes, said_by}
+use Rattle.armasm_core.specs.Assembling.{most_bytes, FlatsMake, IsAssembled, OutcomeMakes, StatementsMake}
 use Rattle.armasm_core.specs.Beginning.{BeginsAtLine, BeginsBy, BeginsIn, IsEntryLine, SourcesBegin, area_state}
 use Rattle.armasm_core.proofs.StandingLemmas.{source_none}
 
@@ -96,7 +95,7 @@ any_there : (m : List LaidLine) (l : LaidLine) (b : List LaidLine) → is_entry 
 any_there [] l b is = true_or (is_entry l.statement.what) (list_any (λ t. is_entry t.what) (statements_of b)) is
 any_there (x ∷ m) l b is = or_true (is_entry x.statement.what) (list_any (λ t. is_entry t.what) (statements_of (m ++ l ∷ b))) (any_there m l b is)
 
-module _ (ss : List Statement) (none : layout_faults ss ≡ None) where
+module _ (ss : List Statement) (none : layout_faults ss ≡ []) where
   abbrev s : Source
   s = source_of ss
 
@@ -186,45 +185,48 @@ module _ (expands : ExpansionLaw) (one : OneReading) (fits : ReadingsAreFit) (ke
   by_statements ss h x None at = λ bases entry thumb. no_line ss h.layout at
   by_statements ss h x (Some e) at = begins_there ss o h x e (entry_line e (laid ss) at)
 
-  by_reading : (flats : List Flat) (r : Reading) → IsReading flats r → ReadingMakes name flats r (Ok o) → Begins (said_by r) o.entry
-  by_reading flats r says made =
-      let fit : AreFit (said_by r) = fits flats r says in
-      let none = source_none name flats r made.0 in
-      let faultless : AreFaultless (said_by r) = record {
+  by_reading : (flats : List Flat) (read : List Statement) → AreRead flats read → StatementsMake name flats (reversed read []) (Ok o)
+      → Begins (reversed read []) o.entry
+  by_reading flats read says made =
+      let ss : List Statement = reversed read [] in
+      let fit : AreFit ss = fits flats read says in
+      let none = source_none name flats ss made.0 in
+      let faultless : AreFaultless ss = record {
         said = fit.said;
         texts = fit.texts;
         fit = fit.fit;
         layout = none.0;
         values = none.1;
-        states = keep (said_by r) fit.states;
+        states = keep ss fit.states;
       } in
-      by_statements (said_by r) faultless made.1 o.entry (sym made.1.entry)
+      by_statements ss faultless made.1 o.entry (sym made.1.entry)
 
   -- of each reading of the lines that made it
-  by_flats : (flats : List Flat) → FlatsMake name flats (Ok o) → (r : Reading) → IsReading flats r → Begins (said_by r) o.entry
-  by_flats flats h r says =
-      subst (λ (items : List Statement). Begins (reversed items []) o.entry) (one flats h.reading r h.says says).0 (by_reading flats h.reading h.says h.makes)
+  by_flats : (flats : List Flat) → FlatsMake name flats (Ok o) → (read : List Statement) → AreRead flats read → Begins (reversed read []) o.entry
+  by_flats flats h read says =
+      subst (λ (items : List Statement). Begins (reversed items []) o.entry) (one flats h.statements read h.read says)
+      (by_reading flats h.statements h.read h.make)
 
   flats_same : (flats others : List Flat) → Flats flats ≡ Flats others → flats ≡ others
   flats_same flats others e = cc
 
   by_outcome : (out : Outcome) → Expands sources visit_limit name text out → OutcomeMakes name out (Ok o)
-      → (flats : List Flat) → Expands sources visit_limit name text (Flats flats) → (r : Reading) → IsReading flats r → Begins (said_by r) o.entry
-  by_outcome (Flats made) has h flats others r says =
+      → (flats : List Flat) → Expands sources visit_limit name text (Flats flats) → (read : List Statement) → AreRead flats read → Begins (reversed read []) o.entry
+  by_outcome (Flats made) has h flats others read says =
       by_flats flats (subst (λ (fs : List Flat). FlatsMake name fs (Ok o)) (flats_same made flats
-      (expands sources visit_limit name text (Flats made) (Flats flats) has others)) h) r says
-  by_outcome (FaultAt file number kind) has h flats others r says = absurd (not_made o (BadLine file number kind) h)
-  by_outcome (MissingFile file) has h flats others r says = absurd (not_made o (Missing file) h)
+      (expands sources visit_limit name text (Flats made) (Flats flats) has others)) h) read says
+  by_outcome (FaultAt file number kind) has h flats others read says = absurd (not_made o (BadLine file number kind) h)
+  by_outcome (MissingFile file) has h flats others read says = absurd (not_made o (Missing file) h)
 
-  each : IsAssembled sources name text (Ok o) → (flats : List Flat) → Expands sources visit_limit name text (Flats flats) → (r : Reading) → IsReading flats r
-      → Begins (said_by r) o.entry
+  each : IsAssembled sources name text (Ok o) → (flats : List Flat) → Expands sources visit_limit name text (Flats flats) → (read : List Statement)
+      → AreRead flats read → Begins (reversed read []) o.entry
   each (inl h) = absurd (not_made o (TooLarge SourceBytes most_bytes) h.1)
   each (inr h) = by_outcome h.1 h.2 h.3
 
-  as_said : (e : Option Entry) → ((flats : List Flat) → Expands sources visit_limit name text (Flats flats) → (r : Reading) → IsReading flats r
-      → Begins (said_by r) e) → BeginsBy sources name text o e
-  as_said None h = λ bases entry thumb flats has r says. h flats has r says bases entry thumb
-  as_said (Some e) h = λ bases flats has r says. h flats has r says bases
+  as_said : (e : Option Entry) → ((flats : List Flat) → Expands sources visit_limit name text (Flats flats) → (read : List Statement)
+      → AreRead flats read → Begins (reversed read []) e) → BeginsBy sources name text o e
+  as_said None h = λ bases entry thumb flats has read says. h flats has read says bases entry thumb
+  as_said (Some e) h = λ bases flats has read says. h flats has read says bases
 
 pub sources_begin : ExpansionLaw → OneReading → ReadingsAreFit → SourcesKeepStates → SourcesBegin
 sources_begin expands one fits keep sources name text o h =

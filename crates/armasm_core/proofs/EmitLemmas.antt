@@ -11,6 +11,7 @@ use Rattle.armasm_core.specs.declared.source_tables.SourceTables.{SourceTables}
 use Rattle.armasm_core.specs.Giving.{gives}
 use Rattle.armasm_core.specs.Putting.{IsPut}
 use Rattle.armasm_core.specs.SourceTables.{IsHere, kinds_at}
+use Rattle.armasm_core.specs.Telling.{IsTold}
 use Rattle.armasm_core.proofs.LoopLemmas.{lines_from, turned_again, first_of, none_left}
 use Rattle.base_lemmas.proofs.BaseLemmas.{rest_of}
 use Rattle.asm_layout.specs.Late.{AreOn}
@@ -22,11 +23,9 @@ use Rattle.asm_registers.proofs.NameLemmas.{before_more}
 use Rattle.asm_units.specs.declared.emitted.Emitted.{Emitted as Code}
 use Rattle.asm_model.specs.Labels.{defined_by}
 use Rattle.asm_model.specs.Laid.{LaidLine, laid, reversed}
-use Rattle.asm_model.specs.Directives.{or_else}
 use Rattle.asm_model.specs.Kinds.{told_kind}
-use Rattle.asm_model.specs.LayoutKinds.{told_at}
 use Rattle.asm_model.specs.Offsets.{is_of}
-use Rattle.asm_layout.specs.Layout.{AreAreas, IsTold}
+use Rattle.asm_layout.specs.Layout.{AreAreas}
 use Rattle.sdt_fault.specs.declared.answer.Fault.{Fault}
 use Rattle.sdt_fault.specs.declared.kinds.LineKind.{LineKind}
 use Rattle.asm_model.proofs.OffsetLemmas.{is_here}
@@ -34,7 +33,7 @@ use Rattle.source_laws.specs.Laws.{AreOfState, SourcesStandApart}
 use Rattle.source_laws.proofs.ListedLemmas.{among_either, among_first, among_last, own_things}
 use Rattle.source_model.specs.Objects.{Piece, Source, IsAmong, StandsIn, source_of, things_of, things_behind, things_in, words_of}
 use Rattle.source_model.specs.Registers.{Named, register_in, registers_behind, named_by}
-use Rattle.source_model.specs.SourceFaults.{first_valued, layout_faults, value_faults}
+use Rattle.source_model.specs.SourceFaults.{fault_at, valued_faults, layout_faults, value_faults}
 use Rattle.armasm_core.specs.declared.building.AreaBuild.{AreaBuild}
 use Rattle.armasm_core.specs.Building.{HavePieces, MeetNoneThere, frame_of, frames, pieces_put, with_line}
 use Rattle.armasm_core.specs.Emission.{IsEmittable, IsGrown, things_so_far}
@@ -71,7 +70,7 @@ things_here ss area before rest l more here e =
     (cond-true (is_of area l.area) (own_things ss l before rest) [] (is_here area l.area here) ∙ e)
     ∙ sym (append_assoc (pooled_words (source_of ss) area) (things_behind (source_of ss) area before (l ∷ rest)) more)
 
-pub apart_there : SourcesStandApart → (ss : List Statement) → layout_faults ss ≡ None → AreOfState ss
+pub apart_there : SourcesStandApart → (ss : List Statement) → layout_faults ss ≡ [] → AreOfState ss
     → (before rest : List LaidLine) (l : LaidLine) (own : Option ℕ) (more : List Piece) → laid ss ≡ reversed rest (l ∷ before) → own ≡ l.area
     → own_things ss l before rest ≡ more → MeetNoneThere (things_so_far (source_of ss) before (l ∷ rest)) own more
 apart_there apart ss sound states before rest l own more parts same e = λ area here q u p k.
@@ -117,7 +116,7 @@ pub words_are : (ss : List Statement) (xs : List LaidArea) (area : ℕ) (a : Lai
     → words_of (source_of ss) area a.pools.placed ≡ pooled_words (source_of ss) area
 words_are ss xs area a h at = ap (words_of (source_of ss) area) (h.each area a at).words
 
-pub words_apart : SourcesStandApart → (ss : List Statement) (xs : List LaidArea) → layout_faults ss ≡ None → AreOfState ss → AreAreas (laid ss) xs → (area : ℕ)
+pub words_apart : SourcesStandApart → (ss : List Statement) (xs : List LaidArea) → layout_faults ss ≡ [] → AreOfState ss → AreAreas (laid ss) xs → (area : ℕ)
     → MeetNone (pool_words (source_of ss) xs area) (pool_words (source_of ss) xs area)
 words_apart apart ss xs sound states h area = by_area (slice_get xs area) refl
   where
@@ -149,11 +148,11 @@ grown_first ss l w names known gs h none builders = record {
 }
 
 pub grown_all : (ss : List Statement) (names : List (List ℕ)) (left : List LaidStatement) (known : List Named) (gs : List AreaBuild) → length left < 1
-    → IsGrown ss names left known gs → (value_faults ss ≡ None) × HavePieces names (things_in (source_of ss)) gs
+    → IsGrown ss names left known gs → (value_faults ss ≡ []) × HavePieces names (things_in (source_of ss)) gs
 grown_all ss names left known gs less h =
     let none = none_left h.before h.rest (subst (λ (xs : List LaidStatement). AreOn h.before h.rest xs) (nothing left less) h.lines) in
     let all : laid ss ≡ h.before = h.parts ∙ ap (λ (ls : List LaidLine). reversed ls h.before) none in (
-      h.none ∙ ap (λ (ls : List LaidLine). first_valued (laid ss) ss h.before ls) none,
+      h.none ∙ ap (λ (ls : List LaidLine). valued_faults (laid ss) ss h.before ls) none,
       λ area g is.
           turned names (pooled_words (source_of ss) area) (things_behind (source_of ss) area (laid ss) []) g.builder
           (subst (λ (ls : List LaidLine). HasPieces names (things_so_far (source_of ss) ls [] area) g.builder) (sym all)
@@ -168,7 +167,7 @@ pub record Next (ss : List Statement) (l : Layout) (w : SourceTables) (names : L
   pub rest : List LaidLine
   pub here : IsHere ss l.areas w known before rest line x
   pub lines : AreOn (line ∷ before) rest more
-  pub none : value_faults ss ≡ first_valued (laid ss) ss before (line ∷ rest)
+  pub none : value_faults ss ≡ valued_faults (laid ss) ss before (line ∷ rest)
   pub builders : HavePieces names (things_so_far (source_of ss) before (line ∷ rest)) gs
 
 next_of : (ss : List Statement) (l : Layout) (w : SourceTables) (names : List (List ℕ)) (x : LaidStatement) (more : List LaidStatement) (known : List Named)
@@ -190,7 +189,7 @@ next_of ss l w names x more known gs j k =
         registers = k.registers;
       };
       lines = f.lines;
-      none = k.none ∙ ap (λ (ls : List LaidLine). first_valued (laid ss) ss k.before ls) f.parts;
+      none = k.none ∙ ap (λ (ls : List LaidLine). valued_faults (laid ss) ss k.before ls) f.parts;
       builders =
           λ area g is. subst (λ (ls : List LaidLine). HasPieces names (things_so_far (source_of ss) k.before ls area) g.builder) f.parts (k.builders area g is);
     }
@@ -211,18 +210,18 @@ pub put_there : (ss : List Statement) (l : Layout) (w : SourceTables) (names : L
 put_there ss l w names x more known gs n u us is h =
     h.pieces ∙ ap (λ (at : ℕ). pieces_put at (units_in u.units)) (sym n.here.line.line.place.offset) ∙ ap (pieces_put x.line.place.offset) (sym is)
 
-told_first : (t u : Option (Statement × LineKind)) (f : Fault) → IsTold t f → IsTold (or_else t u) f
+told_first : (t u : List (Statement × LineKind)) (f : Fault) → IsTold t f → IsTold (t ++ u) f
 told_first t u f (inl none) = inl none
-told_first t u f (inr h) = inr (h.0, h.1, ap (λ o. or_else o u) h.2, h.3)
+told_first t u f (inr h) = inr (h.0, h.1, h.2 ++ u, ap (λ faults. faults ++ u) h.3, h.4)
 
 -- the refusal of the first of the lines that are left is that of the source
 pub told_here : (ss : List Statement) (l : Layout) (w : SourceTables) (names : List (List ℕ)) (x : LaidStatement) (more : List LaidStatement)
     (known : List Named) (gs : List AreaBuild)
-    (n : Next ss l w names x more known gs) (f : Fault) → IsTold (told_at n.line.statement (told_kind (kinds_at ss n.before n.line n.rest))) f
+    (n : Next ss l w names x more known gs) (f : Fault) → IsTold (fault_at n.line.statement (told_kind (kinds_at ss n.before n.line n.rest))) f
     → IsTold (value_faults ss) f
 told_here ss l w names x more known gs n f h =
     subst (λ o. IsTold o f) (sym n.none)
-    (told_first (told_at n.line.statement (told_kind (kinds_at ss n.before n.line n.rest))) (first_valued (laid ss) ss (n.line ∷ n.before) n.rest) f h)
+    (told_first (fault_at n.line.statement (told_kind (kinds_at ss n.before n.line n.rest))) (valued_faults (laid ss) ss (n.line ∷ n.before) n.rest) f h)
 
 pub grown_more : (ss : List Statement) (l : Layout) (w : SourceTables) (names : List (List ℕ)) (x : LaidStatement) (more : List LaidStatement)
     (known new : List Named) (gs hs : List AreaBuild)
@@ -239,7 +238,7 @@ grown_more ss l w names x more known new gs hs n u us is put builders noted = re
       noted q
       ∙ ap (λ (ns : List Named). register_in q (known ++ ns)) (ap (λ (s : Statement). gives u.number (defined_by s)) n.here.line.line.statement ∙ sym put.given)
       ∙ before_more q known (registers_behind n.before) (named_by n.line.seen (defined_by n.line.statement)) (n.here.registers q);
-  none = n.none ∙ ap (λ o. or_else (told_at n.line.statement o) (first_valued (laid ss) ss (n.line ∷ n.before) n.rest)) put.faultless;
+  none = n.none ∙ ap (λ o. fault_at n.line.statement o ++ valued_faults (laid ss) ss (n.line ∷ n.before) n.rest) put.faultless;
   builders = builders_there ss names n.before n.rest n.line x.line.place.area (pieces_put x.line.place.offset us) hs n.here.line.line.place.area
       (put_there ss l w names x more known gs n u us is put) builders;
 }

@@ -1,6 +1,6 @@
 -- The literal of a line among those of its area.
 use Rattle.std.proofs.Common.{◌≡◌, ◌≤◌, ◌<◌, ℕ, zero, suc, ◌+◌, List, [], ◌∷◌, ◌++◌, length, Option, Some, None, refl, sym, ap, ◌∙◌, subst, arith}
-use Rattle.std.specs.Prelude.{Result, nat_lt}
+use Rattle.std.specs.Prelude.{Result, Ok, nat_lt}
 use Rattle.std.specs.List.{slice_get}
 use Rattle.sdt_fault.specs.declared.kinds.LineKind.{LineKind}
 use Rattle.sdt_fault.specs.declared.kinds.LineKind.TheVariants.{TooMany}
@@ -19,11 +19,13 @@ use Rattle.asm_model.specs.Labels.{defined_by, declared_names}
 use Rattle.asm_names.specs.PlacedLines.{Sees}
 use Rattle.asm_layout.specs.Layout.{AreAreas}
 use Rattle.asm_model.specs.Kinds.{kind_if}
-use Rattle.asm_model.specs.Laid.{LaidLine, laid, map_behind, taken, pieces_of, reversed, statements_of}
-use Rattle.asm_model.specs.LayoutKinds.{layout_kinds, fault_kinds, map_kinds, no_area_kinds, contents_kinds, contents_behind, area_kinds, name_kinds, first_equal, settled_kinds, state_kinds, area_bytes, settled, equals_in}
+use Rattle.asm_model.specs.Laid.{LaidLine, area_bytes, laid, laid_of, map_behind, taken, pieces_of, reversed, statements_of}
+use Rattle.asm_model.specs.LayoutKinds.{layout_kinds, fault_kinds, map_kinds, no_area_kinds, contents_kinds, contents_behind, area_kinds, name_kinds, first_equal, settled_kinds, state_kinds, settled, equals_in}
 use Rattle.asm_model.specs.OffsetLaws.{joined}
 use Rattle.asm_model.specs.Offsets.{Piece, start_in}
 use Rattle.asm_model.specs.OwnKinds.{own_kinds}
+use Rattle.asm_model.proofs.LaidLemmas.{extent_said}
+use Rattle.object_laws.proofs.FaultLemmas.{known_result}
 use Rattle.armasm_core.specs.Loaded as own
 use Rattle.armasm_core.specs.declared.source_tables.SourceTables.{SourceTables}
 use Rattle.armasm_core.proofs.LiteralLemmas.{IsPlaced, free_there, literal_there}
@@ -34,8 +36,8 @@ use Rattle.asm_checks.proofs.LateLemmas.{joined_pieces}
 
 -- ---- outside areas
 
-third_empty : (a b c d e f g h i j : List LineKind) → a ++ b ++ c ++ d ++ e ++ f ++ g ++ h ++ i ++ j ≡ [] → c ≡ []
-third_empty a b c d e f g h i j none =
+first_and_third : (a b c d e f g h i j : List LineKind) → a ++ b ++ c ++ d ++ e ++ f ++ g ++ h ++ i ++ j ≡ [] → (a ≡ []) × (c ≡ [])
+first_and_third a b c d e f g h i j none =
     let t = both_empty (a ++ b ++ c ++ d ++ e ++ f ++ g ++ h ++ i) j none in
     let s = both_empty (a ++ b ++ c ++ d ++ e ++ f ++ g ++ h) i t.0 in
     let r = both_empty (a ++ b ++ c ++ d ++ e ++ f ++ g) h s.0 in
@@ -43,19 +45,27 @@ third_empty a b c d e f g h i j none =
     let p = both_empty (a ++ b ++ c ++ d ++ e) f q.0 in
     let o = both_empty (a ++ b ++ c ++ d) e p.0 in
     let n = both_empty (a ++ b ++ c) d o.0 in
-    (both_empty (a ++ b) c n.0).1
+    let m = both_empty (a ++ b) c n.0 in
+    ((both_empty a b m.0).0, m.1)
 
+-- the extent of a line without faults is known, and it needs no area
 pub has_area : (fixed : List (List ℕ)) (all : List Statement) (l : LaidLine) (before : List LaidLine) → layout_kinds fixed all l before ≡ []
-    → no_area_kinds l.area (defined_by l.statement) l.statement.what ≡ []
+    → (fault_kinds l.extent ≡ []) × (no_area_kinds l.area (defined_by l.statement) l.statement.what ≡ [])
 has_area fixed all l before e =
-    third_empty (fault_kinds l.extent) (map_kinds l.seen l.statement.what) (no_area_kinds l.area (defined_by l.statement) l.statement.what)
+    first_and_third (fault_kinds l.extent) (map_kinds l.seen l.statement.what)
+    (no_area_kinds l.area (defined_by l.statement) l.statement.what)
     (contents_kinds (contents_behind (l.statement ∷ statements_of before)) l.thumb l.statement.what) (area_kinds l.seen l.statement.what before)
     (name_kinds l.statement (statements_of before)) (settled_kinds fixed (first_equal (defined_by l.statement) (statements_of before)))
     (state_kinds l.area l.thumb l.statement.what all)
     (kind_if (nat_lt area_bytes (l.offset + l.size)) TooMany) (own_kinds l.statement) e
 
-pub extent_is : (d : List LaidName) (l : LaidLine) (before : List LaidLine) → IsBehind d l before → l.extent ≡ extent_of l.seen l.statement.what
-extent_is d l before b = subst (λ (k : LaidLine). k.extent ≡ extent_of k.seen k.statement.what) (sym b.line) refl
+pub extent_is : (d : List LaidName) (l : LaidLine) (before : List LaidLine) → IsBehind d l before → fault_kinds l.extent ≡ []
+    → l.extent ≡ extent_of l.seen l.statement.what
+extent_is d l before b none =
+    let known = known_result l.extent none in
+    known.1
+    ∙ sym (subst (λ (x : LaidLine). (e : Extent) → x.extent ≡ Ok e → extent_of x.seen x.statement.what ≡ Ok e) (sym b.line)
+    (λ e h. extent_said d b.s (laid_of d b.ss) e h) known.0 known.1)
 
 -- ---- inside
 
@@ -101,10 +111,10 @@ loaded pools statements areas w before rest l x h = by_area l.area refl
     by_area None e =
         let b = behind_there (declared_names statements) statements rest l before h.said h.parts in
         let laying = layout_there statements rest l before h.sound h.parts in
+        let kinds = has_area (settled (equals_in statements)) statements l before laying in
         let here : no_area_kinds None (defined_by l.statement) l.statement.what ≡ [] =
-        subst (λ (o : Option ℕ). no_area_kinds o (defined_by l.statement) l.statement.what ≡ []) e
-        (has_area (settled (equals_in statements)) statements l before laying) in
-        ap (λ (r : Result Extent LineKind). literal_in (taken r)) (extent_is (declared_names statements) l before b)
+        subst (λ (o : Option ℕ). no_area_kinds o (defined_by l.statement) l.statement.what ≡ []) e kinds.1 in
+        ap (λ (r : Result Extent LineKind). literal_in (taken r)) (extent_is (declared_names statements) l before b kinds.0)
         ∙ free_there l.seen l.statement.what (defined_by l.statement) here
         ∙ sym (ap (λ (a : Option ℕ). own.literal_in areas a x.literal) (h.line.line.place.area ∙ e))
     by_area (Some area) e =

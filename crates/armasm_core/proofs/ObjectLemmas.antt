@@ -84,7 +84,7 @@ relocs_there ss names area relocs e h = record {
 -- ---- all areas
 
 area_there : (ss : List Statement) (names : List (List ℕ)) (xs : List LaidArea) (area : ℕ) (a : Area) (g : AreaBuild) (x : LaidArea)
-    → layout_faults ss ≡ None → AreAreas (laid ss) xs → names ≡ symbols_of (source_of ss).names (laid ss)
+    → layout_faults ss ≡ [] → AreAreas (laid ss) xs → names ≡ symbols_of (source_of ss).names (laid ss)
     → slice_get xs area ≡ Some x → frame g ≡ frame_of x → HasPieces names (things_in (source_of ss) area) g.builder → IsFinished g a
     → IsArea (source_of ss) area a
 area_there ss names xs area a g x sound laid_areas listed at same builder done =
@@ -106,7 +106,7 @@ area_there ss names xs area a g x sound laid_areas listed at same builder done =
     }
 
 pub areas_there : (ss : List Statement) (names : List (List ℕ)) (xs : List LaidArea) (gs : List AreaBuild) (areas : List Area)
-    → layout_faults ss ≡ None → AreAreas (laid ss) xs → names ≡ symbols_of (source_of ss).names (laid ss)
+    → layout_faults ss ≡ [] → AreAreas (laid ss) xs → names ≡ symbols_of (source_of ss).names (laid ss)
     → frames gs ≡ map frame_of xs → HavePieces names (things_in (source_of ss)) gs → AllZip IsFinished gs areas
     → (area : ℕ) (a : Area) → slice_get areas area ≡ Some a → IsArea (source_of ss) area a
 areas_there ss names xs gs areas sound laid_areas listed same builders done = λ area a is.

@@ -1,5 +1,5 @@
 -- The object of statements stands wherever it is placed.
-use Rattle.std.proofs.Common.{◌≡◌, ◌^◌, ◌<◌, ◌≤◌, List, length, None, arith}
+use Rattle.std.proofs.Common.{◌≡◌, ◌^◌, ◌<◌, ◌≤◌, List, [], length, None, arith}
 use Rattle.std.specs.Prelude.{Result, Ok, Err, IfOk}
 use Rattle.sdt_fault.specs.declared.answer.Fault.{Fault}
 use Rattle.asm_layout.specs.Layout.{IsLayout}
@@ -27,9 +27,9 @@ few_areas ss o few h =
     omega arith
 
 pub object_stands : ObjectsStand → (l : Layout) → HasSource l → (r : Result Object Fault) → IfOk r (λ o. length o.symbols < 2 ^ 24)
-    → ((ss : List Statement) → IsLayout ss l → AllSaid ss → layout_faults ss ≡ None → AreOfState ss → IsEmitted ss r)
+    → ((ss : List Statement) → IsLayout ss l → AllSaid ss → layout_faults ss ≡ [] → AreOfState ss → IsEmitted ss r)
     → IfOk r
-    (λ o. (ss : List Statement) → IsLayout ss l → AllSaid ss → AllNamed ss → AllLoadsNamed ss → layout_faults ss ≡ None → AreOfState ss → StandsWherever ss o)
+    (λ o. (ss : List Statement) → IsLayout ss l → AllSaid ss → AllNamed ss → AllLoadsNamed ss → layout_faults ss ≡ [] → AreOfState ss → StandsWherever ss o)
 object_stands stand l s (Ok o) few emitted = λ ss layout said named loads sound states.
     let made = emitted ss layout said sound states in
     stand ss o (record { said = said; named = named; laid_out = sound; valued = made.0 }) made.1

@@ -16,8 +16,8 @@ use Rattle.asm_model.specs.declared.statements.What.TheVariants as what
 use Rattle.asm_model.specs.declared.thumb_lines.ThumbLine.{ThumbLine}
 use Rattle.asm_model.specs.declared.names.Names.{Names}
 use Rattle.asm_model.specs.Kinds.{told_kind}
-use Rattle.asm_model.specs.LayoutKinds.{told_at}
-use Rattle.asm_layout.specs.Layout.{IsTold}
+use Rattle.source_model.specs.SourceFaults.{fault_at}
+use Rattle.armasm_core.specs.Telling.{IsTold}
 use Rattle.sdt_fault.specs.declared.answer.Fault.{Fault}
 use Rattle.asm_layout.specs.declared.laid.LaidArea.{LaidArea}
 use Rattle.asm_laying.specs.declared.laying.LaidStatement.{LaidStatement}
@@ -158,8 +158,8 @@ module _ (statements : List Statement) (areas : List LaidArea) (w : SourceTables
       }
 
   pub told_there : (r : Result LineUnits LineKind) (k : LineKind) (f : Fault) → r ≡ Err k → PassesAt statements before rest l x.line.statement.now.what r
-      → IsTold (Some (x.line.statement.now, k)) f → IsTold (told_at l.statement (told_kind (kinds_at statements before l rest))) f
+      → IsTold ((x.line.statement.now, k) ∷ []) f → IsTold (fault_at l.statement (told_kind (kinds_at statements before l rest))) f
   told_there r k f is passed told =
       let here = subst (λ (s : Statement). PassesAt statements before rest l s.what (Err k)) h.line.line.statement
       (subst (PassesAt statements before rest l x.line.statement.now.what) is passed) in
-      subst (λ o. IsTold o f) (ap (λ (s : Statement). Some (s, k)) h.line.line.statement ∙ sym (ap (told_at l.statement) here)) told
+      subst (λ o. IsTold o f) (ap (λ (s : Statement). (s, k) ∷ []) h.line.line.statement ∙ sym (ap (fault_at l.statement) here)) told

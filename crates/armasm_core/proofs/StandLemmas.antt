@@ -109,7 +109,7 @@ not_kept (Some contents.Code) e = absurd (cc)
 not_kept (Some contents.Data) e = absurd (cc)
 not_kept (Some contents.Zeroes) e = refl
 
-thing_inside : (ss : List Statement) → layout_faults ss ≡ None → AreOfState ss → (area : ℕ) (a : LaidArea) → IsArea (laid ss) area a → (p : Piece)
+thing_inside : (ss : List Statement) → layout_faults ss ≡ [] → AreOfState ss → (area : ℕ) (a : LaidArea) → IsArea (laid ss) area a → (p : Piece)
     → StandsIn (source_of ss) area p
     → p.0 + length (unit_bytes p.1) ≤ kept_size a.attributes a.size
 thing_inside ss sound states area a is p x = by_zeroes (marks_zeroes a.attributes) refl

@@ -1,19 +1,19 @@
 -- Where a program begins by its source: at the source's one line ENTRY (SDT 2.50 Reference Guide, chapter on the assembler).
-use Rattle.std.specs.Prelude.{◌≡◌, ℕ, ◌+◌, Bool, true, false, List, slice_get, Option, Some, None, Ok}
+use Rattle.std.specs.Prelude.{◌≡◌, ℕ, ◌+◌, Bool, true, false, List, [], slice_get, Option, Some, None, Ok}
 use Rattle.std.specs.Option.{option_map_or}
 use Rattle.aof_object.specs.declared.records.Entry.{Entry}
 use Rattle.aof_object.specs.declared.records.Object.{Object}
 use Rattle.aof_object.specs.Flags.{is_thumb_area}
 use Rattle.asm_model.specs.declared.directives.DirectiveLine.TheVariants as line
 use Rattle.asm_model.specs.declared.lines.Flat.{Flat}
+use Rattle.asm_model.specs.declared.statements.Statement.{Statement}
 use Rattle.asm_model.specs.declared.statements.What.TheVariants as what
-use Rattle.asm_model.specs.Laid.{LaidLine}
-use Rattle.asm_reading.specs.declared.flat_lines.Reading.{Reading}
-use Rattle.asm_reading.specs.FlatLines.{IsReading}
+use Rattle.asm_model.specs.Laid.{LaidLine, reversed}
+use Rattle.asm_reading.specs.FlatLines.{AreRead}
 use Rattle.expand_model.specs.Expands.{Expands, Flats}
 use Rattle.expand_model.specs.Steps.{Sources, visit_limit}
 use Rattle.source_model.specs.Objects.{Source, At, source_of}
-use Rattle.armasm_core.specs.Assembling.{IsAssembled, said_by}
+use Rattle.armasm_core.specs.Assembling.{IsAssembled}
 
 abbrev pub IsEntryLine : LaidLine → Type 0
 IsEntryLine l = l.statement.what ≡ what.Directive line.Entry
@@ -39,7 +39,7 @@ BeginsIn false s bases entry thumb = (l : LaidLine) → At s l → IsEntryLine l
 abbrev pub SourceBegins : Bool → Sources → List ℕ → List ℕ → (ℕ → ℕ) → ℕ → Bool → Type 0
 SourceBegins has sources name text bases entry thumb =
     (flats : List Flat) → Expands sources visit_limit name text (Flats flats)
-    → (r : Reading) → IsReading flats r → BeginsIn has (source_of (said_by r)) bases entry thumb
+    → (statements : List Statement) → AreRead flats statements → BeginsIn has (source_of (reversed statements [])) bases entry thumb
 
 -- ---- the law
 

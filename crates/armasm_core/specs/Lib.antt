@@ -1,6 +1,7 @@
 -- What the clauses of the crate cite.
 pub mod Assembling
 pub mod Passes
+pub mod Telling
 pub mod Standing
 pub mod Beginning
 pub mod Building

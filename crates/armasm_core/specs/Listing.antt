@@ -1,5 +1,5 @@
 -- The symbols of a layout's lines, and the lines that are left. This project's.
-use Rattle.std.specs.Prelude.{◌≡◌, ℕ, List, ◌∷◌, None}
+use Rattle.std.specs.Prelude.{◌≡◌, ℕ, List, [], ◌∷◌}
 use Rattle.asm_layout.specs.Late.{AreOn}
 use Rattle.asm_laying.specs.Laying.{IsStatement}
 use Rattle.asm_layout.specs.Layout.{IsLayout, AreAreas}
@@ -19,7 +19,7 @@ use Rattle.armasm_core.specs.SourceTables.{AreSourceTables}
 pub record StandsThere (statements : List Statement) (areas : List LaidArea) (w : SourceTables) (before rest : List LaidLine) (l : LaidLine)
     (x : LaidStatement) : Type 0 where
   pub said : AllSaid statements
-  pub sound : layout_faults statements ≡ None
+  pub sound : layout_faults statements ≡ []
   pub laid_out : AreAreas (laid statements) areas
   pub whole : AreSourceTables statements areas w
   pub parts : laid statements ≡ reversed rest (l ∷ before)
@@ -33,7 +33,7 @@ needed_by statements l = symbols_in (final_names (laid statements)) l.line (take
 pub record IsListable (statements : List Statement) (l : Layout) (w : SourceTables) : Type 0 where
   pub layout : IsLayout statements l
   pub said : AllSaid statements
-  pub sound : layout_faults statements ≡ None
+  pub sound : layout_faults statements ≡ []
   pub whole : AreSourceTables statements l.areas w
 
 -- of a source's lines these are left, and the symbols of those before are listed

@@ -3,20 +3,20 @@ use Rattle.std.specs.Prelude.{◌≡◌, ◌<◌, ◌^◌, List, [], ◌∷◌, 
 use Rattle.sdt_fault.specs.declared.answer.Fault.{Fault}
 use Rattle.asm_instructions.specs.Fits.{Fits}
 use Rattle.asm_instructions.specs.ThumbFits.{ThumbFits}
-use Rattle.asm_layout.specs.Layout.{IsTold}
 use Rattle.asm_model.specs.declared.statements.Statement.{Statement}
 use Rattle.asm_units.specs.declared.emitted.LineUnits.{LineUnits}
 use Rattle.asm_units.specs.Emitting.{emitted_of, units_in}
 use Rattle.asm_model.specs.Kinds.{told_kind}
 use Rattle.asm_model.specs.Labels.{defined_by}
 use Rattle.asm_model.specs.Laid.{LaidLine}
-use Rattle.asm_model.specs.LayoutKinds.{told_at}
 use Rattle.asm_model.specs.Marks.{datum_names}
 use Rattle.source_model.specs.Objects.{pieces_in, units_from}
 use Rattle.source_model.specs.Registers.{named_by}
+use Rattle.source_model.specs.SourceFaults.{fault_at}
 use Rattle.source_model.specs.Units.{Emitted, Instruction, Half, LinkPair}
 use Rattle.armasm_core.specs.Giving.{gives}
 use Rattle.armasm_core.specs.SourceTables.{context_there, kinds_at, word_there}
+use Rattle.armasm_core.specs.Telling.{IsTold}
 
 -- an instruction has a word, a half-word or two
 abbrev pub UnitFits : Emitted → Type 0
@@ -41,4 +41,4 @@ pub record IsPut (statements : List Statement) (before rest : List LaidLine) (l 
 -- what the line puts, or the refusal of the line, or want of memory
 abbrev pub IsPassed : List Statement → List LaidLine → List LaidLine → LaidLine → Result LineUnits Fault → Type 0
 IsPassed statements before rest l (Ok u) = IsPut statements before rest l u
-IsPassed statements before rest l (Err f) = IsTold (told_at l.statement (told_kind (kinds_at statements before l rest))) f
+IsPassed statements before rest l (Err f) = IsTold (fault_at l.statement (told_kind (kinds_at statements before l rest))) f

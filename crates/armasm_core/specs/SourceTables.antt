@@ -1,5 +1,5 @@
 -- What all lines of a layout share, and a line among them. This project's.
-use Rattle.std.specs.Prelude.{◌≡◌, ℕ, List, ◌∷◌, map, Option, None}
+use Rattle.std.specs.Prelude.{◌≡◌, ℕ, List, [], ◌∷◌, map, Option}
 use Rattle.sdt_fault.specs.declared.kinds.LineKind.{LineKind}
 use Rattle.asm_laying.specs.Laying.{IsStatement}
 use Rattle.asm_layout.specs.Layout.{AreAreas}
@@ -53,7 +53,7 @@ ShowsLine statements before rest l y w =
 pub record IsHere (statements : List Statement) (areas : List LaidArea) (w : SourceTables) (known : List Named)
     (before rest : List LaidLine) (l : LaidLine) (x : LaidStatement) : Type 0 where
   pub said : AllSaid statements
-  pub sound : layout_faults statements ≡ None
+  pub sound : layout_faults statements ≡ []
   pub laid_out : AreAreas (laid statements) areas
   pub whole : AreSourceTables statements areas w
   pub parts : laid statements ≡ reversed rest (l ∷ before)

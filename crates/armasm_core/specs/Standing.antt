@@ -1,12 +1,13 @@
 -- Wherever the object of a source is placed, the statements that its flat lines say stand. This project's.
-use Rattle.std.specs.Prelude.{ℕ, ◌^◌, ◌<◌, ◌≤◌, List, length, Option, Some, None, Ok}
+use Rattle.std.specs.Prelude.{ℕ, ◌^◌, ◌<◌, ◌≤◌, List, [], length, Option, Some, None, Ok}
 use Rattle.sdt_word.specs.declared.ranges.Range32.{Range32}
 use Rattle.sdt_outside.specs.Files.{Files, content}
 use Rattle.aof_object.specs.declared.records.Object.{Object}
 use Rattle.aof_object.specs.Validity.{IsValid}
 use Rattle.asm_model.specs.declared.lines.Flat.{Flat}
-use Rattle.asm_reading.specs.declared.flat_lines.Reading.{Reading}
-use Rattle.asm_reading.specs.FlatLines.{IsReading}
+use Rattle.asm_model.specs.declared.statements.Statement.{Statement}
+use Rattle.asm_model.specs.Laid.{reversed}
+use Rattle.asm_reading.specs.FlatLines.{AreRead}
 use Rattle.expand_model.specs.Expands.{Expands, Flats}
 use Rattle.expand_model.specs.Steps.{Sources, visit_limit}
 use Rattle.patch_model.specs.Fields.{Values}
@@ -14,12 +15,13 @@ use Rattle.patch_model.specs.Reaches.{View}
 use Rattle.source_model.specs.Objects.{source_of}
 use Rattle.stand_model.specs.Placed.{HoldsWherePlaced}
 use Rattle.stand_model.specs.Stands.{AllStand}
-use Rattle.armasm_core.specs.Assembling.{said_by, FlatsMake}
+use Rattle.armasm_core.specs.Assembling.{FlatsMake}
 
 -- what flat lines say stands in a view of memory, for these values of the symbols of their object and with each area in its
 -- region
 abbrev pub FlatsStand : List Flat → Values → View → (ℕ → Range32) → Type 0
-FlatsStand flats values view region = (r : Reading) → IsReading flats r → AllStand (source_of (said_by r)) values view region
+FlatsStand flats values view region =
+    (statements : List Statement) → AreRead flats statements → AllStand (source_of (reversed statements [])) values view region
 
 -- what the lines say to which a source expands with these files
 abbrev pub SourceStands : Sources → List ℕ → List ℕ → Values → View → (ℕ → Range32) → Type 0

@@ -1,21 +1,20 @@
 //! Sources without an AREA.
 
-ghost use Rattle.std.specs.Prelude.{◌≡◌, ◌==◌, ◌&&◌, ℕ, List, Option, Some, None, if◌then◌else◌};
+ghost use Rattle.std.specs.Prelude.{◌≡◌, ◌==◌, ◌&&◌, ◌∷◌, IfOk};
 ghost use Rattle.std.specs.List.{list_any};
-ghost use Rattle.sdt_fault.specs.declared.kinds.LineKind.TheVariants as kind_of;
-ghost use Rattle.sdt_fault.specs.declared.refusal.Refusal.{Refusal as Told};
+ghost use Rattle.sdt_fault.specs.declared.refusal.Refusal.TheVariants.{BadLine};
+ghost use Rattle.asm_layout.specs.Layout.{faults_in};
 ghost use Rattle.asm_model.specs.Forms.{same};
-ghost use Rattle.asm_model.specs.Kinds as kinds;
 ghost use Rattle.armasm_core.specs.Assembling as assembling;
-ghost use Rattle.armasm_core.specs.Passes.{IsToldAs};
 
+use crate::telling::add_refusals;
 use asm_expr::kinds::earlier;
-use asm_model::{Flat, bad_line, is_called};
+use asm_layout::LineFault;
+use asm_model::{Flat, is_called};
 use asm_variables::line_fields::words_of;
-use sdt_fault::Text;
-use sdt_fault::answer::Fault;
 use sdt_fault::kinds::LineKind;
 use sdt_fault::refusal::Refusal;
+use sdt_fault::{NoMemory, Text};
 use std::alloc::Global;
 
 /// Whether a line's operation is AREA, also where the line can't be read.
@@ -32,37 +31,51 @@ pub fn has_area(flats: &[Flat]) -> bool
     flats.iter().any(|flat| says_area(flat))
 }
 
-/// What is told of line 1 of a source, where this is told of the line of this number of a file.
-fn kind_beside(source: &Text, file: &Text, number: u32, kind: LineKind) -> LineKind
-    ensures { result ≡ (if same file.now source.now && number == 1
-        then kinds.earlier kind_of.NoArea kind else kind_of.NoArea) }
+/// Whether a faulty line is line 1 of the source.
+fn is_first_line(source: &Text, fault: &LineFault<'_>) -> bool
+    ensures { result ≡ (same fault.now.statement.now.source source.now
+        && fault.now.statement.now.number == 1) }
 {
-    if file == source && number == 1 {
-        return earlier(LineKind::NoArea, kind);
-    }
-    LineKind::NoArea
+    fault.statement.source.as_text() == source && fault.statement.number == 1
 }
 
-/// The refusal of a source without an AREA that has no other fault of reading and layout.
-pub fn area_missing(alloc: Global, source: &Text) -> Fault
-    ensures { IsToldAs (Some (assembling.without_area source.now None)) result }
+/// The refusal of line 1 of a source, and those of faulty lines behind it.
+fn led_by(
+    alloc: Global,
+    source: &Text,
+    kind: LineKind,
+    faults: &[LineFault<'_>],
+) -> Result<Vec<Refusal>, NoMemory>
+    ensures { IfOk result (λ refusals. refusals.items
+        ≡ BadLine source.now 1 kind ∷ assembling.refusals_at (faults_in faults.now)) }
 {
-    bad_line(alloc, source, 1, LineKind::NoArea)
+    let first = Refusal::BadLine {
+        source: source.try_clone(alloc)?,
+        line: 1,
+        kind,
+    };
+    let mut refusals = Vec::new(alloc);
+    refusals.push(first)?;
+    add_refusals(alloc, &mut refusals, faults)?;
+    Ok(refusals)
 }
 
-/// The refusal of a source without an AREA that has this first fault of reading and layout, which is BadLine.
-pub fn area_missing_beside(alloc: Global, source: &Text, fault: Fault) -> Fault
-    ensures { (told : Option Told) → IsToldAs told fault
-        → IsToldAs (Some (assembling.without_area source.now told)) result }
+/// The refusals of a source without an AREA whose faulty lines are these beside.
+pub fn area_missing_beside(
+    alloc: Global,
+    source: &Text,
+    faults: &[LineFault<'_>],
+) -> Result<Vec<Refusal>, NoMemory>
+    ensures { IfOk result (λ refusals. refusals.items
+        ≡ assembling.without_area source.now (assembling.refusals_at (faults_in faults.now))) }
 {
-    match fault {
-        Fault::Refused(
-            Refusal::BadLine {
-                source: file,
-                line,
-                kind,
-            },
-        ) => bad_line(alloc, source, 1, kind_beside(source, &file, line, kind)),
-        _ => Fault::NoMemory,
+    match faults {
+        [] => led_by(alloc, source, LineKind::NoArea, faults),
+        [first, rest @ ..] => {
+            if is_first_line(source, first) {
+                return led_by(alloc, source, earlier(LineKind::NoArea, first.kind), rest);
+            }
+            led_by(alloc, source, LineKind::NoArea, faults)
+        }
     }
 }

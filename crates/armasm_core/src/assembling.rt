@@ -1,8 +1,9 @@
 //! One source to one object.
 
-ghost use Rattle.std.specs.Prelude.{◌+◌, ◌<◌, ◌≡◌, ◌≤◌, ◌^◌, IfErr, IfOk, length};
+ghost use Rattle.std.specs.Prelude.{◌+◌, ◌<◌, ◌≡◌, ◌≤◌, ◌^◌, [], IfErr, IfOk, length};
 ghost use Rattle.aof_object.specs.Validity.{IsValid};
 ghost use Rattle.sdt_outside.specs.Counts.{Rose};
+ghost use Rattle.asm_model.specs.Laid.{reversed};
 ghost use Rattle.asm_model.specs.Said.{AllSaid};
 ghost use Rattle.asm_laying.specs.Carried.{most_statements};
 ghost use Rattle.asm_reading.specs.Laws.{AreFit};
@@ -14,11 +15,12 @@ ghost use Rattle.armasm_core.specs.Standing.{StandsFrom};
 use crate::emit;
 use crate::laws::{objects_of_flats_are_valid, objects_of_flats_stand};
 use crate::source_layout::laid_out;
+use crate::telling::first_told;
 use aof_object::Object;
 use asm_expand::expand;
-use asm_model::Flat;
+use asm_model::{Flat, Statement};
 use asm_reading::laws::readings_are_fit;
-use asm_reading::{Reading, read_lines};
+use asm_reading::read_lines;
 use expand_model::expansion_law;
 use sdt_fault::Text;
 use sdt_fault::answer::Fault;
@@ -35,17 +37,19 @@ fn object_of(
     alloc: Global,
     source: &Text,
     flats: &[Flat],
-    reading: Reading,
+    statements: &[Statement],
 ) -> Result<Object, Fault>
-    requires few { length reading.statements.items < most_statements + 1 }
-    requires said { AllSaid reading.statements.items }
-    requires fit { AreFit (assembling.said_by reading) }
-    ensures made { Makes source.now flats.now reading result }
+    requires few { length statements.now < most_statements + 1 }
+    requires said { AllSaid statements.now }
+    requires fit { AreFit (reversed statements.now []) }
+    ensures made { Makes source.now flats.now (reversed statements.now []) result }
     ensures few { IfOk result (λ object. length object.symbols < 2 ^ 24) }
 {
     sources_keep_states();
-    let layout = laid_out(alloc, source, flats, &reading)?;
-    emit(alloc, &layout)
+    match laid_out(alloc, source, flats, statements)? {
+        Ok(layout) => emit(alloc, &layout),
+        Err(refusals) => Err(first_told(refusals)),
+    }
 }
 
 /// The object of the flat lines of the source of this name, or their first fault.
@@ -55,8 +59,8 @@ fn assemble_flats(alloc: Global, source: &Text, flats: &[Flat]) -> Result<Object
     ensures few { IfOk result (λ object. length object.symbols < 2 ^ 24) }
 {
     readings_are_fit();
-    let reading = read_lines(alloc, flats)?;
-    object_of(alloc, source, flats, reading)
+    let statements = read_lines(alloc, flats)?;
+    object_of(alloc, source, flats, statements.as_slice())
 }
 
 /// Assembles the text of the source of this name, with the files that its GETs name. A refusal is `TooLarge` for a text of

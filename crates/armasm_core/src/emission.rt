@@ -1,6 +1,6 @@
 //! The object of a layout.
 
-ghost use Rattle.std.specs.Prelude.{◌≡◌, ◌<◌, ◌^◌, List as Items, None, length, map, IfOk};
+ghost use Rattle.std.specs.Prelude.{◌≡◌, ◌<◌, ◌^◌, List as Items, [], length, map, IfOk};
 ghost use Rattle.aof_object.specs.declared.records.Symbol.{Symbol as Record};
 ghost use Rattle.asm_layout.specs.Layout.{IsLayout};
 ghost use Rattle.asm_model.specs.declared.statements.Statement.{Statement};
@@ -80,7 +80,7 @@ fn few_records(
 ) -> Result<List<Symbol>, NoMemory>
     ensures few { IfOk result (λ records. length records < 2 ^ 24) }
     ensures records { IfOk result (λ records. (statements : Items Statement)
-        → IsLayout statements layout.now → layout_faults statements ≡ None
+        → IsLayout statements layout.now → layout_faults statements ≡ []
         → AreSourceTables statements layout.now.areas whole.now → symbols.now
         ≡ needs.symbols_of (final_names (laid statements)) (laid statements) → records
         ≡ symbol_records (source_of statements)) }
@@ -142,7 +142,7 @@ fn object_of(alloc: Global, layout: &Layout<'_>) -> Result<Object, Fault>
     requires said { AllLaidSaid layout.now.statements }
     requires source { HasSource layout.now }
     ensures emitted { (statements : Items Statement) → IsLayout statements layout.now
-        → AllSaid statements → layout_faults statements ≡ None → AreOfState statements
+        → AllSaid statements → layout_faults statements ≡ [] → AreOfState statements
         → IsEmitted statements result }
     ensures few { IfOk result (λ o. length o.symbols < 2 ^ 24) }
 {
@@ -158,12 +158,12 @@ fn object_of(alloc: Global, layout: &Layout<'_>) -> Result<Object, Fault>
 pub fn emit(alloc: Global, layout: &Layout<'_>) -> Result<Object, Fault>
     requires source { HasSource layout.now }
     ensures emitted { (statements : Items Statement) → IsLayout statements layout.now
-        → AllSaid statements → layout_faults statements ≡ None → AreOfState statements
+        → AllSaid statements → layout_faults statements ≡ [] → AreOfState statements
         → IsEmitted statements result }
     ensures few { IfOk result (λ o. length o.symbols < 2 ^ 24) }
     ensures stands { IfOk result (λ o. (statements : Items Statement)
         → IsLayout statements layout.now → AllSaid statements → AllNamed statements
-        → AllLoadsNamed statements → layout_faults statements ≡ None → AreOfState statements
+        → AllLoadsNamed statements → layout_faults statements ≡ [] → AreOfState statements
         → StandsWherever statements o) }
 {
     objects_stand();

@@ -1,6 +1,6 @@
 //! What the records of symbols say of a layout.
 
-ghost use Rattle.std.specs.Prelude.{◌≡◌, List, None, map, IfOk};
+ghost use Rattle.std.specs.Prelude.{◌≡◌, List, [], map, IfOk};
 ghost use Rattle.asm_layout.specs.Layout.{IsLayout};
 ghost use Rattle.asm_model.specs.declared.statements.Statement.{Statement};
 ghost use Rattle.asm_layout.specs.declared.laid.LaidArea.{LaidArea as Area};
@@ -32,7 +32,7 @@ fn codes_of(alloc: Global, areas: &[LaidArea]) -> Result<Vec<bool>, NoMemory>
 /// Of each area of a layout whether it holds code.
 pub fn code_of(alloc: Global, layout: &Layout<'_>) -> Result<Vec<bool>, NoMemory>
     ensures { IfOk result (λ code. (statements : List Statement) → IsLayout statements layout.now
-        → layout_faults statements ≡ None → IsCode statements code.items) }
+        → layout_faults statements ≡ [] → IsCode statements code.items) }
 {
     let code = codes_of(alloc, layout.areas.as_slice())?;
     Ok(code)

@@ -1,6 +1,6 @@
 //! Laws of the definitions, each proved as the contract of an empty function.
 
-ghost use Rattle.armasm_core.specs.Assembling.{OneAssembly};
+ghost use Rattle.armasm_core.specs.Assembling.{FirstIsTold, OneAssembly};
 ghost use Rattle.armasm_core.specs.Beginning.{SourcesBegin};
 ghost use Rattle.armasm_core.specs.Standing.{ObjectsOfFlatsAreValid, ObjectsOfFlatsStand};
 
@@ -17,6 +17,14 @@ pub fn one_assembly()
     expansion_law();
     one_reading();
     one_object();
+}
+
+/// The first of all refusals of a source is the one that its assembly tells, and a source without any has an object.
+pub fn first_is_told()
+    ensures { FirstIsTold }
+{
+    expansion_law();
+    one_reading();
 }
 
 /// Wherever the object of flat lines is placed, their statements stand.

@@ -24,6 +24,7 @@ mod source_layout;
 pub mod source_tables;
 pub mod symbols;
 mod tables;
+mod telling;
 mod writing;
 
 pub use crate::assembling::{MOST_BYTES, assemble};

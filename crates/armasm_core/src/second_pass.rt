@@ -9,11 +9,11 @@ ghost use Rattle.armasm_core.specs.SourceTables.{IsHere};
 
 use crate::source_tables::SourceTables;
 use crate::tables::{loaded_of, tables_of};
+use crate::telling::told_of;
 use asm_instructions::laws::{
     instructions_fit, pseudo_instructions_fit, thumb_instructions_fit,
     thumb_pseudo_instructions_fit,
 };
-use asm_layout::telling::told_of;
 use asm_layout::{LaidArea, LaidStatement};
 use asm_sets::NameMap;
 use asm_units::{LineUnits, pass_two};

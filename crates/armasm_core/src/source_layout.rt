@@ -1,58 +1,57 @@
 //! The layout of what a source's lines say.
 
-ghost use Rattle.std.specs.Prelude.{◌+◌, ◌<◌, ◌≡◌, Some, length};
+ghost use Rattle.std.specs.Prelude.{◌≡◌, ◌+◌, ◌<◌, [], IfOk, length};
+ghost use Rattle.asm_model.specs.Laid.{reversed};
 ghost use Rattle.asm_model.specs.Said.{AllSaid};
 ghost use Rattle.asm_laying.specs.Carried.{most_statements};
-ghost use Rattle.armasm_core.specs.Assembling as assembling;
-ghost use Rattle.armasm_core.specs.Passes.{IsToldAs, LaysLines, LaysOut};
+ghost use Rattle.asm_layout.specs.Layout.{faults_in};
+ghost use Rattle.armasm_core.specs.Passes.{LaysOut, refusals_beside};
 
-use crate::area::{area_missing, area_missing_beside, has_area};
-use asm_layout::{Layout, front_fault, lay_out};
-use asm_model::{Flat, bad_line};
-use asm_reading::{Reading, Unread};
-use sdt_fault::Text;
-use sdt_fault::answer::Fault;
+use crate::area::{area_missing_beside, has_area};
+use crate::telling::add_refusals;
+use asm_layout::{Layout, LineFault, lay_out};
+use asm_model::{Flat, Statement};
+use sdt_fault::refusal::Refusal;
+use sdt_fault::{NoMemory, Text};
 use std::alloc::Global;
 
-fn unread_fault(alloc: Global, unread: &Unread) -> Fault
-    ensures { IsToldAs (Some (assembling.unread_told unread.now)) result }
+/// The refusals of faulty lines of these flat lines of the source of this name.
+fn refusals_of(
+    alloc: Global,
+    source: &Text,
+    flats: &[Flat],
+    faults: &[LineFault<'_>],
+) -> Result<Vec<Refusal>, NoMemory>
+    ensures { IfOk result (λ refusals. refusals.items
+        ≡ refusals_beside source.now flats.now (faults_in faults.now)) }
 {
-    bad_line(alloc, &unread.source, unread.number, unread.kind)
-}
-
-/// The layout of lines, or their first fault of reading and layout but for a missing AREA.
-fn laid_lines(alloc: Global, reading: &Reading) -> Result<Layout<'_>, Fault>
-    requires few { length reading.now.statements.items < most_statements + 1 }
-    requires said { AllSaid reading.now.statements.items }
-    ensures { LaysLines (assembling.said_by reading.now) reading.now.before
-        reading.now.unread result }
-{
-    let statements = reading.statements.as_slice();
-    match &reading.unread {
-        None => lay_out(alloc, statements),
-        Some(unread) => {
-            front_fault(alloc, statements, reading.before)?;
-            Err(unread_fault(alloc, unread))
-        }
+    if has_area(flats) {
+        let mut refusals = Vec::new(alloc);
+        add_refusals(alloc, &mut refusals, faults)?;
+        return Ok(refusals);
     }
+    area_missing_beside(alloc, source, faults)
 }
 
-/// The layout of the flat lines of a source of this name, of which this is a reading, or their first fault of reading and layout.
+/// The layout of the statements of a source of this name, of which these are the flat lines, or the refusals of its faulty
+/// lines of reading and layout.
 pub fn laid_out<'a>(
     alloc: Global,
     source: &Text,
     flats: &[Flat],
-    reading: &'a Reading,
-) -> Result<Layout<'a>, Fault>
-    requires few { length reading.now.statements.items < most_statements + 1 }
-    requires said { AllSaid reading.now.statements.items }
-    ensures { LaysOut source.now flats.now reading.now result }
+    statements: &'a [Statement],
+) -> Result<Result<Layout<'a>, Vec<Refusal>>, NoMemory>
+    requires few { length statements.now < most_statements + 1 }
+    requires said { AllSaid statements.now }
+    ensures { IfOk result (LaysOut source.now flats.now (reversed statements.now [])) }
 {
-    if has_area(flats) {
-        return laid_lines(alloc, reading);
-    }
-    match laid_lines(alloc, reading) {
-        Ok(_) => Err(area_missing(alloc, source)),
-        Err(fault) => Err(area_missing_beside(alloc, source, fault)),
+    match lay_out(alloc, statements)? {
+        Err(faults) => Ok(Err(refusals_of(alloc, source, flats, faults.as_slice())?)),
+        Ok(layout) => {
+            if has_area(flats) {
+                return Ok(Ok(layout));
+            }
+            Ok(Err(area_missing_beside(alloc, source, &[])?))
+        }
     }
 }

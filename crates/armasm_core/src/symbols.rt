@@ -1,6 +1,6 @@
 //! The symbols of an object.
 
-ghost use Rattle.std.specs.Prelude.{◌≡◌, List, None, IfOk, OnOk};
+ghost use Rattle.std.specs.Prelude.{◌≡◌, List, [], IfOk, OnOk};
 ghost use Rattle.asm_layout.specs.Layout.{IsLayout};
 ghost use Rattle.asm_model.specs.declared.statements.Statement.{Statement};
 ghost use Rattle.asm_model.specs.Laid as model;
@@ -56,7 +56,7 @@ pub fn symbols_of(
 ) -> Result<Symbols, NoMemory>
     requires said { AllLaidSaid layout.now.statements }
     ensures { IfOk result (λ symbols. (statements : List Statement)
-        → IsLayout statements layout.now → AllSaid statements → layout_faults statements ≡ None
+        → IsLayout statements layout.now → AllSaid statements → layout_faults statements ≡ []
         → AreSourceTables statements layout.now.areas whole.now → symbols
         ≡ needs.symbols_of (model.final_names (model.laid statements)) (model.laid statements)) }
 {

@@ -1,28 +1,28 @@
-use Rattle.armasm_core.proofs.FaultLemmas.{makes}
+use Rattle.std.proofs.Common.{[], subst}
+use Rattle.std.specs.Global.{Vec}
+use Rattle.std.specs.Prelude.{Result}
+use Rattle.sdt_fault.specs.declared.refusal.Refusal.{Refusal}
+use Rattle.asm_layout.specs.declared.laid.Layout.{Layout}
+use Rattle.asm_model.specs.Laid.{reversed}
+use Rattle.armasm_core.specs.Passes.{LaysOut}
 use Rattle.armasm_core.proofs.ListLemmas.{few_behind}
-use Rattle.armasm_core.specs.Assembling.{said_by}
 use Rattle.armasm_core.proofs.assembling.object_of.Goals as goal
 
 pub emit-requires : goal.emit-requires
 emit-requires c =
+    let ss = reversed c.args.statements.now [] in
     let fit = c.requires.fit in
-    let sound = c.in_ok-layout.ensures.1 in
+    let laid = subst (λ (r : Result Layout (Vec Refusal)). LaysOut c.args.source.now c.args.flats.now ss r) c.in-Ok.is c.in_ok-layout.ensures in
+    let sound = laid.1 in
     record {
       source = record {
-        statements = said_by c.args.reading;
+        statements = ss;
         layout = sound.layout;
         said = fit.said;
         texts = fit.texts;
         fit = fit.fit;
         sound = sound.none;
-        states = c.sources_keep_states.ensures (said_by c.args.reading) fit.states;
-        few = few_behind c.args.reading.statements.items c.requires.few;
+        states = c.sources_keep_states.ensures ss fit.states;
+        few = few_behind c.args.statements.now c.requires.few;
       };
     }
-
-pub returns-clause-made : goal.returns-clause-made
-returns-clause-made c =
-    let fit = c.requires.fit in
-    let sound = c.in_ok-layout.ensures.1 in
-    makes c.args.source.now c.args.flats.now c.args.reading c.emit.result c.in_ok-layout.ensures.0
-    (c.emit.ensures.emitted (said_by c.args.reading) sound.layout fit.said sound.none (c.sources_keep_states.ensures (said_by c.args.reading) fit.states))
