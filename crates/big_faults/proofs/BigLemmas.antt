@@ -5,12 +5,10 @@ use Rattle.std.specs.Fmt.{decimal}
 use Rattle.std.specs.List.{list_any}
 use Rattle.std.proofs.lemmas.Bool.{le-ltb, lt-ltb, false_from_ne_true}
 use Rattle.std.proofs.lemmas.Fmt.{decimal_injective}
-use Rattle.asm_model.specs.declared.directives.AreaAttributes.{AreaAttributes}
 use Rattle.asm_model.specs.declared.directives.Contents.{Contents}
 use Rattle.asm_model.specs.declared.directives.Contents.TheVariants as contents
 use Rattle.asm_model.specs.declared.directives.DirectiveLine.TheVariants as line
 use Rattle.asm_model.specs.declared.names.LaidName.{LaidName}
-use Rattle.asm_model.specs.declared.names.Names.{Names}
 use Rattle.asm_model.specs.declared.statements.Statement.{Statement}
 use Rattle.asm_model.specs.declared.statements.What.TheVariants as what
 use Rattle.sdt_fault.specs.declared.kinds.LineKind.{LineKind}
@@ -21,20 +19,19 @@ use Rattle.asm_model.specs.Kinds.{kind_if}
 use Rattle.asm_model.specs.Before.{area_behind, thumb_behind}
 use Rattle.asm_model.specs.Forms.{same}
 use Rattle.asm_model.specs.Labels.{declared_names}
-use Rattle.asm_model.specs.Laid.{LaidLine, laid, laid_of, laid_behind, pieces_of, statements_of, taken, aligned_end}
-use Rattle.asm_model.specs.LayoutKinds.{area_bytes, is_thumb_area, is_entry, names_behind, is_named_otherwise, settled, equals_in, layout_kinds, contents_behind, contents_kinds}
+use Rattle.asm_model.specs.Laid.{LaidLine, laid, laid_of, laid_behind, pieces_of, statements_of, taken, within, aligned_end, area_bytes}
+use Rattle.asm_model.specs.LayoutKinds.{is_thumb_area, is_entry, names_behind, first_named, settled, equals_in, layout_kinds, contents_behind, contents_kinds}
 use Rattle.asm_model.specs.Offsets.{Piece, raised, end_behind, waiting, area_size, size_behind}
 use Rattle.asm_model.proofs.OffsetLemmas.{end_rises}
 use Rattle.asm_model.proofs.WordLemmas.{same_true}
 use Rattle.source_model.specs.Registers.{register_names}
-use Rattle.source_model.specs.SourceFaults.{first_laid}
 use Rattle.big_model.specs.Sources.{label_of}
-use Rattle.big_model.specs.Statements.{stated, attributes, area_what, clear, give, leave, step_statements, data_statements, begun, code_part, data_part, big_statements}
+use Rattle.big_model.specs.Statements.{stated, area_what, clear, give, leave, step_statements, data_statements, begun, code_part, data_part, big_statements}
 use Rattle.big_faults.specs.Big.{BigHasNoFault}
-use Rattle.word_source.specs.Words.{AllWords, AllFresh, more, AreLaid}
+use Rattle.word_source.specs.Words.{AllWords, AllFresh, AllSound, more, Stand, AreLaid}
 use Rattle.word_source.proofs.WordLemmas.{same_statements, words_have_no_fault}
 use Rattle.word_source.specs.Words.{AllCalm}
-use Rattle.word_source.proofs.CalmLemmas.{calm_late, calm_have_no_fault, AllEnter, calm_area, no_entry}
+use Rattle.word_source.proofs.CalmLemmas.{calm_laid_out, calm_have_no_fault, AllEnter, calm_area, no_entry}
 use Rattle.big_faults.proofs.StatementLemmas.{step_calm, clear_calm, give_calm, leave_calm, datum_calm, area_calm, end_calm, entry_calm, step_takes, clear_takes, give_takes, leave_takes, datum_takes}
 
 -- ---- which statements there are
@@ -69,11 +66,11 @@ all_calm source n = (
 
 steps_are_words : (source : List ℕ) (at n : ℕ) → AllWords (step_statements source at n)
 steps_are_words source at zero = tt
-steps_are_words source at (suc k) = (step_takes (k % 256), refl, steps_are_words source at k)
+steps_are_words source at (suc k) = (step_takes (k % 256), refl, refl, steps_are_words source at k)
 
 data_are_words : (source : List ℕ) (at n : ℕ) → AllWords (data_statements source at n)
 data_are_words source at zero = tt
-data_are_words source at (suc k) = (datum_takes k, refl, data_are_words source at k)
+data_are_words source at (suc k) = (datum_takes k, refl, refl, data_are_words source at k)
 
 many_steps : (source : List ℕ) (at n : ℕ) → length (step_statements source at n) ≡ n
 many_steps source at zero = refl
@@ -126,9 +123,9 @@ entered d source own registers names_settled all self arm = record {
     contents = refl;
     thumb = refl;
     ends = λ b. rw self (by_test (0 == b));
-    unlike = λ name h s x. rw (or_parts (same name own) false h).0 refl;
+    unlike = λ name h. rw (or_parts (same name own) false h).0 refl;
   };
-  faultless = rw (self, arm) refl;
+  faultless = (refl, rw (self, arm) refl, refl, (refl, refl, refl, tt));
 }
   where
     by_test : (t : Bool) → cond t (raised (cond t (raised 0 1 + 0) 0) 4 + 0) (cond t (raised 0 1 + 0) 0) ≡ 0
@@ -145,14 +142,14 @@ code_laid d source registers names_settled all n arm few =
     let many = many_steps source 4 n in
     let one =
     words_have_no_fault d registers names_settled all (codes "big" ∷ []) 0 contents.Code (λ b. 0) (stated source 3 None clear ∷ []) _ tt
-    (entered d source (codes "big") registers names_settled all refl arm) (clear_takes, refl, tt) (refl, tt) (omega arith) in
+    (entered d source (codes "big") registers names_settled all refl arm) (clear_takes, refl, refl, tt) (refl, tt) (omega arith) in
     let two =
     words_have_no_fault d registers names_settled all (codes "big" ∷ []) 0 contents.Code (more 0 1 (λ b. 0)) (step_statements source 4 n) (begun source) tt
     one (steps_are_words source 4 n) (steps_fresh source 4 n (omega arith)) (omega arith) in
     let three =
     words_have_no_fault d registers names_settled all (codes "big" ∷ []) 0 contents.Code (more 0 (length (step_statements source 4 n)) (more 0 1 (λ b. 0)))
     (stated source (n + 5) None leave ∷ stated source (n + 4) None give ∷ []) (step_statements source 4 n ++ begun source) tt
-    two (leave_takes, refl, (give_takes, refl, tt)) (refl, (refl, tt)) (omega arith) in
+    two (leave_takes, refl, refl, (give_takes, refl, refl, tt)) (refl, (refl, tt)) (omega arith) in
     rw many at three
 
 -- ---- lines that take up nothing
@@ -165,9 +162,15 @@ ends_zero b a o r ps e eo er h = rw (eo, er, h) (by_test (a == b))
     by_test true = omega arith
     by_test false = refl
 
-zero_fits : (o : Option ℕ) (a : ℕ) (ps : List Piece) (thumb : Bool) (w : What) (n : ℕ) → o ≡ Some a → ((t : Bool) (l : List Value) → alignment t l w ≡ 1)
-    → end_behind a ps ≡ 4 * n → 4 * n ≤ 2 ^ 24 → nat_lt area_bytes (aligned_end o ps thumb w + size_behind o ps (Block 1 0)) ≡ false
-zero_fits o a ps thumb w n e al h few = rw (e, al thumb (waiting a ps), h) (le-ltb area_bytes (raised (4 * n) 1 + 0) (omega arith))
+zero_fits : (o : Option ℕ) (a : ℕ) (ps : List Piece) (thumb : Bool) (w : What) (r : Result Extent LineKind) (n : ℕ) → o ≡ Some a → r ≡ Ok (Block 1 0)
+    → ((t : Bool) (l : List Value) → alignment t l w ≡ 1) → end_behind a ps ≡ 4 * n → 4 * n ≤ 2 ^ 24
+    → nat_lt area_bytes (aligned_end o ps thumb w + size_behind o ps (taken r)) ≡ false
+zero_fits o a ps thumb w r n e er al h few = rw (er, e, al thumb (waiting a ps), h) (le-ltb area_bytes (raised (4 * n) 1 + 0) (omega arith))
+
+zero_extent : (o : Option ℕ) (a : ℕ) (ps : List Piece) (thumb : Bool) (w : What) (n : ℕ) → o ≡ Some a → ((t : Bool) (l : List Value) → alignment t l w ≡ 1)
+    → end_behind a ps ≡ 4 * n → 4 * n ≤ 2 ^ 24
+    → within (aligned_end o ps thumb w) (size_behind o ps (Block 1 0)) (Ok (Block 1 0)) ≡ Ok (Block 1 0)
+zero_extent o a ps thumb w n e al h few = rw (zero_fits o a ps thumb w (Ok (Block 1 0)) n e refl al h few) refl
 
 -- the second area
 pub second_laid : (d : List LaidName) (source : List ℕ) (at : ℕ) (registers names_settled : List (List ℕ)) (all : List Statement) (E : ℕ → ℕ)
@@ -182,10 +185,10 @@ second_laid d source at registers names_settled all E ss none h =
         areas = rw (h.stand.areas) refl;
         contents = refl;
         thumb = h.stand.thumb;
-        ends = λ b. ends_zero b 1 _ _ (pieces_of (laid_of d ss)) (4 * E b) there refl (h.stand.ends b);
+        ends = λ b. ends_zero b 1 _ _ (pieces_of (laid_of d ss)) (4 * E b) there extent (h.stand.ends b);
         unlike = unlike;
       };
-      faultless = rw (h.faultless, kinds) refl;
+      faultless = (refl, kinds, refl, h.faultless);
     }
   where
     here : area_behind (stated source at None (area_what (codes "bigrw") contents.Data false) ∷ ss) ≡ Some 1
@@ -194,27 +197,27 @@ second_laid d source at registers names_settled all E ss none h =
     there : area_behind (stated source at None (area_what (codes "bigrw") contents.Data false) ∷ statements_of (laid_of d ss)) ≡ Some 1
     there = rw (same_statements d ss) here
 
-    unlike : (name : List ℕ) → list_any (same name) (codes "big" ∷ codes "bigrw" ∷ []) ≡ false → (s : Names) (x : AreaAttributes)
-        → is_named_otherwise name s x (laid_of d (stated source at None (area_what (codes "bigrw") contents.Data false) ∷ ss)) ≡ false
-    unlike name k s x =
+    unlike : (name : List ℕ) → list_any (same name) (codes "big" ∷ codes "bigrw" ∷ []) ≡ false
+        → first_named name (laid_of d (stated source at None (area_what (codes "bigrw") contents.Data false) ∷ ss)) ≡ None
+    unlike name k =
         let p = or_parts (same name (codes "big")) (same name (codes "bigrw") || false) k in
         let q = or_parts (same name (codes "bigrw")) false p.1 in
-        rw (q.0) (h.stand.unlike name (rw (p.0) refl) s x)
+        rw (h.stand.unlike name (rw (p.0) refl), q.0) refl
+
+    extent : (laid_behind d (stated source at None (area_what (codes "bigrw") contents.Data false)) (laid_of d ss)).extent ≡ Ok (Block 1 0)
+    extent = zero_extent (area_behind (stated source at None (area_what (codes "bigrw") contents.Data false) ∷ statements_of (laid_of d ss))) 1
+        (pieces_of (laid_of d ss)) (thumb_behind (statements_of (laid_of d ss))) (area_what (codes "bigrw") contents.Data false) (E 1) there (λ t l. refl)
+        (h.stand.ends 1) (omega (arith, none))
 
     fits : nat_lt area_bytes ((laid_behind d (stated source at None (area_what (codes "bigrw") contents.Data false)) (laid_of d ss)).offset
         + (laid_behind d (stated source at None (area_what (codes "bigrw") contents.Data false)) (laid_of d ss)).size) ≡ false
     fits = zero_fits (area_behind (stated source at None (area_what (codes "bigrw") contents.Data false) ∷ statements_of (laid_of d ss))) 1
-        (pieces_of (laid_of d ss)) (thumb_behind (statements_of (laid_of d ss))) (area_what (codes "bigrw") contents.Data false) (E 1) there (λ t l. refl)
-        (h.stand.ends 1) (omega (arith, none))
+        (pieces_of (laid_of d ss)) (thumb_behind (statements_of (laid_of d ss))) (area_what (codes "bigrw") contents.Data false) _ (E 1) there extent
+        (λ t l. refl) (h.stand.ends 1) (omega (arith, none))
 
     kinds : layout_kinds names_settled all (laid_behind d (stated source at None (area_what (codes "bigrw") contents.Data false)) (laid_of d ss))
         (laid_of d ss) ≡ []
-    kinds =
-        rw (
-          fits,
-          h.stand.unlike (codes "bigrw") refl (laid_behind d (stated source at None (area_what (codes "bigrw") contents.Data false))
-              (laid_of d ss)).seen (attributes contents.Data false),
-        ) refl
+    kinds = rw (fits, extent, h.stand.unlike (codes "bigrw") refl) refl
 
 -- the last line, in an area of any contents
 end_contents : (c : Contents) (thumb : Bool) → contents_kinds (Some c) thumb (what.Directive line.End) ≡ []
@@ -222,11 +225,18 @@ end_contents contents.Code thumb = refl
 end_contents contents.Data thumb = refl
 end_contents contents.Zeroes thumb = refl
 
+pub end_extent : (d : List LaidName) (source : List ℕ) (at : ℕ) (names : List (List ℕ)) (a : ℕ) (c : Contents) (E : ℕ → ℕ) (ss : List Statement)
+    → 4 * E a ≤ 2 ^ 24 → Stand d names a c E ss → (laid_behind d (stated source at None (what.Directive line.End)) (laid_of d ss)).extent ≡ Ok (Block 1 0)
+end_extent d source at names a c E ss few h =
+    let there : area_behind (statements_of (laid_of d ss)) ≡ Some a = rw (same_statements d ss) h.area in
+    zero_extent (area_behind (statements_of (laid_of d ss))) a (pieces_of (laid_of d ss)) (thumb_behind (statements_of (laid_of d ss)))
+    (what.Directive line.End) (E a) there (λ t l. refl) (h.ends a) few
+
 pub end_laid : (d : List LaidName) (source : List ℕ) (at : ℕ) (registers names_settled : List (List ℕ)) (all : List Statement) (names : List (List ℕ)) (a : ℕ)
     (c : Contents) (E : ℕ → ℕ)
     (ss : List Statement) → 4 * E a ≤ 2 ^ 24 → AreLaid d registers names_settled all names a c E ss
-    → first_laid registers names_settled all (laid_of d (stated source at None (what.Directive line.End) ∷ ss)) ≡ None
-end_laid d source at registers names_settled all names a c E ss few h = rw (h.faultless, kinds) refl
+    → AllSound registers names_settled all (laid_of d (stated source at None (what.Directive line.End) ∷ ss))
+end_laid d source at registers names_settled all names a c E ss few h = (refl, kinds, refl, h.faultless)
   where
     there : area_behind (statements_of (laid_of d ss)) ≡ Some a
     there = rw (same_statements d ss) h.stand.area
@@ -234,13 +244,16 @@ end_laid d source at registers names_settled all names a c E ss few h = rw (h.fa
     holds : contents_behind (statements_of (laid_of d ss)) ≡ Some c
     holds = rw (same_statements d ss) h.stand.contents
 
+    extent : (laid_behind d (stated source at None (what.Directive line.End)) (laid_of d ss)).extent ≡ Ok (Block 1 0)
+    extent = end_extent d source at names a c E ss few h.stand
+
     fits : nat_lt area_bytes ((laid_behind d (stated source at None (what.Directive line.End)) (laid_of d ss)).offset
         + (laid_behind d (stated source at None (what.Directive line.End)) (laid_of d ss)).size) ≡ false
     fits = zero_fits (area_behind (statements_of (laid_of d ss))) a (pieces_of (laid_of d ss)) (thumb_behind (statements_of (laid_of d ss)))
-        (what.Directive line.End) (E a) there (λ t l. refl) (h.stand.ends a) few
+        (what.Directive line.End) _ (E a) there extent (λ t l. refl) (h.stand.ends a) few
 
     kinds : layout_kinds names_settled all (laid_behind d (stated source at None (what.Directive line.End)) (laid_of d ss)) (laid_of d ss) ≡ []
-    kinds = rw (fits, there, holds, end_contents c (thumb_behind (statements_of (laid_of d ss)))) refl
+    kinds = rw (fits, extent, there, holds, end_contents c (thumb_behind (statements_of (laid_of d ss)))) refl
 
 -- ---- where ENTRY stands
 
@@ -309,11 +322,13 @@ big_has_no_fault source n few =
     let last : area_behind (statements_of (laid_of d (data_part source n))) ≡ Some 1 = rw (same_statements d (data_part source n)) words.stand.area in
     let size : 0 < area_size 0 (pieces_of (laid all)) =
     some_size (pieces_of (laid all)) (more 1 (length (data_statements source (n + 7) n)) (code_ends n) 0)
-    (ends_zero 0 1 _ _ (pieces_of (laid_of d (data_part source n))) _ last refl (words.stand.ends 0)) (omega arith) in
+    (ends_zero 0 1 _ _ (pieces_of (laid_of d (data_part source n))) _ last
+    (end_extent d source (n + n + 7) (codes "big" ∷ codes "bigrw" ∷ []) 1 contents.Data _ (data_part source n) (omega arith) words.stand)
+    (words.stand.ends 0)) (omega arith) in
     let enter =
     enter_on (laid all) d (stated source (n + n + 7) None (what.Directive line.End) ∷ data_statements source (n + 7) n) _ (refl, data_enter source (n + 7) n)
     (enter_on (laid all) d
     (stated source (n + 6) None (area_what (codes "bigrw") contents.Data false) ∷ stated source (n + 5) None leave ∷ stated source (n + 4) None give
     ∷ step_statements source 4 n)
     (begun source) (refl, (refl, (refl, steps_enter source 4 n))) (begun_enter (laid all) d source size)) in
-    (rw (first, calm_late all calm enter) refl, calm_have_no_fault all calm)
+    (calm_laid_out all calm first enter, calm_have_no_fault all calm)

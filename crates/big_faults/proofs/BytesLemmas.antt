@@ -1,5 +1,5 @@
 -- The bytes of the object of a generated source.
-use Rattle.std.proofs.Common.{◌≡◌, ℕ, zero, suc, ◌+◌, ◌*◌, ◌%◌, ◌<◌, List, [], ◌∷◌, ◌++◌, length, map, take, drop, Bool, true, false, cond, refl, sym, ◌∙◌, ap, subst, arith, eq-eqb, drop-drop, length-drop, Option, Some, None, inl, inr}
+use Rattle.std.proofs.Common.{◌≡◌, ℕ, zero, suc, ◌+◌, ◌*◌, ◌%◌, ◌<◌, ◌≤◌, ◌^◌, List, [], ◌∷◌, ◌++◌, length, map, take, drop, Bool, true, false, cond, refl, sym, ◌∙◌, ap, subst, arith, eq-eqb, drop-drop, length-drop, Option, Some, None, inl, inr}
 use Rattle.std.specs.Prelude.{Result, Ok, codes}
 use Rattle.std.specs.List.{range_with_len}
 use Rattle.std.proofs.lemmas.Bool.{cases_lt}
@@ -144,30 +144,34 @@ grown_is : (area : ℕ) (E : ℕ → ℕ) (m : ℕ) → grown area E m area ≡ 
 grown_is area E zero = omega arith
 grown_is area E (suc m) = more_same area 1 (grown area E m) ∙ omega (arith, grown_is area E m)
 
+-- so few words fit
+grown_few : (area : ℕ) (E : ℕ → ℕ) (m : ℕ) → E area + m ≤ 60000 → 4 * (grown area E m area + 1) ≤ 2 ^ 24
+grown_few area E m few = omega (arith, grown_is area E m)
+
 abbrev first_lines : List ℕ → List Statement
 first_lines source = stated source 2 None (what.Directive line.Entry) ∷ stated source 1 None (area_what (codes "big") contents.Code true) ∷ []
 
 module _ (s : Source) (d : List LaidName) (source : List ℕ) (names : List (List ℕ)) (start : Stand d names 0 contents.Code (λ b. 0) (first_lines source)) where
   begun_stand : Stand d names 0 contents.Code (grown 0 (λ b. 0) 1) (begun source)
-  begun_stand = stand_on d names 0 contents.Code (λ b. 0) (stated source 3 None clear) (first_lines source) clear_takes start
+  begun_stand = stand_on d names 0 contents.Code (λ b. 0) (stated source 3 None clear) (first_lines source) clear_takes start (omega arith)
 
-  steps_stand : (m : ℕ) → Stand d names 0 contents.Code (grown 0 (λ b. 0) (suc m)) (step_statements source 4 m ++ begun source)
-  steps_stand zero = begun_stand
-  steps_stand (suc m) = stand_on d names 0 contents.Code (grown 0 (λ b. 0) (suc m)) (stated source (4 + m) (Some (label_of m)) (step_what (m % 256))) _
-      (step_takes (m % 256)) (steps_stand m)
+  steps_stand : (m : ℕ) → m ≤ 50000 → Stand d names 0 contents.Code (grown 0 (λ b. 0) (suc m)) (step_statements source 4 m ++ begun source)
+  steps_stand zero few = begun_stand
+  steps_stand (suc m) few = stand_on d names 0 contents.Code (grown 0 (λ b. 0) (suc m)) (stated source (4 + m) (Some (label_of m)) (step_what (m % 256))) _
+      (step_takes (m % 256)) (steps_stand m (omega arith)) (grown_few 0 (λ b. 0) (suc m) (omega arith))
 
-  step_below : (n k : ℕ) → k < n → Below s 0 d (step_statements source 4 n ++ begun source) (4 * (k + 1), Instruction (add_of (k % 256)) None)
-  step_below zero k lt = absurd (omega arith)
-  step_below (suc m) k lt = elim (cases_lt k m) [
+  step_below : (n k : ℕ) → n ≤ 50000 → k < n → Below s 0 d (step_statements source 4 n ++ begun source) (4 * (k + 1), Instruction (add_of (k % 256)) None)
+  step_below zero k few lt = absurd (omega arith)
+  step_below (suc m) k few lt = elim (cases_lt k m) [
     | inl less ↦ below_more s 0 d (stated source (4 + m) (Some (label_of m)) (step_what (m % 256)) ∷ []) (step_statements source 4 m ++ begun source) _
-        (step_below m k less)
+        (step_below m k (omega arith) less)
     | inr above ↦ (
         let same : m ≡ k = omega arith in
         let at : 4 * grown 0 (λ b. 0) (suc m) 0 ≡ 4 * (m + 1) = omega (arith, grown_is 0 (λ b. 0) (suc m)) in
         let P : ℕ → Type 0 = λ x. Below s 0 d (step_statements source 4 (suc m) ++ begun source) (4 * (x + 1), Instruction (add_of (x % 256)) None) in
         subst P same
         (below_here s d names 0 (4 * (m + 1)) contents.Code (grown 0 (λ b. 0) (suc m)) (stated source (4 + m) (Some (label_of m)) (step_what (m % 256))) _ _
-        (step_takes (m % 256)) (steps_stand m) at
+        (step_takes (m % 256)) (steps_stand m (omega arith)) at
         (step_puts (m % 256) (omega arith))))
   ]
 
@@ -178,46 +182,49 @@ module _ (s : Source) (d : List LaidName) (source : List ℕ) (names : List (Lis
       (below_more s 0 d (step_statements source 4 n) (begun source) (0, Instruction (instr.DataImmediate condition.Al operation.Mov false 0 4 0 0) None)
       (below_here s d names 0 0 contents.Code (λ b. 0) (stated source 3 None clear) (first_lines source) _ clear_takes start refl clear_puts))
 
-  steps_below : (n k : ℕ) → k < n → Below s 0 d (code_part source n) (4 * (k + 1), Instruction (add_of (k % 256)) None)
-  steps_below n k lt =
+  steps_below : (n k : ℕ) → n ≤ 50000 → k < n → Below s 0 d (code_part source n) (4 * (k + 1), Instruction (add_of (k % 256)) None)
+  steps_below n k few lt =
       below_more s 0 d (stated source (n + 5) None leave ∷ stated source (n + 4) None give ∷ []) (step_statements source 4 n ++ begun source)
-      (4 * (k + 1), Instruction (add_of (k % 256)) None) (step_below n k lt)
+      (4 * (k + 1), Instruction (add_of (k % 256)) None) (step_below n k few lt)
 
-  give_below : (n : ℕ) → Below s 0 d (code_part source n) (
+  give_below : (n : ℕ) → n ≤ 50000 → Below s 0 d (code_part source n) (
     4 * (n + 1),
     Instruction (instr.DataShifted condition.Al operation.Mov false 0 0 0 shift_kind.Lsl 4)
         None,
   )
-  give_below n =
+  give_below n few =
       let at : 4 * grown 0 (λ b. 0) (suc n) 0 ≡ 4 * (n + 1) = omega (arith, grown_is 0 (λ b. 0) (suc n)) in
       below_more s 0 d (stated source (n + 5) None leave ∷ []) (stated source (n + 4) None give ∷ (step_statements source 4 n ++ begun source))
       (4 * (n + 1), Instruction (instr.DataShifted condition.Al operation.Mov false 0 0 0 shift_kind.Lsl 4) None)
-      (below_here s d names 0 (4 * (n + 1)) contents.Code (grown 0 (λ b. 0) (suc n)) (stated source (n + 4) None give) _ _ give_takes (steps_stand n) at
+      (below_here s d names 0 (4 * (n + 1)) contents.Code (grown 0 (λ b. 0) (suc n)) (stated source (n + 4) None give) _ _ give_takes (steps_stand n few) at
       give_puts)
 
-  leave_below : (n : ℕ) → Below s 0 d (code_part source n) (4 * (n + 2), Instruction (instr.SoftwareInterrupt condition.Al 17) None)
-  leave_below n =
+  leave_below : (n : ℕ) → n ≤ 50000 → Below s 0 d (code_part source n) (4 * (n + 2), Instruction (instr.SoftwareInterrupt condition.Al 17) None)
+  leave_below n few =
       let at : 4 * grown 0 (λ b. 0) (suc (suc n)) 0 ≡ 4 * (n + 2) = omega (arith, grown_is 0 (λ b. 0) (suc (suc n))) in
-      let before = stand_on d names 0 contents.Code (grown 0 (λ b. 0) (suc n)) (stated source (n + 4) None give) _ give_takes (steps_stand n) in
+      let before = stand_on d names 0 contents.Code (grown 0 (λ b. 0) (suc n)) (stated source (n + 4) None give) _ give_takes (steps_stand n few)
+      (grown_few 0 (λ b. 0) (suc n) (omega arith)) in
       below_here s d names 0 (4 * (n + 2)) contents.Code (grown 0 (λ b. 0) (suc (suc n))) (stated source (n + 5) None leave) _ _ leave_takes before at
       leave_puts
 
 module _ (s : Source) (d : List LaidName) (source : List ℕ) (at : ℕ) (names : List (List ℕ)) (E : ℕ → ℕ) (none : E 1 ≡ 0) (ss : List Statement)
     (start : Stand d names 1 contents.Data E ss) where
-  data_stand : (m : ℕ) → Stand d names 1 contents.Data (grown 1 E m) (data_statements source at m ++ ss)
-  data_stand zero = start
-  data_stand (suc m) = stand_on d names 1 contents.Data (grown 1 E m) (stated source (at + m) None (datum_what m)) _ (datum_takes m) (data_stand m)
+  data_stand : (m : ℕ) → m ≤ 50000 → Stand d names 1 contents.Data (grown 1 E m) (data_statements source at m ++ ss)
+  data_stand zero few = start
+  data_stand (suc m) few =
+      stand_on d names 1 contents.Data (grown 1 E m) (stated source (at + m) None (datum_what m)) _ (datum_takes m) (data_stand m (omega arith))
+      (grown_few 1 E m (omega (arith, none)))
 
-  data_below : (n k : ℕ) → k < n → Below s 1 d (data_statements source at n ++ ss) (4 * k, Word (record { number = k; target = Nothing }))
-  data_below zero k lt = absurd (omega arith)
-  data_below (suc m) k lt = elim (cases_lt k m) [
-    | inl less ↦ below_more s 1 d (stated source (at + m) None (datum_what m) ∷ []) (data_statements source at m ++ ss) _ (data_below m k less)
+  data_below : (n k : ℕ) → n ≤ 50000 → k < n → Below s 1 d (data_statements source at n ++ ss) (4 * k, Word (record { number = k; target = Nothing }))
+  data_below zero k few lt = absurd (omega arith)
+  data_below (suc m) k few lt = elim (cases_lt k m) [
+    | inl less ↦ below_more s 1 d (stated source (at + m) None (datum_what m) ∷ []) (data_statements source at m ++ ss) _ (data_below m k (omega arith) less)
     | inr above ↦ (
         let same : m ≡ k = omega arith in
         let there : 4 * grown 1 E m 1 ≡ 4 * m = omega (arith, none, grown_is 1 E m) in
         let P : ℕ → Type 0 = λ x. Below s 1 d (data_statements source at (suc m) ++ ss) (4 * x, Word (record { number = x; target = Nothing })) in
         subst P same
-        (below_here s d names 1 (4 * m) contents.Data (grown 1 E m) (stated source (at + m) None (datum_what m)) _ _ (datum_takes m) (data_stand m) there
+        (below_here s d names 1 (4 * m) contents.Data (grown 1 E m) (stated source (at + m) None (datum_what m)) _ _ (datum_takes m) (data_stand m (omega arith)) there
         (datum_puts m)))
   ]
 
@@ -245,14 +252,14 @@ module _ (source : List ℕ) (n : ℕ) where
       stands_in (big_statements source n) 1 p
       (below_more whole 1 declared (stated source (n + n + 7) None (what.Directive line.End) ∷ []) (data_part source n) p h)
 
-  pub code_bytes : (names : List (List ℕ)) (bytes : List ℕ) → Stand declared names 0 contents.Code (λ b. 0) (first_lines source) → HoldsBytes whole 0 bytes
+  pub code_bytes : n ≤ 50000 → (names : List (List ℕ)) (bytes : List ℕ) → Stand declared names 0 contents.Code (λ b. 0) (first_lines source) → HoldsBytes whole 0 bytes
       → length bytes ≡ 4 * (n + 3)
       → bytes ≡ words_bytes (code_words n)
-  code_bytes names bytes start holds size =
+  code_bytes few names bytes start holds size =
       let begin : take 4 (drop 0 bytes) ≡ bytes_of 0xE3A04000 4 = holds.standing _ (code_in _ (clear_below whole declared source names start n)) in
-      let give_at : take 4 (drop (4 * (n + 1)) bytes) ≡ bytes_of 0xE1A00004 4 = holds.standing _ (code_in _ (give_below whole declared source names start n)) in
+      let give_at : take 4 (drop (4 * (n + 1)) bytes) ≡ bytes_of 0xE1A00004 4 = holds.standing _ (code_in _ (give_below whole declared source names start n few)) in
       let leave_at : take 4 (drop (4 * (n + 2)) bytes) ≡ bytes_of 0xEF000011 4 =
-      holds.standing _ (code_in _ (leave_below whole declared source names start n)) in
+      holds.standing _ (code_in _ (leave_below whole declared source names start n few)) in
       let many : length (map step_word (range_with_len 0 n)) ≡ n = length-map-range_with_len step_word 0 n in
       let there : 4 + 4 * length (map step_word (range_with_len 0 n)) ≡ 4 * (n + 1) = omega arith in
       let next : 4 * (n + 1) + 4 ≡ 4 * (n + 2) = omega arith in
@@ -270,16 +277,16 @@ module _ (source : List ℕ) (n : ℕ) where
       steps zero k e = tt
       steps (suc j) k e =
           let here : take 4 (drop (4 * (k + 1)) bytes) ≡ bytes_of (word_of (arm_row (add_of (k % 256))) (arm_fields (add_of (k % 256)))) 4 =
-          holds.standing _ (code_in _ (steps_below whole declared source names start n k (omega arith))) in
+          holds.standing _ (code_in _ (steps_below whole declared source names start n k few (omega arith))) in
           let more = steps j (k + 1) (omega arith) in
           let next : 4 * (k + 1 + 1) ≡ 4 * (k + 1) + 4 = omega arith in
           let P : ℕ → Type 0 = λ x. WordsAt bytes x (map step_word (range_with_len (k + 1) j)) in
           (here ∙ ap (λ (w : ℕ). bytes_of w 4) (add_word (k % 256)), subst P next more)
 
-  pub data_bytes : (names : List (List ℕ)) (E : ℕ → ℕ) (bytes : List ℕ) → E 1 ≡ 0
+  pub data_bytes : n ≤ 50000 → (names : List (List ℕ)) (E : ℕ → ℕ) (bytes : List ℕ) → E 1 ≡ 0
       → Stand declared names 1 contents.Data E (stated source (n + 6) None (area_what (codes "bigrw") contents.Data false) ∷ code_part source n)
       → HoldsBytes whole 1 bytes → length bytes ≡ 4 * n → bytes ≡ words_bytes (data_words n)
-  data_bytes names E bytes none start holds size =
+  data_bytes few names E bytes none start holds size =
       let many : length (range_with_len 0 n) ≡ n = length-range_with_len 0 n in
       words_are (data_words n) bytes 0 (omega arith) (each n 0 (omega arith))
     where
@@ -289,4 +296,4 @@ module _ (source : List ℕ) (n : ℕ) where
           let more = each j (k + 1) (omega arith) in
           let next : 4 * (k + 1) ≡ 4 * k + 4 = omega arith in
           let P : ℕ → Type 0 = λ x. WordsAt bytes x (range_with_len (k + 1) j) in
-          (holds.standing _ (data_in _ (data_below whole declared source (n + 7) names E none _ start n k (omega arith))), subst P next more)
+          (holds.standing _ (data_in _ (data_below whole declared source (n + 7) names E none _ start n k few (omega arith))), subst P next more)

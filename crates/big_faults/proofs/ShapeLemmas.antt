@@ -23,7 +23,7 @@ use Rattle.asm_model.specs.declared.values.Value.{Value}
 use Rattle.asm_model.specs.AtLine.{SourceLine}
 use Rattle.asm_model.specs.Before.{area_behind, areas_behind}
 use Rattle.asm_model.specs.Directives.{or_else}
-use Rattle.asm_model.specs.Extents.{Extent, Block, extent_of}
+use Rattle.asm_model.specs.Extents.{Extent, Block, Padding, Loading, Pool, extent_of}
 use Rattle.asm_model.specs.Labels.{declared_names}
 use Rattle.asm_model.specs.Laid.{LaidLine, laid, laid_of, laid_behind, pieces_of, statements_of, taken, names_behind}
 use Rattle.asm_model.specs.LayoutKinds.{settled, equals_in}
@@ -39,10 +39,10 @@ use Rattle.big_model.specs.Words.{code_words, data_words}
 use Rattle.big_faults.specs.Big.{words_bytes, code_area, data_area, BigHasObject}
 use Rattle.word_source.specs.Words.{more}
 use Rattle.word_source.proofs.WordLemmas.{same_statements}
-use Rattle.word_source.proofs.CalmLemmas.{calm_area}
+use Rattle.word_source.proofs.CalmLemmas.{HoldsNone, within_holds, calm_area}
 use Rattle.big_faults.proofs.StatementLemmas.{data_small, number_line}
 use Rattle.big_faults.proofs.BytesLemmas.{code_bytes, data_bytes}
-use Rattle.big_faults.proofs.BigLemmas.{all_calm, entered, code_laid, second_laid, data_laid, code_ends, ends_zero, NoEntries, steps_enter, data_enter}
+use Rattle.big_faults.proofs.BigLemmas.{all_calm, entered, code_laid, second_laid, data_laid, code_ends, end_extent, ends_zero, NoEntries, steps_enter, data_enter}
 
 -- a statement that takes up a block, names no symbol, and whose units aren't relocated
 abbrev IsBare : Emitted → Type 0
@@ -54,7 +54,7 @@ AreBare (u ∷ us) = IsBare u × AreBare us
 
 record IsMute (w : What) : Type 0 where
   block : (s : Names) → (a : ℕ) × (n : ℕ) × (extent_of s w ≡ Ok (Block a n))
-  no_symbols : (names : List LaidName) (l : SourceLine) (a n : ℕ) → symbols_in names l (Block a n) w ≡ []
+  no_symbols : (names : List LaidName) (l : SourceLine) (e : Extent) → symbols_in names l e w ≡ []
   bare : (c : Context) (data_names : List (List ℕ)) (s : Names) (word : Option ℕ) → AreBare (or_none (units c data_names s word w))
   kept : (area : ℕ) (l : LaidLine) → is_kept (contents_in area l w) ≡ true
 
@@ -65,7 +65,7 @@ kept_if false c h = refl
 number_mute : (o : Operation) (rd rn v : ℕ) → v < 256 → IsMute (what.Arm (number_line o rd rn v))
 number_mute o rd rn v h = record {
   block = λ s. (4, 4, refl);
-  no_symbols = λ names l a n. refl;
+  no_symbols = λ names l e. refl;
   bare = λ c d s word. rw (data_small _ _ false rn rd v h) ((λ s at. refl), tt);
   kept = λ area l. refl;
 }
@@ -77,21 +77,21 @@ clear_mute : IsMute clear
 clear_mute = number_mute operation.Mov 4 0 0 (omega arith)
 
 give_mute : IsMute give
-give_mute = record { block = λ s. (4, 4, refl); no_symbols = λ names l a n. refl; bare = λ c d s word. ((λ s at. refl), tt); kept = λ area l. refl }
+give_mute = record { block = λ s. (4, 4, refl); no_symbols = λ names l e. refl; bare = λ c d s word. ((λ s at. refl), tt); kept = λ area l. refl }
 
 leave_mute : IsMute leave
-leave_mute = record { block = λ s. (4, 4, refl); no_symbols = λ names l a n. refl; bare = λ c d s word. ((λ s at. refl), tt); kept = λ area l. refl }
+leave_mute = record { block = λ s. (4, 4, refl); no_symbols = λ names l e. refl; bare = λ c d s word. ((λ s at. refl), tt); kept = λ area l. refl }
 
 datum_mute : (k : ℕ) → IsMute (datum_what k)
-datum_mute k = record { block = λ s. (4, 4, refl); no_symbols = λ names l a n. refl; bare = λ c d s word. ((λ s at. refl), tt); kept = λ area l. refl }
+datum_mute k = record { block = λ s. (4, 4, refl); no_symbols = λ names l e. refl; bare = λ c d s word. ((λ s at. refl), tt); kept = λ area l. refl }
 
 end_mute : IsMute (what.Directive line.End)
-end_mute = record { block = λ s. (1, 0, refl); no_symbols = λ names l a n. refl; bare = λ c d s word. tt; kept = λ area l. refl }
+end_mute = record { block = λ s. (1, 0, refl); no_symbols = λ names l e. refl; bare = λ c d s word. tt; kept = λ area l. refl }
 
 rw_mute : IsMute (area_what (codes "bigrw") contents.Data false)
 rw_mute = record {
   block = λ s. (1, 0, refl);
-  no_symbols = λ names l a n. refl;
+  no_symbols = λ names l e. refl;
   bare = λ c d s word. tt;
   kept =
       λ area l. kept_if (is_of area l.area) contents.Data refl;
@@ -100,7 +100,7 @@ rw_mute = record {
 code_mute : IsMute (area_what (codes "big") contents.Code true)
 code_mute = record {
   block = λ s. (1, 0, refl);
-  no_symbols = λ names l a n. refl;
+  no_symbols = λ names l e. refl;
   bare = λ c d s word. tt;
   kept =
       λ area l. kept_if (is_of area l.area) contents.Code refl;
@@ -114,7 +114,7 @@ entry_block true = (2, 0, refl)
 entry_block false = (4, 0, refl)
 
 entry_mute : IsMute (what.Directive line.Entry)
-entry_mute = record { block = λ s. entry_block s.thumb; no_symbols = λ names l a n. refl; bare = λ c d s word. tt; kept = λ area l. refl }
+entry_mute = record { block = λ s. entry_block s.thumb; no_symbols = λ names l e. refl; bare = λ c d s word. tt; kept = λ area l. refl }
 
 abbrev AllMute : List Statement → Type 0
 AllMute [] = Unit {0}
@@ -163,39 +163,46 @@ all_kept area d (s ∷ ss) h = kept_or (contents_of area (laid_of d ss)) _ (all_
 abbrev both_empty : Bool → List Value
 both_empty t = cond t [] []
 
-waits : (area : ℕ) (o : Option ℕ) (r : Result Extent LineKind) (a n : ℕ) (ps : List Piece) → r ≡ Ok (Block a n) → waiting area ps ≡ []
-    → waiting area (record { area = o; extent = taken r } ∷ ps) ≡ []
-waits area o r a n ps e h = rw (e, h) (by_test (is_of area o))
+waits : (area : ℕ) (o : Option ℕ) (e : Extent) (ps : List Piece) → HoldsNone e → waiting area ps ≡ []
+    → waiting area (record { area = o; extent = e } ∷ ps) ≡ []
+waits area o e ps none h = by_extent e none
   where
     by_test : (t : Bool) → both_empty t ≡ []
     by_test true = refl
     by_test false = refl
 
+    by_extent : (x : Extent) → HoldsNone x → waiting area (record { area = o; extent = x } ∷ ps) ≡ []
+    by_extent (Block a n) k = rw h (by_test (is_of area o))
+    by_extent (Padding m n) k = rw h (by_test (is_of area o))
+    by_extent (Loading n v) k = absurd k
+    by_extent Pool k = absurd k
+
+-- what a mute statement takes up
+mute_holds : (d : List LaidName) (s : Statement) (ss : List Statement) → IsMute s.what → HoldsNone (taken (laid_behind d s (laid_of d ss)).extent)
+mute_holds d s ss h = let b = h.block (names_behind d s (laid_of d ss)) in within_holds _ _ _ b.0 b.1 b.2
+
 none_wait : (area : ℕ) (d : List LaidName) (ss : List Statement) → AllMute ss → waiting area (pieces_of (laid_of d ss)) ≡ []
 none_wait area d [] h = refl
 none_wait area d (s ∷ ss) h =
-    let b = h.0.block (names_behind d s (laid_of d ss)) in
-    waits area _ _ b.0 b.1 (pieces_of (laid_of d ss)) b.2 (none_wait area d ss h.1)
+    waits area _ (taken (laid_behind d s (laid_of d ss)).extent) (pieces_of (laid_of d ss)) (mute_holds d s ss h.0) (none_wait area d ss h.1)
 
-not_pooled : (area : ℕ) (o : Option ℕ) (r : Result Extent LineKind) (a n : ℕ) (ps : List Piece) → r ≡ Ok (Block a n) → pooled area ps ≡ []
-    → pooled area (record { area = o; extent = taken r } ∷ ps) ≡ []
-not_pooled area o r a n ps e h = rw (e, and_right (is_of area o) false refl) h
+not_pooled : (area : ℕ) (o : Option ℕ) (e : Extent) (ps : List Piece) → HoldsNone e → pooled area ps ≡ []
+    → pooled area (record { area = o; extent = e } ∷ ps) ≡ []
+not_pooled area o (Block a n) ps none h = rw (and_right (is_of area o) false refl) h
+not_pooled area o (Padding m n) ps none h = rw (and_right (is_of area o) false refl) h
+not_pooled area o (Loading n v) ps none h = absurd none
+not_pooled area o Pool ps none h = absurd none
 
 none_pooled : (area : ℕ) (d : List LaidName) (ss : List Statement) → AllMute ss → pooled area (pieces_of (laid_of d ss)) ≡ []
 none_pooled area d [] h = refl
 none_pooled area d (s ∷ ss) h =
-    let b = h.0.block (names_behind d s (laid_of d ss)) in
-    not_pooled area _ _ b.0 b.1 (pieces_of (laid_of d ss)) b.2 (none_pooled area d ss h.1)
-
-quiet_in : (names : List LaidName) (l : SourceLine) (w : What) (r : Result Extent LineKind) (a n : ℕ) → r ≡ Ok (Block a n) → IsMute w
-    → symbols_in names l (taken r) w ≡ []
-quiet_in names l w r a n e h = rw e (h.no_symbols names l a n)
+    not_pooled area _ (taken (laid_behind d s (laid_of d ss)).extent) (pieces_of (laid_of d ss)) (mute_holds d s ss h.0) (none_pooled area d ss h.1)
 
 no_symbols : (names d : List LaidName) (ss : List Statement) → AllMute ss → symbols_of names (laid_of d ss) ≡ []
 no_symbols names d [] h = refl
 no_symbols names d (s ∷ ss) h =
-    let b = h.0.block (names_behind d s (laid_of d ss)) in
-    rw (no_symbols names d ss h.1, quiet_in names (laid_behind d s (laid_of d ss)).line s.what (laid_behind d s (laid_of d ss)).extent b.0 b.1 b.2 h.0) refl
+    let l = laid_behind d s (laid_of d ss) in
+    rw (no_symbols names d ss h.1, h.0.no_symbols names l.line (taken l.extent)) refl
 
 -- ---- relocations
 
@@ -357,14 +364,17 @@ code_is source n o few h a e =
     let laid_out = data_laid d source (register_names all) (settled (equals_in all)) all n arm few in
     let start = entered d source (codes "big") (register_names all) (settled (equals_in all)) all refl arm in
     let last : area_behind (statements_of (laid_of d (data_part source n))) ≡ Some 1 = rw (same_statements d (data_part source n)) laid_out.stand.area in
-    let end = ends_zero 0 1 _ _ (pieces_of (laid_of d (data_part source n))) _ last refl (laid_out.stand.ends 0) in
+    let extent =
+    end_extent d source (n + n + 7) (codes "big" ∷ codes "bigrw" ∷ []) 1 contents.Data (more 1 n (code_ends n)) (data_part source n) (omega arith)
+    laid_out.stand in
+    let end = ends_zero 0 1 _ _ (pieces_of (laid_of d (data_part source n))) _ last extent (laid_out.stand.ends 0) in
     let size = size_is 0 (pieces_of (laid all)) (n + 3) (none_wait 0 d all mute) (end ∙ ap (λ (m : ℕ). 4 * m) (first_words n)) in
     let x = h.areas 0 a e in
     let holds = holds_kept (source_of all) 0 (is_kept (contents_of 0 (laid all))) a.bytes (all_kept 0 d all mute) x.bytes in
     same_area a (codes "big") 0x2202 (4 * (n + 3)) (words_bytes (code_words n)) []
     (same_Some _ _ (sym x.name ∙ ap (λ (ns : List (List ℕ)). slice_get ns 0) laid_out.stand.areas))
     (same_Some _ _ (sym x.attributes ∙ ap (λ (t : Bool). attributes_of 0 t (laid all)) arm ∙ code_attributes d source n))
-    (x.size ∙ size) (code_bytes source n (codes "big" ∷ []) a.bytes start.stand holds (holds.size ∙ size))
+    (x.size ∙ size) (code_bytes source n few (codes "big" ∷ []) a.bytes start.stand holds (holds.size ∙ size))
     (no_relocs (source_of all) 0 a.relocs (no_area_relocs source n mute 0) x.relocs)
 
 data_is : (source : List ℕ) (n : ℕ) (o : Object) → n ≤ 50000 → IsObject (big_statements source n) o → (a : Area) → slice_get o.areas 1 ≡ Some a
@@ -381,7 +391,10 @@ data_is source n o few h a e =
     1 =
     second_at d source (n + 6) (code_part source n) code_stand.stand.areas in
     let last : area_behind (statements_of (laid_of d (data_part source n))) ≡ Some 1 = rw (same_statements d (data_part source n)) laid_out.stand.area in
-    let end = ends_zero 1 1 _ _ (pieces_of (laid_of d (data_part source n))) _ last refl (laid_out.stand.ends 1) in
+    let extent =
+    end_extent d source (n + n + 7) (codes "big" ∷ codes "bigrw" ∷ []) 1 contents.Data (more 1 n (code_ends n)) (data_part source n) (omega arith)
+    laid_out.stand in
+    let end = ends_zero 1 1 _ _ (pieces_of (laid_of d (data_part source n))) _ last extent (laid_out.stand.ends 1) in
     let size = size_is 1 (pieces_of (laid all)) n (none_wait 1 d all mute) (end ∙ ap (λ (m : ℕ). 4 * m) (second_words n)) in
     let x = h.areas 1 a e in
     let holds = holds_kept (source_of all) 1 (is_kept (contents_of 1 (laid all))) a.bytes (all_kept 1 d all mute) x.bytes in
@@ -389,7 +402,7 @@ data_is source n o few h a e =
     (same_Some _ _ (sym x.name ∙ ap (λ (ns : List (List ℕ)). slice_get ns 1) laid_out.stand.areas))
     (same_Some _ _ (sym x.attributes ∙ ap (λ (t : Bool). attributes_of 1 t (laid all)) (calm_area 1 all (all_calm source n))
     ∙ data_attributes d source n there))
-    (x.size ∙ size) (data_bytes source n (codes "big" ∷ codes "bigrw" ∷ []) (code_ends n) a.bytes refl second.stand holds (holds.size ∙ size))
+    (x.size ∙ size) (data_bytes source n few (codes "big" ∷ codes "bigrw" ∷ []) (code_ends n) a.bytes refl second.stand holds (holds.size ∙ size))
     (no_relocs (source_of all) 1 a.relocs (no_area_relocs source n mute 1) x.relocs)
 
 pub big_has_object : BigHasObject

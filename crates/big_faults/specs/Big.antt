@@ -1,5 +1,5 @@
 -- What layout and values find in the statements of a generated source: no fault, and one object. This project's.
-use Rattle.std.specs.Prelude.{◌≡◌, ℕ, ◌+◌, ◌*◌, ◌≤◌, List, [], ◌∷◌, ◌++◌, codes, Some, None}
+use Rattle.std.specs.Prelude.{◌≡◌, ℕ, ◌+◌, ◌*◌, ◌≤◌, List, [], ◌∷◌, ◌++◌, codes, Some}
 use Rattle.sdt_word.specs.Bytes.{bytes_of}
 use Rattle.aof_object.specs.declared.records.Area.{Area}
 use Rattle.aof_object.specs.declared.records.Object.{Object}
@@ -11,7 +11,7 @@ use Rattle.big_model.specs.Words.{code_words, data_words}
 abbrev pub BigHasNoFault : Type 0
 BigHasNoFault =
     (source : List ℕ) (n : ℕ) → n ≤ 50000
-    → (layout_faults (big_statements source n) ≡ None) × (value_faults (big_statements source n) ≡ None)
+    → (layout_faults (big_statements source n) ≡ []) × (value_faults (big_statements source n) ≡ [])
 
 -- words as bytes
 abbrev pub words_bytes : List ℕ → List ℕ

@@ -1,5 +1,5 @@
 -- Literals that wait for a pool.
-use Rattle.std.proofs.Common.{◌≡◌, ℕ, ◌==◌, ◌&&◌, List, [], ◌∷◌, ◌++◌, Bool, true, false, cond, eqb-true, refl, sym, ◌∙◌, ap, Some}
+use Rattle.std.proofs.Common.{◌≡◌, ℕ, ◌+◌, ◌==◌, ◌&&◌, List, [], ◌∷◌, ◌++◌, Bool, true, false, cond, eqb-true, refl, sym, ◌∙◌, ap, Some}
 use Rattle.std.specs.List.{list_any}
 use Rattle.std.specs.Prelude.{Result, Ok, Err}
 use Rattle.sdt_fault.specs.declared.kinds.LineKind.{LineKind}
@@ -8,8 +8,8 @@ use Rattle.asm_model.specs.declared.values.Value.{Value}
 use Rattle.asm_model.specs.declared.values.Value.TheVariants.{Number, Place}
 use Rattle.asm_model.specs.Forms.{same}
 use Rattle.asm_model.proofs.WordLemmas.{same_true}
-use Rattle.asm_model.specs.Extents.{Extent, Loading}
-use Rattle.asm_model.specs.Laid.{LaidLine, taken, pieces_of, names_behind, laid}
+use Rattle.asm_model.specs.Extents.{Extent, Block, Padding, Loading}
+use Rattle.asm_model.specs.Laid.{LaidLine, area_bytes, is_too_many, taken, pieces_of, names_behind, laid}
 use Rattle.asm_model.specs.OffsetLaws.{joined, IsLiteral}
 use Rattle.asm_model.specs.Offsets.{Piece as LaidPiece, is_of, same_literal, waiting, word_behind, is_pool, is_pool_of, literal_word}
 use Rattle.asm_model.proofs.LaidLemmas.{extent_said, loadings_are_literals}
@@ -45,7 +45,11 @@ pieces_before between before = joined_order between [] (pieces_of before) ∙ sy
 
 pub taken_loads : (r : Result Extent LineKind) (n : ℕ) (v : Value) → taken r ≡ Loading n v → r ≡ Ok (Loading n v)
 taken_loads (Ok e) n v h = ap Ok h
-taken_loads (Err k) n v h = absurd (cc)
+taken_loads (Err k) n v h = by_test (is_too_many k) h
+  where
+    by_test : (b : Bool) → cond b (Padding (area_bytes + 1) area_bytes) (Block 1 0) ≡ Loading n v → Err k ≡ Ok (Loading n v)
+    by_test true x = absurd (cc)
+    by_test false x = absurd (cc)
 
 pub loads_literal : (ss : List Statement) (after before : List LaidLine) (l : LaidLine) (n : ℕ) (v : Value) → laid ss ≡ after ++ l ∷ before
     → taken l.extent ≡ Loading n v → IsLiteral v

@@ -1,5 +1,5 @@
 -- Wherever the object of a source is placed, each of its statements stands. This project's.
-use Rattle.std.specs.Prelude.{◌≡◌, ◌^◌, ◌<◌, List, length, None}
+use Rattle.std.specs.Prelude.{◌≡◌, ◌^◌, ◌<◌, List, length, []}
 use Rattle.aof_object.specs.declared.records.Object.{Object}
 use Rattle.asm_model.specs.declared.statements.Statement.{Statement}
 use Rattle.asm_model.specs.PlacedLines.{AllNamed}
@@ -13,8 +13,8 @@ use Rattle.stand_model.specs.Stands.{AllStand}
 pub record IsFaultless (statements : List Statement) : Type 0 where
   pub said : AllSaid statements
   pub named : AllNamed statements
-  pub laid_out : layout_faults statements ≡ None
-  pub valued : value_faults statements ≡ None
+  pub laid_out : layout_faults statements ≡ []
+  pub valued : value_faults statements ≡ []
 
 -- wherever an object is placed, its source's statements stand; relocations name areas and symbols by their low 24 bits
 abbrev pub ObjectsStand : Type 0

@@ -10,12 +10,13 @@ use Rattle.asm_model.specs.declared.names.LaidName.{LaidName}
 use Rattle.asm_model.specs.declared.statements.Statement.{Statement}
 use Rattle.asm_model.specs.declared.statements.What.{What}
 use Rattle.asm_model.specs.Before.{area_behind, thumb_behind}
-use Rattle.asm_model.specs.Extents.{Extent, Block}
+use Rattle.asm_model.specs.Directives.{or_else}
+use Rattle.asm_model.specs.Extents.{Extent, Block, extent_of}
 use Rattle.asm_model.specs.Forms.{same}
 use Rattle.asm_model.specs.Labels.{field_defines}
-use Rattle.asm_model.specs.Laid.{laid, statements_of, pieces_of, taken, laid_behind, laid_of, names_behind as seen_by}
-use Rattle.asm_model.specs.LayoutKinds.{contents_kinds, contents_behind, name_kinds, settled_kinds, first_equal, area_bytes, layout_kinds, is_repeated, is_named_otherwise, names_behind, names_in, settled}
-use Rattle.asm_model.specs.Offsets.{Piece, raised, end_behind, waiting}
+use Rattle.asm_model.specs.Laid.{laid, statements_of, pieces_of, taken, within, aligned_end, laid_behind, laid_of, names_behind as seen_by, area_bytes}
+use Rattle.asm_model.specs.LayoutKinds.{contents_kinds, contents_behind, name_kinds, settled_kinds, first_equal, layout_kinds, is_repeated, first_named, fault_kinds, names_behind, names_in, settled}
+use Rattle.asm_model.specs.Offsets.{Piece, raised, end_behind, waiting, size_behind}
 use Rattle.asm_model.specs.declared.directives.AreaAttributes.{AreaAttributes}
 use Rattle.asm_model.specs.declared.names.Names.{Names}
 use Rattle.source_model.specs.Registers.{register_kinds, registers_behind, given_kinds}
@@ -58,20 +59,44 @@ ends_on a b o r ps E eo er e = rw (eo, er) (by_test (a == b) refl)
     by_test false h = rw (there h) e
 
 unlike_on : (names : List (List ℕ)) (d : List LaidName) (s : Statement) (ss : List Statement) → TakesWord s.what
-    → ((name : List ℕ) → list_any (same name) names ≡ false → (n : Names) (x : AreaAttributes) → is_named_otherwise name n x (laid_of d ss) ≡ false)
-    → (name : List ℕ) → list_any (same name) names ≡ false → (n : Names) (x : AreaAttributes) → is_named_otherwise name n x (laid_of d (s ∷ ss)) ≡ false
-unlike_on names d s ss w h name k n x = w.again name n x (seen_by d s (laid_of d ss)) _ ∙ h name k n x
+    → ((name : List ℕ) → list_any (same name) names ≡ false → first_named name (laid_of d ss) ≡ None)
+    → (name : List ℕ) → list_any (same name) names ≡ false → first_named name (laid_of d (s ∷ ss)) ≡ None
+unlike_on names d s ss w h name k = none_named _ _ (h name k) (w.again name (seen_by d s (laid_of d ss)))
+  where
+    none_named : (a b : Option (Names × AreaAttributes)) → a ≡ None → b ≡ None → or_else a b ≡ None
+    none_named a b e f = rw (e, f) refl
+
+-- a word fits behind words
+word_ends : (o : Option ℕ) (a n : ℕ) (ps : List Piece) (thumb : Bool) (w : What) (r : Result Extent LineKind) → o ≡ Some a → r ≡ Ok (Block 4 4)
+    → TakesWord w → end_behind a ps ≡ 4 * n → 4 * (n + 1) ≤ 2 ^ 24
+    → nat_lt area_bytes (aligned_end o ps thumb w + size_behind o ps (taken r)) ≡ false
+word_ends o a n ps thumb w r eo er takes h fits =
+    rw (er, eo, takes.aligns thumb (waiting a ps), h, fours n) (le-ltb area_bytes (4 * n + 4) (omega arith))
+
+fits_within : (offset size : ℕ) (r : Result Extent LineKind) (e : Extent) → r ≡ Ok e → nat_lt area_bytes (offset + size) ≡ false
+    → within offset size r ≡ Ok e
+fits_within offset size r e er h = rw (er, h) refl
+
+pub word_fits : (d : List LaidName) (names : List (List ℕ)) (a : ℕ) (c : Contents) (E : ℕ → ℕ) (s : Statement) (ss : List Statement) → TakesWord s.what
+    → Stand d names a c E ss → 4 * (E a + 1) ≤ 2 ^ 24
+    → (laid_behind d s (laid_of d ss)).extent ≡ Ok (Block 4 4)
+word_fits d names a c E s ss w h fits =
+    let here : area_behind (s ∷ statements_of (laid_of d ss)) ≡ Some a = rw (same_statements d ss) (area_on s ss a w h.area) in
+    let extent = w.extent (seen_by d s (laid_of d ss)) in
+    fits_within _ _ _ (Block 4 4) extent
+    (word_ends (area_behind (s ∷ statements_of (laid_of d ss))) a (E a) (pieces_of (laid_of d ss)) (thumb_behind (statements_of (laid_of d ss))) s.what
+    (extent_of (seen_by d s (laid_of d ss)) s.what) here extent w (h.ends a) fits)
 
 pub stand_on : (d : List LaidName) (names : List (List ℕ)) (a : ℕ) (c : Contents) (E : ℕ → ℕ) (s : Statement) (ss : List Statement) → TakesWord s.what
-    → Stand d names a c E ss → Stand d names a c (more a 1 E) (s ∷ ss)
-stand_on d names a c E s ss w h =
+    → Stand d names a c E ss → 4 * (E a + 1) ≤ 2 ^ 24 → Stand d names a c (more a 1 E) (s ∷ ss)
+stand_on d names a c E s ss w h fits =
     let here = area_on s ss a w h.area in
     record {
       area = here;
       areas = rw (w.no_area) h.areas;
       contents = w.contents (contents_behind ss) ∙ h.contents;
       thumb = w.state (thumb_behind ss) ∙ h.thumb;
-      ends = λ b. ends_on a b _ _ (pieces_of (laid_of d ss)) E (rw (same_statements d ss) here) (w.extent (seen_by d s (laid_of d ss))) (h.ends b);
+      ends = λ b. ends_on a b _ _ (pieces_of (laid_of d ss)) E (rw (same_statements d ss) here) (word_fits d names a c E s ss w h fits) (h.ends b);
       unlike = unlike_on names d s ss w h.unlike;
     }
 
@@ -81,6 +106,9 @@ contents_none : (c : Contents) (w : What) → IsCodeOrData c → TakesWord w →
 contents_none contents.Code w i h = refl
 contents_none contents.Data w i h = rw (h.no_thumb, h.no_entry) refl
 contents_none contents.Zeroes w i h = absurd i
+
+known_none : (r : Result Extent LineKind) (e : Extent) → r ≡ Ok e → fault_kinds r ≡ []
+known_none r e h = rw h refl
 
 settled_none : (settled : List (List ℕ)) (label : Option (List ℕ)) (w : What) (before : List Statement) → TakesWord w
     → settled_kinds settled (first_equal (field_defines label w) before) ≡ []
@@ -99,14 +127,14 @@ pub word_kinds : (d : List LaidName) (registers names_settled : List (List ℕ))
 word_kinds d registers names_settled all names a c E s ss cd w short h fresh fits =
     let same = same_statements d ss in
     let here : area_behind (s ∷ statements_of (laid_of d ss)) ≡ Some a = rw same (area_on s ss a w h.area) in
-    let extent = w.extent (seen_by d s (laid_of d ss)) in
+    let extent = word_fits d names a c E s ss w h fits in
     let thumb : thumb_behind (statements_of (laid_of d ss)) ≡ false = rw same h.thumb in
     let contents : contents_behind (s ∷ statements_of (laid_of d ss)) ≡ Some c = rw same (w.contents (contents_behind ss) ∙ h.contents) in
     let ends : nat_lt area_bytes ((laid_behind d s (laid_of d ss)).offset + (laid_behind d s (laid_of d ss)).size) ≡ false =
-    rw (extent, here, w.aligns (thumb_behind (statements_of (laid_of d ss))) (waiting a (pieces_of (laid_of d ss))), h.ends a, fours (E a))
-    (le-ltb area_bytes (4 * E a + 4) (omega arith)) in
+    word_ends (area_behind (s ∷ statements_of (laid_of d ss))) a (E a) (pieces_of (laid_of d ss)) (thumb_behind (statements_of (laid_of d ss))) s.what
+    (laid_behind d s (laid_of d ss)).extent here extent w (h.ends a) fits in
     all_none _ _ _ _ _ _ _ _ _ _
-    (rw extent refl)
+    (known_none _ _ extent)
     (w.no_map _)
     (rw here refl)
     (rw (contents, thumb) (contents_none c s.what cd w))
@@ -152,7 +180,7 @@ pub words_have_no_fault : WordsHaveNoFault
 words_have_no_fault d registers names_settled all names a c E [] before cd laid words fresh fits =
     record { stand = same_ends d names a c E (more a 0 E) before (none_more a E) laid.stand; faultless = laid.faultless }
 words_have_no_fault d registers names_settled all names a c E (s ∷ ss) before cd laid words fresh fits =
-    let inner = words_have_no_fault d registers names_settled all names a c E ss before cd laid words.2 fresh.1 (omega arith) in
+    let inner = words_have_no_fault d registers names_settled all names a c E ss before cd laid words.3 fresh.1 (omega arith) in
     let F = more a (length ss) E in
     let own = more_same a (length ss) E in
     let none =
@@ -163,6 +191,6 @@ words_have_no_fault d registers names_settled all names a c E (s ∷ ss) before 
     record {
       stand =
           same_ends d names a c _ (more a (length (s ∷ ss)) E) (s ∷ (ss ++ before)) (λ b. more_twice a (length ss) E b ∙ ap (λ (n : ℕ). more a n E b) e)
-          (stand_on d names a c (more a (length ss) E) s (ss ++ before) words.0 inner.stand);
-      faultless = rw (inner.faultless, none, registers_none) refl;
+          (stand_on d names a c (more a (length ss) E) s (ss ++ before) words.0 inner.stand (omega arith));
+      faultless = (words.2, none, registers_none, inner.faultless);
     }

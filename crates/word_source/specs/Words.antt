@@ -2,7 +2,6 @@
 -- of values. Statements are listed with the nearest first. This project's.
 use Rattle.std.specs.Prelude.{◌≡◌, ℕ, ◌+◌, ◌*◌, ◌^◌, ◌≤◌, ◌==◌, List, [], ◌∷◌, ◌++◌, length, Bool, false, if◌then◌else◌, Option, Some, None, Ok}
 use Rattle.std.specs.List.{list_any}
-use Rattle.asm_model.specs.declared.directives.AreaAttributes.{AreaAttributes}
 use Rattle.asm_model.specs.declared.directives.Contents.{Contents}
 use Rattle.asm_model.specs.declared.directives.Contents.TheVariants as contents
 use Rattle.asm_model.specs.declared.names.LaidName.{LaidName}
@@ -16,12 +15,12 @@ use Rattle.asm_model.specs.Forms.{same}
 use Rattle.asm_model.specs.Extents.{Block, extent_of, alignment}
 use Rattle.asm_model.specs.Labels.{Label, what_defines, imported_in}
 use Rattle.asm_model.specs.Laid.{LaidLine, pieces_of, laid_of}
-use Rattle.asm_model.specs.LayoutKinds.{contents_behind, contents_from, map_kinds, area_kinds, again_with, is_named_otherwise, is_entry, is_thumb_instruction, names_behind, names_in, is_repeated}
+use Rattle.asm_model.specs.LayoutKinds.{contents_behind, contents_from, map_kinds, area_kinds, named_with, first_named, layout_kinds, is_entry, is_thumb_instruction, names_behind, names_in, is_repeated}
 use Rattle.asm_model.specs.Offsets.{end_behind}
 use Rattle.asm_model.specs.OwnKinds.{has_bad_word}
 use Rattle.source_model.specs.Contexts.{Context}
-use Rattle.source_model.specs.Registers.{Named, names_kinds, registers_of, operand_kinds}
-use Rattle.source_model.specs.SourceFaults.{first_laid, value_faults}
+use Rattle.source_model.specs.Registers.{Named, names_kinds, registers_of, operand_kinds, register_kinds}
+use Rattle.source_model.specs.SourceFaults.{value_faults}
 use Rattle.source_model.specs.ValueKinds.{value_kinds}
 
 -- a statement that has no fault of values, whatever it sees, and takes up a block
@@ -36,7 +35,7 @@ AllCalm [] = Unit {0}
 AllCalm (s ∷ ss) = IsCalm s.what × AllCalm ss
 
 abbrev pub CalmHaveNoFault : Type 0
-CalmHaveNoFault = (ss : List Statement) → AllCalm ss → value_faults ss ≡ None
+CalmHaveNoFault = (ss : List Statement) → AllCalm ss → value_faults ss ≡ []
 
 -- a statement that takes up a word, whatever names mean, and has no fault by itself
 pub record TakesWord (w : What) : Type 0 where
@@ -44,7 +43,7 @@ pub record TakesWord (w : What) : Type 0 where
   pub aligns : (thumb : Bool) (literals : List Value) → alignment thumb literals w ≡ 4
   pub state : (thumb : Bool) → state_behind w thumb ≡ thumb
   pub no_area : area_named w ≡ None
-  pub again : (name : List ℕ) (s : Names) (a : AreaAttributes) (t : Names) (rest : Bool) → again_with name s a t w rest ≡ rest
+  pub again : (name : List ℕ) (t : Names) → named_with name t w ≡ None
   pub contents : (o : Option Contents) → contents_from w o ≡ o
   pub labelled : (name : List ℕ) → what_defines name w ≡ Label name
   pub imports : imported_in w ≡ None
@@ -59,7 +58,7 @@ pub record TakesWord (w : What) : Type 0 where
 
 abbrev pub AllWords : List Statement → Type 0
 AllWords [] = Unit {0}
-AllWords (s ∷ ss) = TakesWord s.what × (s.is_long ≡ false) × AllWords ss
+AllWords (s ∷ ss) = TakesWord s.what × (s.is_long ≡ false) × (s.unread ≡ None) × AllWords ss
 
 -- no name of these is defined twice, or before them
 abbrev pub AllFresh : List Statement → List Statement → Type 0
@@ -80,13 +79,19 @@ pub record Stand (d : List LaidName) (names : List (List ℕ)) (a : ℕ) (c : Co
   pub contents : contents_behind ss ≡ Some c
   pub thumb : thumb_behind ss ≡ false
   pub ends : (b : ℕ) → end_behind b (pieces_of (laid_of d ss)) ≡ 4 * E b
-  pub unlike : (name : List ℕ) → list_any (same name) names ≡ false → (s : Names) (x : AreaAttributes)
-      → is_named_otherwise name s x (laid_of d ss) ≡ false
+  pub unlike : (name : List ℕ) → list_any (same name) names ≡ false → first_named name (laid_of d ss) ≡ None
+
+-- lines that can be read, without a fault by themselves or by their registers
+abbrev pub AllSound : List (List ℕ) → List (List ℕ) → List Statement → List LaidLine → Type 0
+AllSound registers settled all [] = Unit {0}
+AllSound registers settled all (l ∷ before) =
+    (l.statement.unread ≡ None) × (layout_kinds settled all l before ≡ []) × (register_kinds registers l before ≡ [])
+    × AllSound registers settled all before
 
 pub record AreLaid (d : List LaidName) (registers settled : List (List ℕ)) (all : List Statement) (names : List (List ℕ)) (a : ℕ)
     (c : Contents) (E : ℕ → ℕ) (ss : List Statement) : Type 0 where
   pub stand : Stand d names a c E ss
-  pub faultless : first_laid registers settled all (laid_of d ss) ≡ None
+  pub faultless : AllSound registers settled all (laid_of d ss)
 
 abbrev pub WordsHaveNoFault : Type 0
 WordsHaveNoFault =
