@@ -25,7 +25,7 @@ use Rattle.asm_expand.specs.declared.steps.Frame.{Frame}
 use Rattle.asm_expand.specs.declared.steps.Next.{Next}
 use Rattle.asm_expand.specs.declared.steps.Next.TheVariants as next
 use Rattle.asm_variables.specs.Expanding.{Represents}
-use Rattle.asm_expand.specs.Leading.{IsBadAt, IsFault, IsLed, Caused, Gets, IsReadOf, IsRefusal, LedOn, IsToldBy, OfFiles, OutermostEnd, RunsTo, Starts, StepsTo, GetsFrom}
+use Rattle.asm_expand.specs.Leading.{IsBadAt, IsFault, IsLed, Caused, Gets, IsReadOf, IsRefusal, LedOn, OfFiles, OutermostEnd, RunsTo, Starts, StepsTo, GetsFrom}
 use Rattle.asm_expand.specs.LineCursors.{cursor_lines}
 use Rattle.asm_expand.specs.Saying.{IsBad, IsEnd, IsFirst, Shows, most_flats}
 use Rattle.asm_expand.specs.Unwinding.{Leads}

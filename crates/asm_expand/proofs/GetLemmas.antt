@@ -1,13 +1,13 @@
 -- Which files a run gets.
 use Rattle.std.proofs.Common.{◌≡◌, ◌⊎◌, inl, inr, ℕ, List, Bool, true, false, refl, sym, subst, Option, Some, None}
-use Rattle.std.specs.Prelude.{Result, Ok, Err}
+use Rattle.std.specs.Prelude.{Ok}
 use Rattle.sdt_fault.specs.declared.answer.Fault.{Fault}
 use Rattle.sdt_fault.specs.declared.answer.Fault.TheVariants as fault
 use Rattle.sdt_fault.specs.declared.refusal.Refusal.TheVariants.{Missing}
 use Rattle.sdt_outside.specs.Files.{Files, content}
 use Rattle.asm_model.specs.Forms.{same}
 use Rattle.asm_model.proofs.WordLemmas.{same_refl, same_true}
-use Rattle.expand_model.specs.Expands.{Outcome, MissingFile}
+use Rattle.expand_model.specs.Expands.{Outcome}
 use Rattle.expand_model.specs.Gets.{without}
 use Rattle.expand_model.specs.Steps.{Sources}
 use Rattle.expand_model.specs.Steps as model
