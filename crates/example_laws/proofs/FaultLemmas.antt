@@ -13,12 +13,12 @@ use Rattle.asm_model.specs.Laid.{laid, laid_of, pieces_of, statements_of}
 use Rattle.asm_model.specs.LayoutKinds.{settled, equals_in}
 use Rattle.asm_model.specs.Offsets.{area_size}
 use Rattle.source_model.specs.Registers.{register_names}
-use Rattle.big_faults.proofs.BigLemmas.{end_laid, ends_zero, enter_on, entered, opened_enter, some_size}
+use Rattle.big_faults.proofs.BigLemmas.{end_extent, end_laid, ends_zero, enter_on, entered, opened_enter, some_size}
 use Rattle.big_faults.proofs.StatementLemmas.{area_calm, call_calm, datum_calm, end_calm, entry_calm, leave_calm, number_calm}
 use Rattle.big_faults.proofs.StatementLemmas.{call_takes, datum_takes, number_takes}
 use Rattle.big_model.specs.Statements.{stated}
 use Rattle.word_source.specs.Words.{AllCalm, AllFresh, AllWords, CalmHaveNoFault, IsCalm, TakesWord, WordsHaveNoFault}
-use Rattle.word_source.proofs.CalmLemmas.{calm_area, calm_late}
+use Rattle.word_source.proofs.CalmLemmas.{calm_area, calm_laid_out}
 use Rattle.word_source.proofs.WordLemmas.{same_statements}
 use Rattle.example_laws.specs.Words.{begun, call, find, word_statements, words_statements}
 use Rattle.example_laws.specs.Words as words
@@ -39,7 +39,8 @@ all_calm name = (
 )
 
 all_words : (name : List ℕ) → AllWords (word_statements name)
-all_words name = (datum_takes 0x0A73, refl, (datum_takes 0x64726F77, refl, (call_takes 0x11, refl, (call_takes 0x02, refl, (find_takes, refl, tt)))))
+all_words name =
+    (datum_takes 0x0A73, refl, refl, (datum_takes 0x64726F77, refl, refl, (call_takes 0x11, refl, refl, (call_takes 0x02, refl, refl, (find_takes, refl, refl, tt)))))
 
 all_fresh : (name : List ℕ) → AllFresh (word_statements name) (begun name)
 all_fresh name = (refl, (refl, (refl, (refl, (refl, tt)))))
@@ -63,8 +64,10 @@ words_have_no_fault no_fault calm_fault name =
     let last = area_there d (word_statements name ++ begun name) 0 behind.stand.area in
     let size : 0 < area_size 0 (pieces_of (laid all)) =
     some_size (pieces_of (laid all)) 5
-    (ends_zero 0 0 _ _ (pieces_of (laid_of d (word_statements name ++ begun name))) _ last refl (behind.stand.ends 0)) (omega arith) in
+    (ends_zero 0 0 _ _ (pieces_of (laid_of d (word_statements name ++ begun name))) _ last
+    (end_extent d name 8 own 0 contents.Code _ (word_statements name ++ begun name) (omega arith) behind.stand) (behind.stand.ends 0))
+    (omega arith) in
     let enter =
     enter_on (laid all) d (stated name 8 None (what.Directive line.End) ∷ word_statements name) (begun name) (refl, (refl, (refl, (refl, (refl, (refl, tt))))))
     (opened_enter (laid all) d name (codes "words") refl size) in
-    (rw (first, calm_late all calm enter) refl, calm_fault all calm)
+    (calm_laid_out all calm first enter, calm_fault all calm)

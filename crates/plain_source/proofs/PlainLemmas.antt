@@ -1,25 +1,21 @@
 -- A source of plain lines expands to its lines.
-use Rattle.std.proofs.Common.{◌≡◌, ℕ, zero, suc, ◌+◌, ◌-◌, ◌<◌, ◌≤◌, ◌==◌, List, [], ◌∷◌, ◌++◌, length, map, Bool, true, false, cond, refl, sym, ◌∙◌, ap, subst, arith, rules, append_assoc, Option, Some, None, nat_lt}
-use Rattle.std.specs.Prelude.{MatchBool, Result, Ok, Err, codes, ◌||◌}
+use Rattle.std.proofs.Common.{◌≡◌, ℕ, zero, suc, ◌+◌, ◌-◌, ◌<◌, ◌≤◌, ◌==◌, List, [], ◌∷◌, ◌++◌, length, map, Bool, true, false, cond, refl, sym, ◌∙◌, ap, arith, append_assoc, Option, Some, None, nat_lt}
+use Rattle.std.specs.Prelude.{Ok, Err, ◌||◌}
 use Rattle.std.specs.List.{list_any}
 use Rattle.std.specs.Str.Lines.{lines}
-use Rattle.std.proofs.lemmas.Bool.{cond-false, cond-true, and_left, le-ltb, ne_eqb}
-use Rattle.sdt_fault.specs.declared.kinds.LineKind.{LineKind}
+use Rattle.std.proofs.lemmas.Bool.{and_left, le-ltb, ne_eqb}
 use Rattle.sdt_fault.specs.declared.kinds.LineKind.TheVariants.{Syntax}
-use Rattle.asm_model.specs.declared.lines.Flat.{Flat}
 use Rattle.asm_model.specs.declared.lines.Line.{Line}
 use Rattle.asm_model.specs.Limits.{line_bytes, source_lines}
 use Rattle.asm_model.specs.Lines.{numbered, is_beyond, reached}
-use Rattle.asm_model.specs.Tokens.{is_called}
 use Rattle.expand_model.specs.declared.standing.Standing.{Standing}
 use Rattle.expand_model.specs.declared.standing.Standing.TheVariants.{Open}
-use Rattle.expand_model.specs.Expands.{Run, stops, reads, Expands, outcome_of, outermost, Flats}
-use Rattle.expand_model.specs.Known.{Operand}
+use Rattle.expand_model.specs.Expands.{Run, stops, reads, outermost, Flats}
 use Rattle.expand_model.specs.Operations.{operation_of}
 use Rattle.expand_model.specs.Standing.{Byte, begun_at, standing, standing_from}
 use Rattle.expand_model.specs.States.{State, started, visited, text_named}
-use Rattle.expand_model.specs.Steps.{Sources, Depth, End, Ended, Next, Stop, Go, Kind, Plain, kind_of, kind_with, macro_called, takes_expression, is_equ, Reads, ReadsText, first_line, said, said_text, plain_line, with_flat, flat_of}
-use Rattle.expand_model.specs.Substitution.{substituted, substituted_from, put, takes_dollar}
+use Rattle.expand_model.specs.Steps.{Sources, Depth, Ended, Stop, Go, Plain, kind_of, kind_with, macro_called, Reads, first_line, said, with_flat, flat_of}
+use Rattle.expand_model.specs.Substitution.{substituted, substituted_from, takes_dollar}
 use Rattle.expand_model.specs.Words.{words_of, as_name}
 use Rattle.plain_source.specs.Plain.{IsPlain, ArePlain, flats_of, PlainSourcesExpand}
 
@@ -72,7 +68,7 @@ plain_says sources d s l ls ends m v c p =
     let some : (s.visits == 0) ≡ false = ne_eqb s.visits 0 (λ e. omega arith) in
     let fits : nat_lt line_bytes (length l.text) ≡ false = le-ltb line_bytes (length l.text) p.short in
     let low : nat_lt source_lines l.number ≡ false = le-ltb source_lines l.number c in
-    rw (some, low, fits, substituted_same s l.text p.no_dollar, m, plain_kind l.text p.no_word, p.end) refl
+    rw (some, low, substituted_same s l.text p.no_dollar, fits, m, plain_kind l.text p.no_word, p.end) refl
 
 -- ---- lines
 
