@@ -163,3 +163,48 @@ pub no_file : Row one_file 100
 unfolding structure_word variable_word best_of step finished value_of known_number operation_of skipped taken prototype_of standing kind_of said first_line turn
     substituted words_of raw_words_of token_width arguments
 no_file = row refl
+
+-- what the source t.s of these lines expands to, whatever stands behind them
+pub record RowBefore (sources : Sources) (visits : ℕ) (lines : List (List ℕ)) (o : Outcome) : Type 0 where
+  pub expands : (more : List ℕ) → Expands sources visits (codes "t.s") (text_of lines ++ more) o
+
+row_before : {sources : Sources} {visits : ℕ} {lines : List (List ℕ)} {o : Outcome}
+    → ((more : List ℕ) → outcome_by 300 sources visits (codes "t.s") (text_of lines ++ more) ≡ Some o) → RowBefore sources visits lines o
+row_before {sources} {visits} {lines} {o} e = record {
+  expands = λ more. outcome_sound 300 sources visits (codes "t.s") (text_of lines ++ more) o (e more);
+}
+
+-- a fault is told before all that is behind it, a line that is too long too
+pub before_all : RowBefore alone 100
+    (codes " NOP" ∷ codes " WEND" ∷ [] ∷ [])
+    (FaultAt (codes "t.s") 2 Nesting)
+unfolding structure_word variable_word best_of step finished value_of known_number operation_of skipped taken prototype_of standing kind_of said first_line turn
+    substituted words_of raw_words_of token_width arguments
+before_all = row_before (λ more. refl)
+
+-- what is behind END is neither read nor counted
+pub behind_end : RowBefore alone 100
+    (codes " NOP" ∷ codes " END" ∷ [] ∷ [])
+    (Flats (flat 1 (codes " NOP") ∷ flat 2 (codes " END") ∷ []))
+unfolding structure_word variable_word best_of step finished value_of known_number operation_of skipped taken prototype_of standing kind_of said first_line turn
+    substituted words_of raw_words_of token_width arguments
+behind_end = row_before (λ more. refl)
+
+-- nor in a file
+abbrev ended_file : List ℕ → Sources
+ended_file more n = if same n (codes "i.s") then Some (text_of (codes " END" ∷ [] ∷ []) ++ more) else None
+
+pub behind_file_end : (more : List ℕ) → Row (ended_file more) 100
+    (codes " GET i.s" ∷ codes " DCD 2" ∷ [])
+    (Flats (flat_there 1 (codes " END") ∷ flat 2 (codes " DCD 2") ∷ []))
+unfolding structure_word variable_word best_of step finished value_of known_number operation_of skipped taken prototype_of standing kind_of said first_line turn
+    substituted words_of raw_words_of token_width arguments
+behind_file_end more = row refl
+
+-- a line of more bytes than a line may have, where it is visited
+pub long_visited : Row alone 100
+    (codes " NOP" ∷ (59 ∷ replicate 65536 120) ∷ [])
+    (FaultAt (codes "t.s") 2 TooMany)
+unfolding structure_word variable_word best_of step finished value_of known_number operation_of skipped taken prototype_of standing kind_of said first_line turn
+    substituted words_of raw_words_of token_width arguments
+long_visited = row refl
