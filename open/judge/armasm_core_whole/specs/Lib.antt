@@ -1,0 +1,23 @@
+-- What the clauses of the crate cite.
+pub mod Assembling
+pub mod Passes
+pub mod Telling
+pub mod Standing
+pub mod Beginning
+pub mod Building
+pub mod Emission
+pub mod Emitted
+pub mod Entries
+pub mod Judging
+pub mod Gathering
+pub mod Listing
+pub mod Wherever
+pub mod Builders
+pub mod Relocations
+pub mod Writing
+pub mod Gathered
+pub mod Giving
+pub mod Loaded
+pub mod Pools
+pub mod Putting
+pub mod SourceTables
